@@ -1,0 +1,6 @@
+-- Counts of what went wrong outside, which never fall.
+use Rattle.std.specs.Prelude.{ℕ, ◌≡◌, ◌<◌, ◌⊎◌, ◌^◌, ◌-◌}
+
+-- A count rose. One that stands at its type's last value counts as risen.
+abbrev pub Rose : ℕ → ℕ → Type 0
+Rose before after = (before < after) ⊎ (after ≡ 2 ^ 64 - 1)
