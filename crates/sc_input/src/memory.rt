@@ -1,0 +1,118 @@
+//! A source in memory.
+#![tactic(auto)]
+
+ghost use Rattle.std.specs.Prelude.{◌≡◌, if◌then◌else◌, is_ok};
+ghost use Rattle.std.specs.Option.{option_copied};
+ghost use Rattle.sc_base.specs.Lists.{content_of};
+ghost use Rattle.sc_base.specs.Outside.{IsLaterSource};
+ghost use Rattle.sc_input.specs.Memory.{no_files, with_failing_call, with_file};
+
+use crate::source::{ReadAnswer, Source};
+use sc_value::{Name, Octets};
+use std::alloc::{AllocError, Global};
+use std::marker::Model;
+
+/// Files in memory, which are all shown to contracts.
+///
+/// Calls are counted from 1 over all reads, and those that [`MemSource::fail_at`] names fail before
+/// the files are looked at. Counts stand still at their type's last value.
+#[derive(Drop)]
+pub struct MemSource {
+    files: Vec<(Name, Octets)>,
+    failing: Vec<u64>,
+    calls: u64,
+    faults: u64,
+    misses: u64,
+}
+
+impl Model for MemSource {
+    ghost use Rattle.sc_input.specs.Memory.{HeldFiles};
+
+    ghost Value = { HeldFiles };
+
+    ghost view = { λ s. record {
+      files = s.files.items;
+      failing = s.failing.items;
+      calls = s.calls;
+      faults = s.faults;
+      misses = s.misses;
+    } };
+}
+
+impl Source for MemSource {
+    ghost use Rattle.sc_base.specs.Outside.{IsLaterSource};
+    ghost use Rattle.sc_input.specs.Memory.{ReadsHeldFiles, shown_files};
+    ghost use Rattle.sc_input.specs.Reading.{IsReadCause};
+
+    ghost state = { shown_files };
+
+    fn read(&mut self, name: &Name) -> ReadAnswer
+        ensures later { IsLaterSource (shown_files self.old) (shown_files self.new) }
+        ensures cause { IsReadCause (shown_files self.old) (shown_files self.new) name.now result }
+        ensures planned { ReadsHeldFiles self.old self.new name.now result }
+    {
+        let call = self.calls.saturating_add(1);
+        if self.failing.contains(&call) {
+            self.calls = call;
+            self.faults = self.faults.saturating_add(1);
+            return ReadAnswer::Failed;
+        }
+        match find(&self.files, name) {
+            None => {
+                self.calls = call;
+                self.misses = self.misses.saturating_add(1);
+                ReadAnswer::NoFile
+            }
+            Some(bytes) => match bytes.share() {
+                Ok(bytes) => {
+                    self.calls = call;
+                    ReadAnswer::Bytes(bytes)
+                }
+                Err(_) => ReadAnswer::OutOfMemory,
+            },
+        }
+    }
+}
+
+impl MemSource {
+    /// No files, and no calls that fail.
+    pub fn new(alloc: Global) -> Self
+        ensures { result ≡ no_files }
+    {
+        MemSource {
+            files: Vec::new(alloc),
+            failing: Vec::new(alloc),
+            calls: 0,
+            faults: 0,
+            misses: 0,
+        }
+    }
+
+    /// Adds a file. Of two files of one name the first that was added is read.
+    pub fn add(&mut self, name: Name, bytes: Octets) -> Result<(), AllocError>
+        ensures { self.new ≡ (if is_ok result then with_file self.old name bytes else self.old) }
+    {
+        self.files.push((name, bytes))?;
+        Ok(())
+    }
+
+    /// Makes the call of this number fail; the first call of all has the number 1.
+    pub fn fail_at(&mut self, call: u64) -> Result<(), AllocError>
+        ensures { self.new ≡ (if is_ok result then with_failing_call self.old call else self.old) }
+    {
+        self.failing.push(call)?;
+        Ok(())
+    }
+}
+
+/// The bytes of the first file of this name.
+fn find<'a>(files: &'a [(Name, Octets)], name: &Name) -> Option<&'a Octets>
+    ensures { option_copied result ≡ content_of files.now name.now }
+{
+    for file in files {
+        if file.0 == *name {
+            return Some(&file.1);
+        }
+    }
+    None
+}

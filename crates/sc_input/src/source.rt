@@ -1,0 +1,37 @@
+//! A source of files.
+#![tactic(auto)]
+
+ghost use Rattle.sc_base.specs.Outside.{SourceState, IsLaterSource};
+ghost use Rattle.sc_input.specs.Reading.{IsReadCause};
+
+use sc_value::{Name, Octets};
+
+/// What a read gives.
+#[derive(Debug, Drop)]
+pub enum ReadAnswer {
+    /// The bytes of the file.
+    Bytes(Octets),
+    /// There is no file of this name.
+    NoFile,
+    /// The file couldn't be read.
+    Failed,
+    /// Memory ran out; nothing changed, and nothing was counted.
+    OutOfMemory,
+}
+
+/// Where scripts and their inputs are read from.
+///
+/// A source may show its files to contracts, as [`MemSource`](crate::MemSource) does; one that
+/// reads from the system shows none, and then only its counts tell why a read gave no bytes.
+pub trait Source {
+    /// The files, where the source shows them, and how often reads failed or missed.
+    ghost state: { Self → SourceState };
+
+    /// Reads a file whole.
+    ///
+    /// `NoFile` and `Failed` come only where their count rose in this call, and where the files are
+    /// shown a name that is there gives its bytes.
+    fn read(&mut self, name: &Name) -> ReadAnswer
+        ensures later { IsLaterSource (state self.old) (state self.new) }
+        ensures cause { IsReadCause (state self.old) (state self.new) name.now result };
+}
