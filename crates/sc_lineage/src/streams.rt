@@ -1,0 +1,14 @@
+//! Streams.
+#![tactic(auto)]
+
+use sc_expr::Raise;
+use sc_value::Rows;
+
+/// The content of a partition: rows, and at their end a raise or none.
+#[derive(Drop)]
+pub struct Stream {
+    /// The rows before the raise.
+    pub rows: Rows,
+    /// What ended the rows, where something did.
+    pub raise: Option<Raise>,
+}
