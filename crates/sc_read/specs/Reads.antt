@@ -1,0 +1,33 @@
+-- What was read, in order.
+use Rattle.std.specs.Prelude.{ℕ, ◌≡◌, List, [], ◌∷◌, length, map, take, Option, Some, None, IfSome}
+use Rattle.sc_base.specs.Lists.{content_of}
+use Rattle.sc_base.specs.Outside.{Files}
+use Rattle.sc_lineage.specs.ScriptData.{ScriptData, input_names, name_of_input}
+use Rattle.sc_read.specs.declared.reads.Role.TheVariants as roles
+use Rattle.sc_read.specs.declared.reads.Read.{Read}
+
+-- these bytes, read as the script
+abbrev pub script_read : List ℕ → Read
+script_read bytes = record { role = roles.Script; bytes = bytes }
+
+-- an input, read
+abbrev pub input_read : List ℕ × List ℕ → Read
+input_read input = record { role = roles.Input input.0; bytes = input.1 }
+
+-- where a source shows its files, it has these bytes under the name
+abbrev pub IsShown : Option Files → List ℕ → List ℕ → Type 0
+IsShown shown name bytes = IfSome shown (λ files. content_of files name ≡ Some bytes)
+
+-- where a source shows its files, it has nothing under the name
+abbrev pub IsMissing : Option Files → List ℕ → Type 0
+IsMissing shown name = IfSome shown (λ files. content_of files name ≡ None)
+
+-- where a source shows its files, it has each of these inputs
+abbrev pub AreShown : Option Files → Files → Type 0
+AreShown shown [] = Unit {0}
+AreShown shown (input ∷ inputs) = IsShown shown input.0 input.1 × AreShown shown inputs
+
+-- these are the first inputs that a script names, as a source shows them
+pub record AreFirstInputs (script : ScriptData) (shown : Option Files) (inputs : Files) : Type 0 where
+  pub named : map name_of_input inputs ≡ take (length inputs) (input_names script)
+  pub are_shown : AreShown shown inputs

@@ -1,0 +1,22 @@
+//! What was read.
+#![tactic(auto)]
+
+use sc_value::{Name, Octets};
+
+/// What bytes were read as.
+#[derive(Drop)]
+pub enum Role {
+    /// The script.
+    Script,
+    /// The input of this name.
+    Input(Name),
+}
+
+/// Bytes that were read, and as what.
+#[derive(Drop)]
+pub struct Read {
+    /// What they were read as.
+    pub role: Role,
+    /// The bytes.
+    pub bytes: Octets,
+}
