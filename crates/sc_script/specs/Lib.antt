@@ -1,0 +1,12 @@
+pub mod Tokens
+pub mod TokenReading
+pub mod Trees
+pub mod FormReading
+pub mod Statements
+pub mod ShapeReading
+pub mod Shaping
+pub mod Lines
+pub mod Defining
+pub mod Scripts
+pub mod Views
+pub mod Parsing
