@@ -1,0 +1,4 @@
+pub mod ExactlyLemmas
+pub mod PrintLemmas
+pub mod RunLemmas
+pub mod TextLemmas

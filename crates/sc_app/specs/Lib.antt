@@ -1,0 +1,9 @@
+pub mod Words
+pub mod Works
+pub mod Printing
+pub mod Ends
+pub mod Good
+pub mod Exactly
+pub mod Statuses
+pub mod Scripts
+pub mod FaultTexts

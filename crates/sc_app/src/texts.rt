@@ -1,0 +1,85 @@
+//! Statuses in words.
+#![tactic(auto)]
+
+ghost use Rattle.std.specs.Prelude.{◌≡◌, IfOk};
+ghost use Rattle.std.specs.String.{string_bytes};
+ghost use Rattle.sc_app.specs.FaultTexts.{fault_text as text_of, kind_text, missing_text};
+
+use crate::ran::Status;
+use sc_script::{FaultKind, ScriptFault};
+use sc_value::Name;
+use std::alloc::{AllocError, Global};
+
+/// The text of a status, for the standard error. Done has the empty text.
+pub fn fault_text(alloc: Global, status: &Status) -> Result<String, AllocError>
+    ensures { IfOk result (λ t. string_bytes t ≡ text_of status.now) }
+{
+    match status {
+        Status::Done => Ok(String::new(alloc)),
+        Status::Usage => String::from_str(alloc, "usage"),
+        Status::Script(fault) => script_text(alloc, *fault),
+        Status::Input { name, missing } => input_text(alloc, name, *missing),
+        Status::TaskLimit {
+            stage,
+            stage_attempt,
+            partition,
+        } => limit_text(alloc, *stage, *stage_attempt, *partition),
+        Status::WriteFault => String::from_str(alloc, "write failed"),
+        Status::OutOfMemory => String::from_str(alloc, "out of memory"),
+        Status::NotText { name } => {
+            let name = name.as_str();
+            format!(in alloc; "not text: {name}")
+        }
+    }
+}
+
+/// The text of a script's fault.
+fn script_text(alloc: Global, fault: ScriptFault) -> Result<String, AllocError>
+    ensures { IfOk result (λ t. string_bytes t ≡ text_of (Status.Script fault)) }
+{
+    let line = fault.line;
+    let kind = name_of_kind(fault.kind);
+    format!(in alloc; "script: line {line}: {kind}")
+}
+
+/// The text of an input that is missing or couldn't be read.
+fn input_text(alloc: Global, name: &Name, missing: bool) -> Result<String, AllocError>
+    ensures { IfOk result (λ t. string_bytes t ≡ text_of (Status.Input name.now missing)) }
+{
+    let name = name.as_str();
+    let cause = cause_of_input(missing);
+    format!(in alloc; "input: {name}: {cause}")
+}
+
+/// The text of an action with no value.
+fn limit_text(
+    alloc: Global,
+    stage: usize,
+    attempt: u32,
+    partition: u32,
+) -> Result<String, AllocError>
+    ensures { IfOk result (λ t. string_bytes t ≡ text_of (Status.TaskLimit stage attempt partition)) }
+{
+    format!(in alloc; "task limit: stage {stage} attempt {attempt} partition {partition}")
+}
+
+/// The name of a kind of fault.
+fn name_of_kind(kind: FaultKind) -> &'static str
+    ensures { result.now ≡ kind_text kind }
+{
+    match kind {
+        FaultKind::NotText => "NotText",
+        FaultKind::Limit => "Limit",
+        FaultKind::Syntax => "Syntax",
+        FaultKind::UnknownName => "UnknownName",
+        FaultKind::Twice => "Twice",
+        FaultKind::IllTyped => "IllTyped",
+    }
+}
+
+/// How a name failed.
+fn cause_of_input(missing: bool) -> &'static str
+    ensures { result.now ≡ missing_text missing }
+{
+    if missing { "missing" } else { "failed" }
+}

@@ -1,0 +1,24 @@
+//! The words of the command line.
+#![tactic(auto)]
+
+ghost use Rattle.std.specs.Prelude.{◌≡◌, map};
+ghost use Rattle.std.specs.Option.{option_map};
+ghost use Rattle.std.specs.String.{string_bytes};
+ghost use Rattle.sc_app.specs.Words.{script_word};
+
+/// The name of the script, where the words are `run` and a name that isn't empty and doesn't begin
+/// with `-`.
+pub fn find_script(words: &[String]) -> Option<&str>
+    ensures { option_map (λ s. s.now) result ≡ script_word (map string_bytes words.now) }
+{
+    match words {
+        [verb, name] => {
+            if verb.as_str() == "run" && !name.is_empty() && !name.as_str().starts_with('-') {
+                Some(name.as_str())
+            } else {
+                None
+            }
+        }
+        _ => None,
+    }
+}
