@@ -3,7 +3,8 @@
 
 ghost use Rattle.std.specs.Prelude.{◌≡◌, ◌<◌, [], ◌∷◌, IfOk, None, length, slice_get};
 ghost use Rattle.sc_base.specs.Lists.{at_or};
-ghost use Rattle.sc_lineage.specs.Meaning.{node_streams, part_count, partition_stream, streams_read as read_by};
+ghost use Rattle.sc_lineage.specs.Meaning.{node_streams, part_count, partition_stream};
+ghost use Rattle.sc_lineage.specs.Meaning.{streams_read as read_by};
 ghost use Rattle.sc_lineage.specs.Streams.{ended_stream};
 ghost use Rattle.sc_eval.specs.Tables.{HoldsParents};
 

@@ -37,8 +37,8 @@ pub fn print_node(
     Ok(Evaluated::Prints(Octets::new(alloc, out)?))
 }
 
-/// Makes room for the lines of so many partitions, each about as long as this one, where there is no
-/// room for one of them. It is a guess: where memory is short of it, nothing is lost.
+/// Makes room for the lines of so many partitions, each guessed to take so many bytes, where there
+/// is no room for one of them. Where there is no memory for that, nothing is lost.
 fn make_room(out: &mut Vec<u8>, likely_len: usize, partitions: u32)
     ensures { out.new.items ≡ out.old.items }
 {

@@ -46,27 +46,27 @@ action_from-so : (name : List ℕ) (ts : List TokenData) (f : LineData) → acti
     → word_token name ∷ ts ≡ tokens_of_line f
 action_from-so name ts f e =
     option_map_some (λ (xs : List ArgData). action_line name (args_of xs)) (args_from ts) f e
-        (λ xs is line.
-            ap (λ us. word_token name ∷ us) (args_from-so ts xs is) ∙ ap tokens_of_line line)
+    (λ xs is line.
+    ap (λ us. word_token name ∷ us) (args_from-so ts xs is) ∙ ap tokens_of_line line)
 
 operation_from-so : (name operation : List ℕ) (ts : List TokenData) (f : LineData)
     → operation_from name operation ts ≡ Some f
     → word_token name ∷ equals ∷ word_token operation ∷ ts ≡ tokens_of_line f
 operation_from-so name operation ts f e =
     option_map_some (λ (xs : List ArgData). definition_line name operation (args_of xs))
-        (args_from ts) f e
-        (λ xs is line.
-            ap (λ us. word_token name ∷ equals ∷ word_token operation ∷ us) (args_from-so ts xs is)
-            ∙ ap tokens_of_line line)
+    (args_from ts) f e
+    (λ xs is line.
+    ap (λ us. word_token name ∷ equals ∷ word_token operation ∷ us) (args_from-so ts xs is)
+    ∙ ap tokens_of_line line)
 
 definition_from-so : (name : List ℕ) (ts : List TokenData) (f : LineData)
     → definition_from name ts ≡ Some f
     → word_token name ∷ equals ∷ ts ≡ tokens_of_line f
 definition_from-so name ts f e =
     option_and_then_some (λ (w : List ℕ). operation_from name w (drop 1 ts)) (first_word ts) f e
-        (λ w word behind.
-            ap (λ us. word_token name ∷ equals ∷ us) (first_word-so ts w word)
-            ∙ operation_from-so name w (drop 1 ts) f behind)
+    (λ w word behind.
+    ap (λ us. word_token name ∷ equals ∷ us) (first_word-so ts w word)
+    ∙ operation_from-so name w (drop 1 ts) f behind)
 
 behind_so : (name : List ℕ) (ts : List TokenData) (f : LineData) (b : Bool)
     → begins_with_equals ts ≡ b
@@ -104,7 +104,7 @@ no_equals (more_args a args) = no_equals-arg a (tokens_of_args args)
 pub form_from-again : (f : LineData) → form_from (tokens_of_line f) ≡ Some f
 form_from-again (definition_line name operation args) =
     ap (option_map (λ (xs : List ArgData). definition_line name operation (args_of xs)))
-        (args_from-again args)
+    (args_from-again args)
     ∙ ap (λ xs. Some (definition_line name operation xs)) (args_of-list args)
 form_from-again (action_line name args) =
     rw (no_equals args)

@@ -45,12 +45,12 @@ from_both-so f (Some x) (Some y) z e next = next x y refl refl e
 binary_from-so : {P : Type 0} (h : Option BinaryHead) (o p : Option RawExpr) (e : RawExpr)
     → binary_from h o p ≡ Some e
     → ((k : BinaryHead) (x y : RawExpr) → h ≡ Some k → o ≡ Some x → p ≡ Some y
-        → raw_binary k x y ≡ e → P) → P
+    → raw_binary k x y ≡ e → P) → P
 binary_from-so None o p e is next = cc
 binary_from-so (Some k) o p e is next =
     from_both-so (λ (x y : RawExpr). Some (raw_binary k x y)) o p e is
-        (λ x y first second whole.
-            next k x y refl first second (same_Some (raw_binary k x y) e whole))
+    (λ x y first second whole.
+    next k x y refl first second (same_Some (raw_binary k x y) e whole))
 
 -- what was read as an expression is written so
 raw_from-so : (a : ArgData) (e : RawExpr) → raw_from a ≡ Some e → a ≡ arg_of_raw e
@@ -61,13 +61,13 @@ raw_from-so (list_arg h no_args) e is = cc
 raw_from-so (list_arg h (more_args a no_args)) e is = cc
 raw_from-so (list_arg h (more_args a (more_args b no_args))) e is =
     binary_from-so (named_head h) (raw_from a) (raw_from b) e is
-        (λ k x y head first second whole.
-            ap (λ g. list_arg g (more_args a (more_args b no_args))) (named_head-so h k head)
-            ∙ ap (λ u. list_arg (spelled_head k) (more_args u (more_args b no_args)))
-                (raw_from-so a x first)
-            ∙ ap (λ u. list_arg (spelled_head k) (more_args (arg_of_raw x) (more_args u no_args)))
-                (raw_from-so b y second)
-            ∙ ap arg_of_raw whole)
+    (λ k x y head first second whole.
+    ap (λ g. list_arg g (more_args a (more_args b no_args))) (named_head-so h k head)
+    ∙ ap (λ u. list_arg (spelled_head k) (more_args u (more_args b no_args)))
+    (raw_from-so a x first)
+    ∙ ap (λ u. list_arg (spelled_head k) (more_args (arg_of_raw x) (more_args u no_args)))
+    (raw_from-so b y second)
+    ∙ ap arg_of_raw whole)
 raw_from-so (list_arg h (more_args a (more_args b (more_args c args)))) e is = cc
 
 -- an expression is read again
@@ -125,14 +125,14 @@ zero_found [] e = cc
 zero_found (zero ∷ cs) e = contains_first 0 0 cs refl
 zero_found (suc c ∷ cs) e =
     Contains-append_right (suc c ∷ []) cs 0
-        (zero_found cs (sym (not_zero c (list_any (λ d. d == 0) cs)) ∙ e))
+    (zero_found cs (sym (not_zero c (list_any (λ d. d == 0) cs)) ∙ e))
 
 zero_again : (t : List ℕ) → Contains t 0 → list_any (λ d. d == 0) t ≡ true
 zero_again [] h = absurd (contains_nil 0 h)
 zero_again (zero ∷ cs) h = refl
 zero_again (suc c ∷ cs) h =
     elim (contains_cases (suc c) 0 cs h) [
-      inl first ↦ absurd (omega arith)
+      | inl first ↦ absurd (omega arith)
       | inr later ↦ not_zero c (list_any (λ d. d == 0) cs) ∙ zero_again cs later
     ]
 
@@ -143,11 +143,13 @@ not_true false e = refl
 -- whether a text names an input
 is_input_name-so : (t : List ℕ) → is_input_name t ≡ true → (t ≢ []) × (Contains t 0 → ⊥)
 is_input_name-so [] e = cc
-is_input_name-so (c ∷ cs) e =
-    ((λ empty. cc), λ h.
-        let yes = zero_again (c ∷ cs) h in
-        let no = not_true (list_any (λ d. d == 0) (c ∷ cs)) e in
-        cc)
+is_input_name-so (c ∷ cs) e = (
+  (λ empty. cc),
+  λ h.
+      let yes = zero_again (c ∷ cs) h in
+      let no = not_true (list_any (λ d. d == 0) (c ∷ cs)) e in
+      cc,
+)
 
 named_by : (t : List ℕ) (b : Bool) → list_any (λ d. d == 0) t ≡ b → (Contains t 0 → ⊥)
     → not (list_any (λ d. d == 0) t) ≡ true
@@ -163,13 +165,13 @@ two_shape-so : {X Y P : Type 0} (f : ArgData → Option X) (g : ArgData → Opti
     (both : X → Y → Option StatementData) (args : ArgsData) (s : StatementData)
     → two_shape f g both args ≡ Some s
     → ((a b : ArgData) (x : X) (y : Y) → args ≡ more_args a (more_args b no_args)
-        → f a ≡ Some x → g b ≡ Some y → both x y ≡ Some s → P) → P
+    → f a ≡ Some x → g b ≡ Some y → both x y ≡ Some s → P) → P
 two_shape-so f g both args s e next =
     option_and_then_some (λ (x : ArgData × ArgData). from_both both (f x.0) (g x.1))
-        (two_args args) s e
-        (λ x two parts. from_both-so both (f x.0) (g x.1) s parts
-            (λ p q first second whole.
-                next x.0 x.1 p q (two_args-so args x two) first second whole))
+    (two_args args) s e
+    (λ x two parts. from_both-so both (f x.0) (g x.1) s parts
+    (λ p q first second whole.
+    next x.0 x.1 p q (two_args-so args x two) first second whole))
 
 two_are : (args : ArgsData) (a b c d : ArgData) → args ≡ more_args a (more_args b no_args)
     → a ≡ c → b ≡ d → args ≡ more_args c (more_args d no_args)
@@ -183,45 +185,45 @@ text_shape-so : (name : List ℕ) (args : ArgsData) (s : StatementData)
     → HasShape (definition_line name (codes "text") args) s
 text_shape-so name args s e =
     two_shape-so text_from int_from (input_statement name) args s e
-        (λ a b input count are text int whole.
-            let p = cond_some (is_input_name input) (text_statement name input count) s whole in
-            subst (HasShape (definition_line name (codes "text") args)) p.1 (record {
-              form =
-                  ap (definition_line name (codes "text"))
-                      (two_are args a b (text_arg input) (int_arg count) are
-                          (text_from-so a input text) (int_from-so b count int));
-              input = is_input_name-so input p.0;
-            }))
+    (λ a b input count are text int whole.
+    let p = cond_some (is_input_name input) (text_statement name input count) s whole in
+    subst (HasShape (definition_line name (codes "text") args)) p.1 (record {
+      form =
+          ap (definition_line name (codes "text"))
+          (two_are args a b (text_arg input) (int_arg count) are
+          (text_from-so a input text) (int_from-so b count int));
+      input = is_input_name-so input p.0;
+    }))
 
 map_shape-so : (name : List ℕ) (args : ArgsData) (s : StatementData) → map_shape name args ≡ Some s
     → HasShape (definition_line name (codes "map") args) s
 map_shape-so name args s e =
     two_shape-so word_from raw_from
-        (λ (parent : List ℕ) (r : RawExpr). Some (map_statement name parent r)) args s e
-        (λ a b parent r are word raw whole.
-            subst (HasShape (definition_line name (codes "map") args))
-                (same_Some (map_statement name parent r) s whole) (record {
-              form =
-                  ap (definition_line name (codes "map"))
-                      (two_are args a b (word_arg parent) (arg_of_raw r) are
-                          (word_from-so a parent word) (raw_from-so b r raw));
-              input = tt;
-            }))
+    (λ (parent : List ℕ) (r : RawExpr). Some (map_statement name parent r)) args s e
+    (λ a b parent r are word raw whole.
+    subst (HasShape (definition_line name (codes "map") args))
+    (same_Some (map_statement name parent r) s whole) (record {
+      form =
+          ap (definition_line name (codes "map"))
+          (two_are args a b (word_arg parent) (arg_of_raw r) are
+          (word_from-so a parent word) (raw_from-so b r raw));
+      input = tt;
+    }))
 
 collect_shape-so : (args : ArgsData) (s : StatementData) → collect_shape args ≡ Some s
     → HasShape (action_line (codes "collect") args) s
 collect_shape-so args s e =
     option_and_then_some
-        (λ (a : ArgData). option_map (λ (node : List ℕ). collect_statement node) (word_from a))
-        (one_arg args) s e
-        (λ a one first. option_map_some (λ (node : List ℕ). collect_statement node) (word_from a) s first
-            (λ node word whole. subst (HasShape (action_line (codes "collect") args)) whole (record {
-              form =
-                  ap (action_line (codes "collect")) (one_arg-so args a one)
-                  ∙ ap (λ b. action_line (codes "collect") (more_args b no_args))
-                      (word_from-so a node word);
-              input = tt;
-            })))
+    (λ (a : ArgData). option_map (λ (node : List ℕ). collect_statement node) (word_from a))
+    (one_arg args) s e
+    (λ a one first. option_map_some (λ (node : List ℕ). collect_statement node) (word_from a) s first
+    (λ node word whole. subst (HasShape (action_line (codes "collect") args)) whole (record {
+      form =
+          ap (action_line (codes "collect")) (one_arg-so args a one)
+          ∙ ap (λ b. action_line (codes "collect") (more_args b no_args))
+          (word_from-so a node word);
+      input = tt;
+    })))
 
 definition_shape-so : (o : Operation) (name : List ℕ) (args : ArgsData) (s : StatementData)
     → definition_shape o name args ≡ Some s
@@ -237,22 +239,22 @@ action_shape-so does.Collect args s e = collect_shape-so args s e
 shape_from-so : (f : LineData) (s : StatementData) → shape_from f ≡ Some s → HasShape f s
 shape_from-so (definition_line name operation args) s e =
     option_and_then_some (λ (o : Operation). definition_shape o name args)
-        (named_operation operation) s e
-        (λ o named shape. subst (λ (w : List ℕ). HasShape (definition_line name w args) s)
-            (sym (named_operation-so operation o named)) (definition_shape-so o name args s shape))
+    (named_operation operation) s e
+    (λ o named shape. subst (λ (w : List ℕ). HasShape (definition_line name w args) s)
+    (sym (named_operation-so operation o named)) (definition_shape-so o name args s shape))
 shape_from-so (action_line action args) s e =
     option_and_then_some (λ (a : ActionName). action_shape a args) (named_action action) s e
-        (λ a named shape. subst (λ (w : List ℕ). HasShape (action_line w args) s)
-            (sym (named_action-so action a named)) (action_shape-so a args s shape))
+    (λ a named shape. subst (λ (w : List ℕ). HasShape (action_line w args) s)
+    (sym (named_action-so action a named)) (action_shape-so a args s shape))
 
 -- the line of a statement is read again
 line_read_again : (s : StatementData) → NamesInput s → shape_from (line_of_statement s) ≡ Some s
 line_read_again (text_statement name input count) names =
     ap (λ b. if b then Some (text_statement name input count) else None)
-        (is_input_name-again input names)
+    (is_input_name-again input names)
 line_read_again (map_statement name parent r) names =
     ap (from_both (λ (w : List ℕ) (x : RawExpr). Some (map_statement name w x)) (Some parent))
-        (raw_from-again r)
+    (raw_from-again r)
 line_read_again (collect_statement node) names = refl
 
 shape_from-again : (f : LineData) (s : StatementData) → HasShape f s → shape_from f ≡ Some s

@@ -28,7 +28,7 @@ pub contains_cases : {X : Type 0} (x y : X) (xs : List X) → Contains (x ∷ xs
     → (x ≡ y) ⊎ Contains xs y
 contains_cases x y xs h =
     elim (Contains-append_cases (x ∷ []) xs y h) [
-      inl first ↦ inl (contains_one x y first)
+      | inl first ↦ inl (contains_one x y first)
       | inr later ↦ inr later
     ]
 
@@ -59,8 +59,8 @@ module _ {T K : Type 0} (same : K → K → Bool) (spelled : T → K)
   missing_at t ts k true test e later h = cc
   missing_at t ts k false test e later h =
       elim (contains_cases (spelled t) k (map spelled ts) h) [
-        inl here ↦
-          (let yes : same k (spelled t) ≡ true = ap (λ j. same k j) here ∙ whole k in cc)
+        | inl here ↦
+            (let yes : same k (spelled t) ≡ true = ap (λ j. same k j) here ∙ whole k in cc)
         | inr there ↦ later e there
       ]
 
@@ -160,13 +160,13 @@ mutual
   heads_known-again (word_arg w) k = refl
   heads_known-again (list_arg h args) k =
       and_true (is_found (named_head h)) (all_heads_known args)
-          ((head_known h).1 k.0) (all_heads_known-again args k.1)
+      ((head_known h).1 k.0) (all_heads_known-again args k.1)
 
   all_heads_known-again : (args : ArgsData) → KnowsAllHeads args → all_heads_known args ≡ true
   all_heads_known-again no_args k = refl
   all_heads_known-again (more_args a args) k =
       and_true (heads_known a) (all_heads_known args)
-          (heads_known-again a k.0) (all_heads_known-again args k.1)
+      (heads_known-again a k.0) (all_heads_known-again args k.1)
 
 -- words that pass the test are known
 pub words_known-so : (f : LineData) → words_known f ≡ true → KnowsWords f
@@ -180,10 +180,10 @@ words_known-so (action_line action args) e =
 words_known-again : (f : LineData) → KnowsWords f → words_known f ≡ true
 words_known-again (definition_line name operation args) k =
     and_true (is_found (named_operation operation)) (all_heads_known args)
-        ((operation_known operation).1 k.0) (all_heads_known-again args k.1)
+    ((operation_known operation).1 k.0) (all_heads_known-again args k.1)
 words_known-again (action_line action args) k =
     and_true (is_found (named_action action)) (all_heads_known args)
-        ((action_known action).1 k.0) (all_heads_known-again args k.1)
+    ((action_known action).1 k.0) (all_heads_known-again args k.1)
 
 -- words that fail the test aren't known
 pub unknown_word : (f : LineData) → words_known f ≡ false → KnowsWords f → ⊥

@@ -32,7 +32,7 @@ skips_blanks (c ∷ cs) utf8 = go (is_blank c) refl (skips_blanks cs)
         let n = position_or_len (λ d. not (is_blank d)) cs in
         let rest = later (utf8_behind_blank c cs blank utf8) in
         let place : suc n ≡ cond (not (not (is_blank c))) (1 + n) 0 =
-            sym (one-add n) ∙ sym (ap (λ b. cond (not (not b)) (1 + n) 0) blank) in
+        sym (one-add n) ∙ sym (ap (λ b. cond (not (not b)) (1 + n) 0) blank) in
         subst (SkipsBlanks (c ∷ cs)) place (record {
           within = omega (arith, rest.within);
           is = rest.is ∙ sym (cond-true (is_blank c) (without_blanks cs) (c ∷ cs) blank);

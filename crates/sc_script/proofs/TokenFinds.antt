@@ -61,5 +61,5 @@ pub piece_refused : (error : LineError) (line front back : List ℕ) → piece_o
     → Finds {X = Token × Bor (List ℕ)} front_of IsShortFront (Err error) (piece_at line)
 piece_refused (line_errors.Fault kind) line front back is behind fault =
     subst (IsFaultOf IsShortFront kind) (sym (piece_at-cut line front back is behind))
-        (fault_with_rest kind back (token_of_piece front back) fault)
+    (fault_with_rest kind back (token_of_piece front back) fault)
 piece_refused line_errors.OutOfMemory line front back is behind fault = tt

@@ -40,7 +40,7 @@ token_at-piece (c ∷ cs) after token is ends e =
     let first = list_all-cons (λ d. not (is_token_end d)) c cs parts.1 in
     token_at-cons c (cs ++ after) (not-true (is_token_end c) first.0) (not-true (eqb c 34) parts.0)
     ∙ piece_at-read ((c ∷ cs) ++ after) (c ∷ cs) after token
-        (piece_of-append (c ∷ cs) after parts.1 ends) (after_piece-append (c ∷ cs) after parts.1 ends) e
+    (piece_of-append (c ∷ cs) after parts.1 ends) (after_piece-append (c ∷ cs) after parts.1 ends) e
 
 -- words and numbers are pieces
 start_no_quote : (c : ℕ) → is_word_start c ≡ true → not (eqb c 34) ≡ true
@@ -54,7 +54,7 @@ word_piece [] word = word
 word_piece (c ∷ cs) word =
     let parts = and_parts (is_word_start c) (list_all is_word_byte cs) word in
     let all : list_all is_word_byte (c ∷ cs) ≡ true =
-        and_from (is_word_byte c) (list_all is_word_byte cs) (start_is_byte c parts.0) parts.1 in
+    and_from (is_word_byte c) (list_all is_word_byte cs) (start_is_byte c parts.0) parts.1 in
     and_from (not (eqb c 34)) (has_no_end (c ∷ cs)) (start_no_quote c parts.0) (word_has_no_end (c ∷ cs) all)
 
 piece_from_number : (spelling : List ℕ) → is_number spelling ≡ true → is_piece spelling ≡ true
@@ -97,11 +97,11 @@ token_at_begun line (int_token n) after b =
     let piece = number_piece b.spelling number.is in
     ap token_at b.is
     ∙ token_at-piece b.spelling after (int_token n) (piece_from_number b.spelling number.is) b.stands
-        (piece_is_number b.spelling after piece.no_word number.is ∙ ap (λ v. Some (int_token v)) number.value)
+    (piece_is_number b.spelling after piece.no_word number.is ∙ ap (λ v. Some (int_token v)) number.value)
 token_at_begun line (text_token t) after b =
     let inner = b.spells.0 in
     let whole : line ≡ 34 ∷ (inner ++ 34 ∷ after) =
-        b.is ∙ ap (λ s. s ++ after) b.spells.1 ∙ ap (λ xs. 34 ∷ xs) (append_assoc inner (34 ∷ []) after) in
+    b.is ∙ ap (λ s. s ++ after) b.spells.1 ∙ ap (λ xs. 34 ∷ xs) (append_assoc inner (34 ∷ []) after) in
     ap token_at whole ∙ read_text (inner ++ 34 ∷ after) t after (text_at_spelled inner t after b.spells.2) b.stands
 token_at_begun line (word_token w) after b =
     let word = word_passes w b.spells.1 in
@@ -111,7 +111,7 @@ token_at_begun line (sign_token s) after b =
     let sign = sign_piece s b.spells.1 in
     ap token_at (b.is ∙ ap (λ x. x ++ after) b.spells.0)
     ∙ token_at-piece s after (sign_token s) sign.piece b.stands
-        (piece_is_sign s after sign.no_word sign.no_number ((Decides-is_sign s).1 b.spells.1))
+    (piece_is_sign s after sign.no_word sign.no_number ((Decides-is_sign s).1 b.spells.1))
 
 -- what is read the line begins with
 as_begun : (line : List ℕ) (t u : TokenData) (a b : List ℕ) → ◌≡◌ {A = Option (TokenData × List ℕ)} (Some (t, a)) (Some (u, b))
@@ -128,9 +128,9 @@ begun_by_text c cs token after quote (Some read) is e =
     let kept = cond_some (ends_token read.1) (text_token read.0, read.1) (token, after) e in
     let text = text_spelled false cs read.0 read.1 is in
     let whole : c ∷ cs ≡ (34 ∷ (text.inner ++ 34 ∷ [])) ++ read.1 =
-        ap (λ d. d ∷ cs) (eqb-true c 34 quote) ∙ ap (λ xs. 34 ∷ xs) (text.is ∙ sym (append_assoc text.inner (34 ∷ []) read.1)) in
+    ap (λ d. d ∷ cs) (eqb-true c 34 quote) ∙ ap (λ xs. 34 ∷ xs) (text.is ∙ sym (append_assoc text.inner (34 ∷ []) read.1)) in
     as_begun (c ∷ cs) (text_token read.0) token read.1 after (ap Some kept.1)
-        (record { spelling = 34 ∷ (text.inner ++ 34 ∷ []); is = whole; spells = (text.inner, refl, text.spells); stands = kept.0 })
+    (record { spelling = 34 ∷ (text.inner ++ 34 ∷ []); is = whole; spells = (text.inner, refl, text.spells); stands = kept.0 })
 
 begun_by_piece : (line : List ℕ) (token : TokenData) (after : List ℕ) → piece_at line ≡ Some (token, after)
     → BeginsWith line token after
@@ -143,14 +143,14 @@ begun_by_piece line token after e = go (token_of_piece (piece_of line) (after_pi
     go (Some t) is e =
         let piece = piece_spells (piece_of line) (after_piece line) t (after_piece_ends line) is in
         as_begun line t token (after_piece line) after e
-            (record { spelling = piece_of line; is = pieces line; spells = piece.spells; stands = piece.stands })
+        (record { spelling = piece_of line; is = pieces line; spells = piece.spells; stands = piece.stands })
 
 begun_by_byte : (c d : ℕ) (cs : List ℕ) (t token : TokenData) (after : List ℕ) → eqb c d ≡ true
     → SpellsToken (d ∷ []) t → StandsBefore t cs
     → ◌≡◌ {A = Option (TokenData × List ℕ)} (Some (t, cs)) (Some (token, after)) → BeginsWith (c ∷ cs) token after
 begun_by_byte c d cs t token after is spells stands e =
     as_begun (c ∷ cs) t token cs after e
-        (record { spelling = d ∷ []; is = ap (λ b. b ∷ cs) (eqb-true c d is); spells = spells; stands = stands })
+    (record { spelling = d ∷ []; is = ap (λ b. b ∷ cs) (eqb-true c d is); spells = spells; stands = stands })
 
 -- what was read at the front is this token, with these bytes after it
 abbrev IsRead : TokenData → List ℕ → Option (TokenData × List ℕ) → Type 0
@@ -166,11 +166,13 @@ begun_by_read (c ∷ cs) token after e = at_opening (chosen (eqb c 40) (Some (op
         ⊎ ((eqb c 34 ≡ false) × IsRead token after (piece_at (c ∷ cs))) → BeginsWith (c ∷ cs) token after
     at_quote (inl p) = begun_by_text c cs token after p.0 (text_at false cs) refl p.1
     at_quote (inr p) = begun_by_piece (c ∷ cs) token after p.1
+
     at_closing : ((eqb c 41 ≡ true) × IsRead token after (Some (closing, cs)))
         ⊎ ((eqb c 41 ≡ false) × IsRead token after (cond (eqb c 34) (text_token_of (text_at false cs)) (piece_at (c ∷ cs))))
         → BeginsWith (c ∷ cs) token after
     at_closing (inl p) = begun_by_byte c 41 cs closing token after p.0 refl tt p.1
     at_closing (inr p) = at_quote (chosen (eqb c 34) (text_token_of (text_at false cs)) _ (Some (token, after)) p.1)
+
     at_opening : ((eqb c 40 ≡ true) × IsRead token after (Some (opening, cs)))
         ⊎ ((eqb c 40 ≡ false) × IsRead token after
         (cond (eqb c 41) (Some (closing, cs)) (cond (eqb c 34) (text_token_of (text_at false cs)) (piece_at (c ∷ cs)))))
@@ -192,7 +194,7 @@ piece_at-blank c cs blank =
     let piece : piece_of (c ∷ cs) ≡ [] = cond-true (is_token_end c) _ _ (or_left (is_blank c) _ blank) in
     let behind : List ℕ = after_piece (c ∷ cs) in
     ap (option_map {U = TokenData × List ℕ} (λ t. (t, behind)))
-        (ap (λ p. token_of_piece p behind) piece ∙ token_of_nothing behind)
+    (ap (λ p. token_of_piece p behind) piece ∙ token_of_nothing behind)
 
 pub token_at-blank : (c : ℕ) (cs : List ℕ) → is_blank c ≡ true → token_at (c ∷ cs) ≡ None
 unfolding token_at

@@ -58,14 +58,18 @@ tokens_within (suc n) (c ∷ cs) short = at_byte (is_blank c) refl (tokens_withi
     at_front : is_blank c ≡ false → (read : Option (TokenData × List ℕ)) → token_at (c ∷ cs) ≡ read
         → ((line : List ℕ) → length line < n → (ts : List TokenData) × (rest : List ℕ) × HasTokens line ts rest)
         → (ts : List TokenData) × (rest : List ℕ) × HasTokens (c ∷ cs) ts rest
-    at_front not_blank None is later =
-        ([], c ∷ cs, at_no_token c cs not_blank
-            (λ token after begins. none-some (token, after) (sym is ∙ token_at_begun (c ∷ cs) token after begins)))
+    at_front not_blank None is later = (
+      [],
+      c ∷ cs,
+      at_no_token c cs not_blank
+          (λ token after begins. none-some (token, after) (sym is ∙ token_at_begun (c ∷ cs) token after begins)),
+    )
     at_front not_blank (Some read) is later =
         let begins = begun_by_read (c ∷ cs) read.0 read.1 is in
         let shorter = BeginsWith-shorter (c ∷ cs) read.0 read.1 begins in
         let more = later read.1 (omega arith) in
         (read.0 ∷ more.0, more.1, behind_token (c ∷ cs) read.1 more.1 read.0 more.0 begins more.2)
+
     at_byte : (b : Bool) → is_blank c ≡ b → (ts : List TokenData) × (rest : List ℕ) × HasTokens cs ts rest
         → (read : Option (TokenData × List ℕ)) → token_at (c ∷ cs) ≡ read
         → ((line : List ℕ) → length line < n → (ts : List TokenData) × (rest : List ℕ) × HasTokens line ts rest)
@@ -92,7 +96,7 @@ pub are_short : (tokens : List TokenData) → AreShort tokens ⊎ (AreShort toke
 are_short [] = inl tt
 are_short (t ∷ ts) =
     elim (is_short t) [
-      inr long ↦ inr (λ short. long short.0)
+      | inr long ↦ inr (λ short. long short.0)
       | inl one ↦ elim (are_short ts) [ inl more ↦ inl (one, more) | inr long ↦ inr (λ short. long short.1) ]
     ]
 
@@ -100,11 +104,11 @@ are_short (t ∷ ts) =
 pub within_limits : (line : List ℕ) (ts : List TokenData) → IsWithinLimits line ts ⊎ (IsWithinLimits line ts → ⊥)
 within_limits line ts =
     elim (cases_lt 4096 (length line)) [
-      inl long ↦ inr (λ within. omega (arith, within.bytes))
+      | inl long ↦ inr (λ within. omega (arith, within.bytes))
       | inr bytes ↦ elim (cases_lt 32 (depth_of 0 ts)) [
-        inl deep ↦ inr (λ within. omega (arith, within.nested))
+        | inl deep ↦ inr (λ within. omega (arith, within.nested))
         | inr nested ↦ elim (are_short ts) [
-          inr long ↦ inr (λ within. long within.short)
+          | inr long ↦ inr (λ within. long within.short)
           | inl short ↦ inl (record { bytes = bytes; nested = nested; short = short })
         ]
       ]

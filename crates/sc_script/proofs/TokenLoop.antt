@@ -23,7 +23,7 @@ has_behind_blanks (c ∷ cs) rest tokens has = go (is_blank c) refl (has_behind_
         → HasTokens (c ∷ cs) tokens rest
     go true blank later =
         behind_blank c cs rest tokens blank
-            (later (subst (λ b. HasTokens (cond b (without_blanks cs) (c ∷ cs)) tokens rest) blank has))
+        (later (subst (λ b. HasTokens (cond b (without_blanks cs) (c ∷ cs)) tokens rest) blank has))
     go false plain later = subst (λ b. HasTokens (cond b (without_blanks cs) (c ∷ cs)) tokens rest) plain has
 
 no_blank_left : (line : List ℕ) → begins_with_blank (without_blanks line) ≡ false
@@ -93,8 +93,8 @@ pub read_token : (line : List ℕ) (tokens : List TokenData) (inside : ℕ) (lef
 read_token line tokens inside left token after next deeper before read short deeper_is within next_is = record {
   has = λ more rest has.
       subst (λ ts. HasTokens line ts rest) (sym (append_assoc tokens (token ∷ []) more))
-          (before.has (token ∷ more) rest (behind_token left after rest token more (begun_by_read left token after read)
-              (has_behind_blanks after rest more (subst (λ l. HasTokens l more rest) next_is has))));
+      (before.has (token ∷ more) rest (behind_token left after rest token more (begun_by_read left token after read)
+      (has_behind_blanks after rest more (subst (λ l. HasTokens l more rest) next_is has))));
   reaches = λ more.
       (let cons = depth_of-cons inside token more in
       let whole = ap (depth_of 0) (append_assoc tokens (token ∷ []) more) in
@@ -117,11 +117,14 @@ pub read_all : (line : List ℕ) (tokens : List TokenData) (inside : ℕ) (left 
     → left ≡ [] → HasTokens line tokens [] × IsWithinLimits line tokens
 read_all line tokens inside left before is =
     let P : List TokenData → Type 0 = λ ts. HasTokens line ts [] × IsWithinLimits line ts in
-    subst P (append-nil tokens) (before.has [] [] (subst (λ l. HasTokens l [] []) (sym is) at_end), record {
-      bytes = before.bytes;
-      nested = before.nested [] before.shallow;
-      short = AreShort-append tokens [] before.short tt;
-    })
+    subst P (append-nil tokens) (
+      before.has [] [] (subst (λ l. HasTokens l [] []) (sym is) at_end),
+      record {
+        bytes = before.bytes;
+        nested = before.nested [] before.shallow;
+        short = AreShort-append tokens [] before.short tt;
+      },
+    )
 
 -- a line with a token next keeps the limits only where its tokens do, that one among them
 kept_tokens : (line : List ℕ) (tokens : List TokenData) (inside : ℕ) (left : List ℕ) (token : TokenData) (after : List ℕ)
@@ -130,7 +133,7 @@ kept_tokens : (line : List ℕ) (tokens : List TokenData) (inside : ℕ) (left :
 kept_tokens line tokens inside left token after before read kept =
     let later = tokens_exist after in
     let has = before.has (token ∷ later.0) later.1
-        (behind_token left after later.1 token later.0 (begun_by_read left token after read) later.2) in
+    (behind_token left after later.1 token later.0 (begun_by_read left token after read) later.2) in
     (later.0, subst (IsWithinLimits line) (HasTokens-unique kept.has has).0 kept.within)
 
 pub too_long : (line : List ℕ) → 4096 < length line → IsKept line → ⊥
@@ -159,7 +162,7 @@ no_token line tokens inside (c ∷ cs) before some none = record {
   rest = c ∷ cs;
   has = subst (λ ts. HasTokens line ts (c ∷ cs)) (append-nil tokens)
       (before.has [] (c ∷ cs) (at_no_token c cs before.starts
-          (λ token after begins. none-some (token, after) (sym none ∙ token_at_begun (c ∷ cs) token after begins))));
+      (λ token after begins. none-some (token, after) (sym none ∙ token_at_begun (c ∷ cs) token after begins))));
   within = subst (IsWithinLimits line) (append-nil tokens) (record {
     bytes = before.bytes;
     nested = before.nested [] before.shallow;

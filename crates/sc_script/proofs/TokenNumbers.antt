@@ -68,7 +68,7 @@ number_spells (c ∷ cs) is = go (eqb c 45) refl
         let digits : is_digits cs ≡ true = rw e at is in
         let minus : c ≡ 45 = eqb-true c 45 e in
         subst (λ (d : ℕ). SpellsInt (d ∷ cs) (signed_digits_value 10 (d ∷ cs))) (sym minus)
-            (inr (cs, refl, numeral_from_digits cs digits, refl))
+        (inr (cs, refl, numeral_from_digits cs digits, refl))
     go false e =
         let digits : is_digits (c ∷ cs) ≡ true = rw e at is in
         let first = list_all-cons is_ascii_digit c cs digits in
@@ -106,7 +106,7 @@ pub spelled_number : (spelling : List ℕ) (n : ℤ) → SpellsInt spelling n �
 spelled_number spelling n (inl plain) = plain_number spelling n (digits_from_numeral spelling plain.0) plain.1
 spelled_number spelling n (inr negative) =
     subst (λ s. IsReadNumber s n) (sym negative.1)
-        (record { is = digits_from_numeral negative.0 negative.2; value = sym negative.3 })
+    (record { is = digits_from_numeral negative.0 negative.2; value = sym negative.3 })
 
 -- a number is a piece that begins with no quote, and no word
 pub record IsNumberPiece (spelling : List ℕ) : Type 0 where

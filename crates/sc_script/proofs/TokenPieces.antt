@@ -88,9 +88,10 @@ length_piece line =
 pub cut_piece : (line bytes front back : List ℕ) (n : ℕ) → bytes ≡ line → n ≡ position_or_len is_token_end bytes
     → front ≡ take n line → back ≡ drop n line → (piece_of line ≡ front) × (after_piece line ≡ back)
 cut_piece line bytes front back n is place front_is back_is =
-    let same : length (piece_of line) ≡ n = length_piece line ∙ sym (place ∙ ap (position_or_len is_token_end) is) in
-    (sym (take-piece line) ∙ ap (λ m. take m line) same ∙ sym front_is,
-    sym (drop-piece line) ∙ ap (λ m. drop m line) same ∙ sym back_is)
+    let same : length (piece_of line) ≡ n = length_piece line ∙ sym (place ∙ ap (position_or_len is_token_end) is) in (
+      sym (take-piece line) ∙ ap (λ m. take m line) same ∙ sym front_is,
+      sym (drop-piece line) ∙ ap (λ m. drop m line) same ∙ sym back_is,
+    )
 
 pub token_end_is_ascii : (c : ℕ) → is_token_end c ≡ true → c < 128
 token_end_is_ascii c is = grind (arith, nat_tests)

@@ -55,11 +55,11 @@ splits_at_mark (c ∷ cs) = go (is_mark c) refl (splits_at_mark cs)
         → SplitsAtMark (c ∷ cs) (cond (not (is_mark c)) (1 + position_or_len is_mark cs) 0)
     go true mark later =
         subst (SplitsAtMark (c ∷ cs)) (sym (ap (λ b. cond (not b) (1 + position_or_len is_mark cs) 0) mark))
-            (at_mark (c ∷ cs) mark)
+        (at_mark (c ∷ cs) mark)
     go false mark later =
         subst (SplitsAtMark (c ∷ cs))
-            (sym (one-add (position_or_len is_mark cs)) ∙ sym (ap (λ b. cond (not b) (1 + position_or_len is_mark cs) 0) mark))
-            (past_plain c cs (position_or_len is_mark cs) mark later)
+        (sym (one-add (position_or_len is_mark cs)) ∙ sym (ap (λ b. cond (not b) (1 + position_or_len is_mark cs) 0) mark))
+        (past_plain c cs (position_or_len is_mark cs) mark later)
 
 -- what a quote or a backslash begins, as it is read
 pub record EndsText (bytes : List ℕ) : Type 0 where
@@ -123,15 +123,17 @@ read_plain : (line text left plain now marked : List ℕ) (n : ℕ) → n ≡ po
     → plain ≡ take n left → marked ≡ drop n left → now ≡ text ++ plain → IsReadText line text left
     → IsReadText line now marked × IsMarked marked
 read_plain line text left plain now marked n is plain_is marked_is now_is before =
-    let split = subst (SplitsAtMark left) (sym is) (splits_at_mark left) in
-    (record {
-      read =
-          ap (λ t. with_front t (text_at false marked)) (now_is ∙ ap (λ p. text ++ p) plain_is)
-          ∙ ap (λ m. with_front (text ++ take n left) (text_at false m)) marked_is
-          ∙ sym (with_front-append text (take n left) (text_at false (drop n left)))
-          ∙ ap (with_front text) (sym split.reads)
-          ∙ before.read;
-    }, subst IsMarked (sym marked_is) split.marked)
+    let split = subst (SplitsAtMark left) (sym is) (splits_at_mark left) in (
+      record {
+        read =
+            ap (λ t. with_front t (text_at false marked)) (now_is ∙ ap (λ p. text ++ p) plain_is)
+            ∙ ap (λ m. with_front (text ++ take n left) (text_at false m)) marked_is
+            ∙ sym (with_front-append text (take n left) (text_at false (drop n left)))
+            ∙ ap (with_front text) (sym split.reads)
+            ∙ before.read;
+      },
+      subst IsMarked (sym marked_is) split.marked,
+    )
 
 -- and what stands there
 pub record IsFound (line now marked : List ℕ) (found : Option Mark) : Type 0 where
@@ -159,7 +161,7 @@ boundary_at_first test ascii bytes n is = go (cases_lt n (length bytes))
     go : (n < length bytes) ⊎ (length bytes ≤ n) → IsCharBoundary bytes n
     go (inl within) =
         let at_first : test (get_or bytes n 0) ≡ true =
-            ap (λ i. test (get_or bytes i 0)) is ∙ passes_at_first test bytes 0 (omega (arith, is)) in
+        ap (λ i. test (get_or bytes i 0)) is ∙ passes_at_first test bytes 0 (omega (arith, is)) in
         IsCharBoundary-before_ascii bytes n within (ascii (get_or bytes n 0) at_first)
     go (inr past) =
         let whole : length bytes ≡ n = omega (arith, is, prefix_len-le-length (λ c. not (test c)) bytes) in

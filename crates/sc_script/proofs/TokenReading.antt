@@ -71,28 +71,31 @@ piece_spells spelling after token ends e = at_word (chosen (is_word spelling) (S
         ⊎ ((is_equals spelling after ≡ false) × (None ≡ Some token)) → IsPieceToken spelling after token
     at_equals (inl p) = as_token spelling after equals token p.1 (equals_spelled spelling after p.0)
     at_equals (inr p) = absurd (none-some token p.1)
+
     at_sign : ((is_sign spelling ≡ true) × (Some (sign_token spelling) ≡ Some token))
         ⊎ ((is_sign spelling ≡ false) × (cond (is_equals spelling after) (Some equals) None ≡ Some token))
         → IsPieceToken spelling after token
     at_sign (inl p) =
         as_token spelling after (sign_token spelling) token p.1
-            (record { spells = (refl, (Decides-is_sign spelling).0 p.0); stands = ends })
+        (record { spells = (refl, (Decides-is_sign spelling).0 p.0); stands = ends })
     at_sign (inr p) = at_equals (chosen (is_equals spelling after) (Some equals) None (Some token) p.1)
+
     at_number : ((is_number spelling ≡ true) × (Some (int_token (signed_digits_value 10 spelling)) ≡ Some token))
         ⊎ ((is_number spelling ≡ false)
         × (cond (is_sign spelling) (Some (sign_token spelling)) (cond (is_equals spelling after) (Some equals) None) ≡ Some token))
         → IsPieceToken spelling after token
     at_number (inl p) =
         as_token spelling after (int_token (signed_digits_value 10 spelling)) token p.1
-            (record { spells = number_spells spelling p.0; stands = ends })
+        (record { spells = number_spells spelling p.0; stands = ends })
     at_number (inr p) = at_sign (chosen (is_sign spelling) (Some (sign_token spelling)) _ (Some token) p.1)
+
     at_word : ((is_word spelling ≡ true) × (Some (word_token spelling) ≡ Some token))
         ⊎ ((is_word spelling ≡ false)
         × (cond (is_number spelling) (Some (int_token (signed_digits_value 10 spelling)))
-            (cond (is_sign spelling) (Some (sign_token spelling)) (cond (is_equals spelling after) (Some equals) None)) ≡ Some token))
+        (cond (is_sign spelling) (Some (sign_token spelling)) (cond (is_equals spelling after) (Some equals) None)) ≡ Some token))
         → IsPieceToken spelling after token
     at_word (inl p) =
         as_token spelling after (word_token spelling) token p.1
-            (record { spells = (refl, word_spelled spelling p.0); stands = ends })
+        (record { spells = (refl, word_spelled spelling p.0); stands = ends })
     at_word (inr p) =
         at_number (chosen (is_number spelling) (Some (int_token (signed_digits_value 10 spelling))) _ (Some token) p.1)

@@ -15,8 +15,8 @@ use Rattle.sc_script.specs.TokenReading.{is_sign, is_word, is_number}
 pub Decides-is_sign : (spelling : List ℕ) → Decides (is_sign spelling) (Contains signs spelling)
 Decides-is_sign spelling =
     Decides-contains signs spelling (is_sign spelling)
-        (Decides-by_or (bytes_eq spelling) (λ s. s ≡ spelling) (list_any (bytes_eq spelling))
-            (λ s. Decides-like (bytes_eq spelling s) sym sym (bytes_decides spelling s)) refl (λ _ _. refl) signs)
+    (Decides-by_or (bytes_eq spelling) (λ s. s ≡ spelling) (list_any (bytes_eq spelling))
+    (λ s. Decides-like (bytes_eq spelling s) sym sym (bytes_decides spelling s)) refl (λ _ _. refl) signs)
 
 -- bytes that begin with no quote and end no token
 abbrev pub is_piece : List ℕ → Bool
@@ -51,5 +51,5 @@ sign_neither spelling is =
 pub sign_piece : (spelling : List ℕ) → Contains signs spelling → IsSignPiece spelling
 sign_piece spelling listed =
     sign_neither spelling
-        (All-contains (λ s. is_neither s ≡ true) signs spelling
-            (AllPass-from_list_all is_neither signs all_neither) listed)
+    (All-contains (λ s. is_neither s ≡ true) signs spelling
+    (AllPass-from_list_all is_neither signs all_neither) listed)

@@ -72,18 +72,19 @@ text_spelled false (c ∷ cs) text after e =
     behind : (text_at true cs ≡ Some (text, after) → IsText (92 ∷ cs) text after)
         → ((t a : List ℕ) → text_at false cs ≡ Some (t, a) → IsText cs t a) → eqb c 34 ≡ false
         → ((eqb c 92 ≡ true) × (text_at true cs ≡ Some (text, after)))
-            ⊎ ((eqb c 92 ≡ false) × (with_front (c ∷ []) (text_at false cs) ≡ Some (text, after)))
+        ⊎ ((eqb c 92 ≡ false) × (with_front (c ∷ []) (text_at false cs) ≡ Some (text, after)))
         → IsText (c ∷ cs) text after
     behind by_backslash by_rest quote (inl p) =
         subst (λ (d : ℕ). IsText (d ∷ cs) text after) (sym (eqb-true c 92 p.0)) (by_backslash p.1)
     behind by_backslash by_rest quote (inr p) =
         let read = with_front_some (c ∷ []) (text_at false cs) text after p.1 in
         at_plain c cs text after quote p.0 read.0 read.2 (by_rest read.0 after read.1)
+
     go : (text_at true cs ≡ Some (text, after) → IsText (92 ∷ cs) text after)
         → ((t a : List ℕ) → text_at false cs ≡ Some (t, a) → IsText cs t a)
         → ((eqb c 34 ≡ true) × (◌≡◌ {A = Option (List ℕ × List ℕ)} (Some ([], cs)) (Some (text, after))))
-            ⊎ ((eqb c 34 ≡ false)
-            × (cond (eqb c 92) (text_at true cs) (with_front (c ∷ []) (text_at false cs)) ≡ Some (text, after)))
+        ⊎ ((eqb c 34 ≡ false)
+        × (cond (eqb c 92) (text_at true cs) (with_front (c ∷ []) (text_at false cs)) ≡ Some (text, after)))
         → IsText (c ∷ cs) text after
     go by_backslash by_rest (inl p) = at_quote c cs text after p.0 p.1
     go by_backslash by_rest (inr p) =

@@ -64,7 +64,7 @@ arg_adds os args a t e = rw (tokens_of_args-push args a, e) (simp (append-nil, a
 -- the end of a list
 closing_adds : (os : List OpenData) (before args : List ArgData) (h : HeadData)
     → AddsToken (reading_args (opened h before ∷ os) args) closing
-        (reading_args os (before ++ list_arg h (args_of args) ∷ []))
+    (reading_args os (before ++ list_arg h (args_of args) ∷ []))
 closing_adds os before args h =
     rw (tokens_of_args-push before (list_arg h (args_of args))) (simp (append-nil, append_assoc))
 
@@ -121,9 +121,9 @@ tokens_read-so r s [] e =
     sym (append-nil (tokens_so_far r) ∙ ap tokens_so_far (same_Some r s e))
 tokens_read-so r s (t ∷ ts) e =
     option_and_then_some (λ (m : ReadingData). tokens_read m ts) (token_read r t) s e
-        (λ m is rest. tokens_read-so m s ts rest
-            ∙ ap (λ us. us ++ ts) (token_read-so r.open_lists r.args r.awaits_head t m is)
-            ∙ append_assoc (tokens_so_far r) (t ∷ []) ts)
+    (λ m is rest. tokens_read-so m s ts rest
+    ∙ ap (λ us. us ++ ts) (token_read-so r.open_lists r.args r.awaits_head t m is)
+    ∙ append_assoc (tokens_so_far r) (t ∷ []) ts)
 
 -- the tokens of the arguments at the end
 at_end_so : (os : List OpenData) (args all : List ArgData) (awaits : Bool)
@@ -141,9 +141,9 @@ pub args_from-so : (ts : List TokenData) (args : List ArgData) → args_from ts 
     → ts ≡ tokens_of_args (args_of args)
 args_from-so ts args e =
     option_and_then_some args_at_end (tokens_read nothing_read ts) args e
-        (λ s is end.
-            sym (tokens_read-so nothing_read s ts is)
-            ∙ at_end_so s.open_lists s.args args s.awaits_head end)
+    (λ s is end.
+    sym (tokens_read-so nothing_read s ts is)
+    ∙ at_end_so s.open_lists s.args args s.awaits_head end)
 
 -- arguments as a list
 abbrev pub list_of_args : ArgsData → List ArgData
@@ -170,10 +170,10 @@ mutual
   arg_read_again (list_arg h args) os before rest =
       head_read_again h os before ((tokens_of_args args ++ closing ∷ []) ++ rest)
       ∙ ap (tokens_read (reading_args (opened h before ∷ os) []))
-          (append_assoc (tokens_of_args args) (closing ∷ []) rest)
+      (append_assoc (tokens_of_args args) (closing ∷ []) rest)
       ∙ args_read_again args (opened h before ∷ os) [] (closing ∷ rest)
       ∙ ap (λ xs. tokens_read (reading_args os (before ++ list_arg h xs ∷ [])) rest)
-          (args_of-list args)
+      (args_of-list args)
 
   args_read_again : (args : ArgsData) (os : List OpenData) (before : List ArgData)
       (rest : List TokenData)
@@ -183,11 +183,11 @@ mutual
       ap (λ xs. tokens_read (reading_args os xs) rest) (sym (append-nil before))
   args_read_again (more_args a args) os before rest =
       ap (tokens_read (reading_args os before))
-          (append_assoc (tokens_of_arg a) (tokens_of_args args) rest)
+      (append_assoc (tokens_of_arg a) (tokens_of_args args) rest)
       ∙ arg_read_again a os before (tokens_of_args args ++ rest)
       ∙ args_read_again args os (before ++ a ∷ []) rest
       ∙ ap (λ xs. tokens_read (reading_args os xs) rest)
-          (append_assoc before (a ∷ []) (list_of_args args))
+      (append_assoc before (a ∷ []) (list_of_args args))
 
 -- the tokens of arguments are read as those arguments
 pub args_from-again : (args : ArgsData) → args_from (tokens_of_args args) ≡ Some (list_of_args args)

@@ -29,10 +29,10 @@ nothing_read = record { open_lists = []; args = []; awaits_head = false }
 -- one argument more
 abbrev pub with_arg : ReadingData → ArgData → ReadingData
 with_arg r a = record {
-    open_lists = r.open_lists;
-    args = r.args ++ a ∷ [];
-    awaits_head = r.awaits_head
-  }
+  open_lists = r.open_lists;
+  args = r.args ++ a ∷ [];
+  awaits_head = r.awaits_head;
+}
 
 -- a parenthesis more, whose head comes next
 abbrev pub with_parenthesis : ReadingData → ReadingData

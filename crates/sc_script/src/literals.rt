@@ -86,7 +86,10 @@ pub fn int_of(piece: &str) -> Result<i64, LineError>
 fn plain_len(bytes: &[u8]) -> usize
     ensures { result ≡ position_or_len is_mark bytes.now }
 {
-    bytes.iter().position(|b| *b == b'"' || *b == b'\\').unwrap_or(bytes.len())
+    bytes
+        .iter()
+        .position(|b| *b == b'"' || *b == b'\\')
+        .unwrap_or(bytes.len())
 }
 
 /// What a backslash and this byte stand for.

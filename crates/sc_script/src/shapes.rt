@@ -258,10 +258,7 @@ fn shape_of(alloc: Global, form: &Form) -> Result<Statement, LineError>
 ///
 /// `UnknownName` where the operation, the action or a head isn't known; else `Syntax` where the
 /// arguments don't have the shape that the operation or the action asks for.
-#[tactic(auto, using(
-    crate::proofs::TableLemmas::unknown_word,
-    crate::proofs::ShapeLemmas::statement_from_reading
-))]
+#[tactic(auto, using(crate::proofs::TableLemmas::unknown_word, crate::proofs::ShapeLemmas::statement_from_reading))]
 pub fn statement_of(alloc: Global, form: &Form) -> Result<Statement, LineError>
     ensures { IsStatementOf (form_data_of form.now) result }
 {

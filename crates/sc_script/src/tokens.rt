@@ -72,14 +72,18 @@ fn ends_equals(after: &[u8]) -> bool
 fn piece_len(line: &[u8]) -> usize
     ensures { result ≡ position_or_len is_token_end line.now }
 {
-    line.iter().position(|b| is_token_end(*b)).unwrap_or(line.len())
+    line.iter()
+        .position(|b| is_token_end(*b))
+        .unwrap_or(line.len())
 }
 
 /// How many blanks a line begins with.
 fn blanks_len(line: &[u8]) -> usize
     ensures { result ≡ position_or_len (λ c. not (is_blank c)) line.now }
 {
-    line.iter().position(|b| !is_blank(*b)).unwrap_or(line.len())
+    line.iter()
+        .position(|b| !is_blank(*b))
+        .unwrap_or(line.len())
 }
 
 /// A line without the blanks before it.

@@ -10,4 +10,4 @@ returns c =
     let bytes = c.args.bytes.now in
     c.unwrap_or.ensures
     ∙ position_or_length is_mark bytes c.position.result
-        (position_from_yields_List is_mark _ _ c.position.result c.position.ensures.ran (YieldsList-from_slice bytes cc) (λ x b q k. search (rules, tests)))
+    (position_from_yields_List is_mark _ _ c.position.result c.position.ensures.ran (YieldsList-from_slice bytes cc) (λ x b q k. search (rules, tests)))
