@@ -25,13 +25,15 @@ pub record PrintsMeaning (reads : List Read) (before after : Outside) : Type 0 w
   pub prints : PrintsAll work before.sink after.sink
 
 -- the words name no script, and nothing was touched
-pub record EndsForUsage (words : List (List ℕ)) (reads : List Read) (before after : Outside) : Type 0 where
+pub record EndsForUsage (words : List (List ℕ)) (reads : List Read) (before after : Outside)
+    : Type 0 where
   pub no_word : script_word words ≡ None
   pub nothing_read : reads ≡ []
   pub untouched : after ≡ before
 
 -- the bytes read as the script have this fault
-pub record EndsForScript (reads : List Read) (before after : Outside) (fault : ScriptFault) : Type 0 where
+pub record EndsForScript (reads : List Read) (before after : Outside) (fault : ScriptFault)
+    : Type 0 where
   pub bytes : List ℕ
   pub is : reads ≡ script_read bytes ∷ []
   pub faults : FaultsScript bytes fault
@@ -56,7 +58,8 @@ pub record EndsForText (reads : List Read) (before after : Outside) (name : List
   pub nothing_written : NothingWritten before after
 
 -- all was read, and an action has no text, since a partition raises
-pub record EndsForRaise (reads : List Read) (before after : Outside) (k attempt partition : ℕ) : Type 0 where
+pub record EndsForRaise (reads : List Read) (before after : Outside) (k attempt partition : ℕ)
+    : Type 0 where
   pub work : WorkData
   pub read : HasReadWork reads work
   pub first_attempt : attempt ≡ 0
@@ -72,7 +75,8 @@ pub record EndsForWrite (reads : List Read) (before after : Outside) : Type 0 wh
 abbrev pub EndsForMemory : List Read → Outside → Outside → Type 0
 EndsForMemory reads before after =
     NothingWritten before after
-    ⊎ ((work : WorkData) × HasReadWork reads work × (k : ℕ) × HasPrinted work before.sink after.sink k)
+    ⊎ ((work : WorkData) × HasReadWork reads work
+    × (k : ℕ) × HasPrinted work before.sink after.sink k)
 
 -- the cause of a status, and what stands
 abbrev pub Ends : List (List ℕ) → List Read → Outside → Outside → Status → Type 0
@@ -89,9 +93,11 @@ Ends words reads before after (statuses.NotText name) = EndsForText reads before
 
 -- what was read under a script's word
 abbrev pub AreReadsUnder : List ℕ → Option Files → List Read → Type 0
-AreReadsUnder word shown reads = (words : List (List ℕ)) → script_word words ≡ Some word → AreReads words shown reads
+AreReadsUnder word shown reads =
+    (words : List (List ℕ)) → script_word words ≡ Some word → AreReads words shown reads
 
 -- how a run of the script of this word ends
 abbrev pub StopsRun : List ℕ → List Read → Outside → Outside → Status → Type 0
 StopsRun word reads before after status =
-    (words : List (List ℕ)) → script_word words ≡ Some word → (status ≢ statuses.Usage) × Ends words reads before after status
+    (words : List (List ℕ)) → script_word words ≡ Some word
+    → (status ≢ statuses.Usage) × Ends words reads before after status

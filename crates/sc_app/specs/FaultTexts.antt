@@ -24,11 +24,12 @@ missing_text false = codes "failed"
 abbrev pub fault_text : Status → List ℕ
 fault_text Done = []
 fault_text Usage = codes "usage"
-fault_text (Script fault) = codes "script: line " ++ decimal fault.line ++ codes ": " ++ kind_text fault.kind
+fault_text (Script fault) =
+    codes "script: line " ++ decimal fault.line ++ codes ": " ++ kind_text fault.kind
 fault_text (Input name missing) = codes "input: " ++ name ++ codes ": " ++ missing_text missing
 fault_text (TaskLimit k attempt partition) =
-    codes "task limit: stage " ++ decimal k ++ codes " attempt " ++ decimal attempt ++ codes " partition "
-    ++ decimal partition
+    codes "task limit: stage " ++ decimal k ++ codes " attempt " ++ decimal attempt
+    ++ codes " partition " ++ decimal partition
 fault_text WriteFault = codes "write failed"
 fault_text OutOfMemory = codes "out of memory"
 fault_text (NotText name) = codes "not text: " ++ name

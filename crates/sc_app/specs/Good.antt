@@ -13,7 +13,8 @@ use Rattle.sc_app.specs.Words.{script_word}
 
 -- the words name a script, nothing failed or was missing outside, and what was read is a script and
 -- texts
-pub record IsGood (words : List (List ℕ)) (reads : List Read) (before after : Outside) : Type 0 where
+pub record IsGood (words : List (List ℕ)) (reads : List Read) (before after : Outside)
+    : Type 0 where
   pub word : script_word words ≢ None
   pub no_fault : Rose before.source.faults after.source.faults → ⊥
   pub no_miss : Rose before.source.misses after.source.misses → ⊥
@@ -23,7 +24,7 @@ pub record IsGood (words : List (List ℕ)) (reads : List Read) (before after : 
   pub texts : (bytes : List ℕ) (inputs : Files) → reads ≡ script_read bytes ∷ map input_read inputs
       → AreTexts inputs
 
--- such a run is done, or memory ran out, or an action has no value (its cause is that of the status)
+-- such a run is done, or memory ran out, or an action has no value, which its status tells
 abbrev pub EndsWell : Status → Type 0
 EndsWell statuses.Done = Unit {0}
 EndsWell statuses.Usage = ⊥

@@ -23,7 +23,8 @@ pub record PrintsAll (work : WorkData) (before after : SinkState) : Type 0 where
   pub printed : HasPrinted work before after (length work.script.actions)
 
 -- an action has no text, since this partition raises; the texts before it stand
-pub record StopsAtRaise (work : WorkData) (before after : SinkState) (k partition : ℕ) : Type 0 where
+pub record StopsAtRaise (work : WorkData) (before after : SinkState) (k partition : ℕ)
+    : Type 0 where
   pub action : Action
   pub is_action : slice_get work.script.actions k ≡ Some action
   pub raises : action_outcome work action ≡ never partition
@@ -36,7 +37,8 @@ pub record StopsAtWrite (work : WorkData) (before after : SinkState) : Type 0 wh
   pub is_action : slice_get work.script.actions k ≡ Some action
   pub rose : Rose before.faults after.faults
   pub n : ℕ
-  pub printed : after.shown ≡ with_bytes before.shown (printed_by work k ++ take n (action_text work action))
+  pub printed : after.shown
+      ≡ with_bytes before.shown (printed_by work k ++ take n (action_text work action))
 
 -- an action has a text, and the sink shows it behind what it showed before
 pub record PrintsOne (work : WorkData) (action : Action) (before after : SinkState) : Type 0 where
@@ -47,7 +49,8 @@ pub record PrintsOne (work : WorkData) (action : Action) (before after : SinkSta
 abbrev pub StopsInText : List ℕ → SinkState → SinkState → PrintStop → Type 0
 StopsInText text before after (Never k partition) = ⊥
 StopsInText text before after WriteFault =
-    Rose before.faults after.faults × ((n : ℕ) × (after.shown ≡ with_bytes before.shown (take n text)))
+    Rose before.faults after.faults
+    × ((n : ℕ) × (after.shown ≡ with_bytes before.shown (take n text)))
 StopsInText text before after OutOfMemory = after.shown ≡ before.shown
 
 -- why the action of this number wasn't printed

@@ -11,12 +11,14 @@ use Rattle.sc_app.specs.declared.ran.Status.TheVariants as statuses
 
 -- only these bytes were read, as the script, and the source has them under the word where it shows
 -- its files
-pub record HasReadBytes (shown : Option Files) (word : List ℕ) (reads : List Read) (bytes : List ℕ) : Type 0 where
+pub record HasReadBytes (shown : Option Files) (word : List ℕ) (reads : List Read) (bytes : List ℕ)
+    : Type 0 where
   pub is : reads ≡ script_read bytes ∷ []
   pub is_shown : IsShown shown word bytes
 
 -- the script was read, and nothing else
-pub record HasReadScript (shown : Option Files) (word : List ℕ) (reads : List Read) (script : ScriptData) : Type 0 where
+pub record HasReadScript (shown : Option Files) (word : List ℕ) (reads : List Read)
+    (script : ScriptData) : Type 0 where
   pub bytes : List ℕ
   pub read : HasReadBytes shown word reads bytes
   pub is_script : ReadsScript bytes script

@@ -18,9 +18,10 @@ pub record HasReadWork (reads : List Read) (work : WorkData) : Type 0 where
   pub read : HasRead reads work.script work.inputs
   pub sound : IsSoundWork work
 
--- the script was read under its word, and behind it the first inputs that it names; where the source
--- shows its files, these are their bytes
-pub record ReadsInOrder (words : List (List ℕ)) (shown : Option Files) (reads : List Read) : Type 0 where
+-- the script was read under its word, and behind it the first inputs that it names; where the
+-- source shows its files, these are their bytes
+pub record ReadsInOrder (words : List (List ℕ)) (shown : Option Files) (reads : List Read)
+    : Type 0 where
   pub word : List ℕ
   pub bytes : List ℕ
   pub inputs : Files

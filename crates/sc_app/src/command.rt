@@ -24,15 +24,15 @@ use std::alloc::Global;
 ///
 /// What is promised, of which the clauses below say what today's language has of it:
 ///
-/// > For every script, inputs, fault plan, clock and interleaving of executor threads, `run` answering
-/// > 0 means that the sink got exactly the text of the script's sequential meaning and each saved
-/// > directory holds exactly that meaning's part files and `_SUCCESS`, each part renamed from one
-/// > attempt authorised alone; an abort is answered only where the returned history shows its limit,
-/// > loss, script fault or device fault.
+/// > For every script, inputs, fault plan, clock and interleaving of executor threads, `run`
+/// > answering 0 means that the sink got exactly the text of the script's sequential meaning and
+/// > each saved directory holds exactly that meaning's part files and `_SUCCESS`, each part renamed
+/// > from one attempt authorised alone; an abort is answered only where the returned history shows
+/// > its limit, loss, script fault or device fault.
 ///
-/// Today one thread evaluates the actions, there is no fault plan and no clock, and nothing is saved.
-/// `read` of the answer is the script and then its inputs, as they were read, which shows a script's
-/// fault.
+/// Today one thread evaluates the actions, there is no fault plan and no clock, and nothing is
+/// saved. `read` of the answer is the script and then its inputs, as they were read, which shows a
+/// script's fault.
 pub fn run<R, S: Source, K: Sink>(
     _rt: &R,
     alloc: Global,
@@ -89,7 +89,8 @@ fn run_words<S: Source, K: Sink>(
 ) -> Status
     requires { read.old.items ≡ [] }
     ensures later { IsLaterSource (S.state source.old) (S.state source.new) }
-    ensures reads { AreReads (map string_bytes words.now) (S.state source.old).shown read.new.items }
+    ensures reads { AreReads (map string_bytes words.now) (S.state source.old).shown
+        read.new.items }
     ensures ends { Ends (map string_bytes words.now) read.new.items
         (outside_of (S.state source.old) (K.state sink.old))
         (outside_of (S.state source.new) (K.state sink.new)) result }

@@ -34,7 +34,8 @@ impl From<AllocError> for PrintStop {
     }
 }
 
-/// Writes the texts of a work's actions to the sink, in order, each by one write where it isn't empty.
+/// Writes the texts of a work's actions to the sink, in order, each by one write where it isn't
+/// empty.
 ///
 /// # Errors
 ///

@@ -58,7 +58,8 @@ fn limit_text(
     attempt: u32,
     partition: u32,
 ) -> Result<String, AllocError>
-    ensures { IfOk result (λ t. string_bytes t ≡ text_of (Status.TaskLimit stage attempt partition)) }
+    ensures { IfOk result (λ t. string_bytes t
+        ≡ text_of (Status.TaskLimit stage attempt partition)) }
 {
     format!(in alloc; "task limit: stage {stage} attempt {attempt} partition {partition}")
 }

@@ -34,4 +34,5 @@ IsOfType env (binary_expr h e f) t =
 -- an expression has at most one type
 abbrev pub TypesAreUnique : Type 0
 TypesAreUnique =
-    (env : TypeEnvData) (e : ExprData) (s t : TypeData) → IsOfType env e s → IsOfType env e t → s ≡ t
+    (env : TypeEnvData) (e : ExprData) (s t : TypeData)
+    → IsOfType env e s → IsOfType env e t → s ≡ t

@@ -2,7 +2,8 @@
 //!
 //! An [`Expr`] is a literal, a variable, or a head with its arguments. [`type_of`] finds its type,
 //! [`eval`] its value or its [`Raise`], both by the table of heads that `specs/Typing.antt` and
-//! `specs/Meaning.antt` hold: a further head is one more variant, and one more line in each of them.
+//! `specs/Meaning.antt` hold: a further head is one more variant, and one more line in each of
+//! them.
 //! The meaning is over plain data, and gives every expression an outcome, also one with no type.
 //!
 //! Expressions that only put texts together are written over a column of texts at once, by

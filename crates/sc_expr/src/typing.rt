@@ -68,8 +68,10 @@ pub fn type_of(alloc: Global, expr: &Expr, env: TypeEnv<'_>) -> Result<Ty, TypeE
 
 /// The type of a variable.
 fn variable_type(alloc: Global, env: TypeEnv<'_>, variable: Variable) -> Result<Ty, TypeError>
-    ensures typed { IfOk result (λ t. kind_of (type_env_data_of env.entry) variable ≡ Some (type_data_of t)) }
-    ensures ill_typed { result ≡ Err TypeError.IllTyped → kind_of (type_env_data_of env.entry) variable ≡ None }
+    ensures typed { IfOk result
+        (λ t. kind_of (type_env_data_of env.entry) variable ≡ Some (type_data_of t)) }
+    ensures ill_typed { result ≡ Err TypeError.IllTyped
+        → kind_of (type_env_data_of env.entry) variable ≡ None }
 {
     match (env, variable) {
         (TypeEnv::One(x), Variable::X) => Ok(x.copy(alloc)?),
@@ -82,9 +84,11 @@ fn variable_type(alloc: Global, env: TypeEnv<'_>, variable: Variable) -> Result<
 /// The type that a head gives at two types.
 fn result_type(head: BinaryHead, first: &Ty, second: &Ty) -> Result<Ty, TypeError>
     ensures typed { IfOk result
-        (λ t. TakesAndGives head (type_data_of first.now) (type_data_of second.now) (type_data_of t)) }
+        (λ t. TakesAndGives head (type_data_of first.now) (type_data_of second.now)
+        (type_data_of t)) }
     ensures ill_typed { result ≡ Err TypeError.IllTyped
-        → (t : TypeData) → ¬ (TakesAndGives head (type_data_of first.now) (type_data_of second.now) t) }
+        → (t : TypeData)
+        → ¬ (TakesAndGives head (type_data_of first.now) (type_data_of second.now) t) }
 {
     match (head, first, second) {
         (BinaryHead::Concat, Ty::Text, Ty::Text) => Ok(Ty::Text),

@@ -3,8 +3,8 @@
 //! A [`Script`] is a list of [`Node`]s, each of which reads only nodes before it, and of
 //! [`Action`]s. A [`Work`] is a script with the inputs that it names; by its type each of them is
 //! there and is text. `specs/Meaning.antt` gives the sequential meaning: the [`Stream`] of each
-//! partition by one fold over the list of nodes, and the text of each action. What runs a script, by
-//! whatever threads and attempts, is held to that. A further kind of node is one more variant, one
+//! partition by one fold over the list of nodes, and the text of each action. What runs a script,
+//! by whatever threads and attempts, is held to that. A further kind of node is one more variant, one
 //! more case of the definitions, and one more law beside them.
 //!
 //! After Zaharia et al., "Resilient Distributed Datasets" (NSDI 2012), section 2.

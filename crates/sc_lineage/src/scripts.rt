@@ -29,9 +29,15 @@ impl Model for Script {
 
     ghost coded = { script_code };
 
-    ghost view = { λ s. record { nodes = map node_data_of s.nodes.items; actions = s.actions.items } };
+    ghost view = { λ s. record {
+      nodes = map node_data_of s.nodes.items;
+      actions = s.actions.items;
+    } };
 
-    ghost invariant = { λ s. IsSoundScript (record { nodes = map node_data_of s.nodes.items; actions = s.actions.items }) };
+    ghost invariant = { λ s. IsSoundScript (record {
+      nodes = map node_data_of s.nodes.items;
+      actions = s.actions.items;
+    }) };
 }
 
 impl Script {

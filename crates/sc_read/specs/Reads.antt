@@ -28,6 +28,7 @@ AreShown shown [] = Unit {0}
 AreShown shown (input ∷ inputs) = IsShown shown input.0 input.1 × AreShown shown inputs
 
 -- these are the first inputs that a script names, as a source shows them
-pub record AreFirstInputs (script : ScriptData) (shown : Option Files) (inputs : Files) : Type 0 where
+pub record AreFirstInputs (script : ScriptData) (shown : Option Files) (inputs : Files)
+    : Type 0 where
   pub named : map name_of_input inputs ≡ take (length inputs) (input_names script)
   pub are_shown : AreShown shown inputs

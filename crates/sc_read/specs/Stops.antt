@@ -15,7 +15,8 @@ IsUnreadable before after name true = Rose before.misses after.misses × IsMissi
 IsUnreadable before after name false = Rose before.faults after.faults
 
 -- why one input of this name wasn't taken
-abbrev pub StopsAtInput : SourceState → SourceState → List Read → List Read → List ℕ → ReadStop → Type 0
+abbrev pub StopsAtInput :
+    SourceState → SourceState → List Read → List Read → List ℕ → ReadStop → Type 0
 StopsAtInput before after reads reads' name (Input n missing) =
     (n ≡ name) × (reads' ≡ reads) × IsUnreadable before after name missing
 StopsAtInput before after reads reads' name (NotText n) =
@@ -24,13 +25,15 @@ StopsAtInput before after reads reads' name (NotText n) =
 StopsAtInput before after reads reads' name OutOfMemory = reads' ≡ reads
 
 -- inputs that were read before the next one, of this name
-pub record ReadsUpTo (script : ScriptData) (shown : Option Files) (inputs : Files) (name : List ℕ) : Type 0 where
+pub record ReadsUpTo (script : ScriptData) (shown : Option Files) (inputs : Files)
+    (name : List ℕ) : Type 0 where
   pub first : AreFirstInputs script shown inputs
   pub texts : AreTexts inputs
   pub next : slice_get (input_names script) (length inputs) ≡ Some name
 
 -- why the inputs of a script weren't all taken
-abbrev pub StopsReading : ScriptData → SourceState → SourceState → List Read → List Read → ReadStop → Type 0
+abbrev pub StopsReading :
+    ScriptData → SourceState → SourceState → List Read → List Read → ReadStop → Type 0
 StopsReading script before after reads reads' (Input name missing) =
     (inputs : Files) × ReadsUpTo script before.shown inputs name
     × (reads' ≡ reads ++ map input_read inputs) × IsUnreadable before after name missing

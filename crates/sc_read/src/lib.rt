@@ -1,8 +1,8 @@
 //! Reading: a script's inputs from a source, with a record of what was read.
 //!
-//! [`read_file`] reads one name, and says why it gave no bytes. [`read_work`] reads the inputs that a
-//! checked script names, each once and in the order in which the script names them first, tests each
-//! for UTF-8, and puts script and inputs together as a `Work`. Whatever ends it, the list of
+//! [`read_file`] reads one name, and says why it gave no bytes. [`read_work`] reads the inputs that
+//! a checked script names, in the order in which the script names them first, tests each for UTF-8,
+//! and puts script and inputs together as a `Work`, in which each of them stands once. Whatever ends it, the list of
 //! [`Read`]s holds exactly what was taken so far.
 #![tactic(auto)]
 

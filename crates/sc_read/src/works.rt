@@ -15,8 +15,8 @@ use sc_input::Source;
 use sc_lineage::{Script, Work};
 use std::alloc::Global;
 
-/// A script with its inputs, each of which is read once, in the order in which the script names them
-/// first. What was read is kept behind what was kept before.
+/// A script with its inputs, in the order in which the script names them first, each of them kept
+/// once. What was read is kept behind what was kept before.
 ///
 /// # Errors
 ///

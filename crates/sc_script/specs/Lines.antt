@@ -71,7 +71,8 @@ pub data ItemData : Type 0 where
 -- a count of partitions is from 1 to the limit, and there is room for one more definition or action
 abbrev pub KeepsCounts : SoFar → StatementData → Type 0
 KeepsCounts so_far (text_statement name input count) =
-    (pos 1 ≤ℤ count) × (count ≤ℤ pos (partition_limit so_far.script)) × (length so_far.script.nodes < 256)
+    (pos 1 ≤ℤ count) × (count ≤ℤ pos (partition_limit so_far.script))
+    × (length so_far.script.nodes < 256)
 KeepsCounts so_far (map_statement name parent e) = length so_far.script.nodes < 256
 KeepsCounts so_far (collect_statement node) = length so_far.script.actions < 64
 
@@ -161,15 +162,15 @@ pub data HasFault : SoFar → List ℕ → FaultKind → Type 0 where
   past_a_limit : (so_far : SoFar) (line : List ℕ) → (IsKept line → ⊥) → HasFault so_far line Limit
   of_no_form : (so_far : SoFar) (line : List ℕ) → IsKept line
       → ((form : LineData) → IsForm line form → ⊥) → HasFault so_far line Syntax
-  with_unknown_word : (so_far : SoFar) (line : List ℕ) (form : LineData) → IsKept line → IsForm line form
-      → (KnowsWords form → ⊥) → HasFault so_far line UnknownName
+  with_unknown_word : (so_far : SoFar) (line : List ℕ) (form : LineData) → IsKept line
+      → IsForm line form → (KnowsWords form → ⊥) → HasFault so_far line UnknownName
   of_no_shape : (so_far : SoFar) (line : List ℕ) (form : LineData) → IsKept line → IsForm line form
       → KnowsWords form → ((statement : StatementData) → HasShape form statement → ⊥)
       → HasFault so_far line Syntax
-  past_a_count : (so_far : SoFar) (line : List ℕ) (statement : StatementData) → States line statement
-      → (KeepsCounts so_far statement → ⊥) → HasFault so_far line Limit
-  defined_twice : (so_far : SoFar) (line : List ℕ) (statement : StatementData) → States line statement
-      → KeepsCounts so_far statement → (IsFresh so_far statement → ⊥) → HasFault so_far line Twice
+  past_a_count : (so_far : SoFar) (line : List ℕ) (statement : StatementData)
+      → States line statement → (KeepsCounts so_far statement → ⊥) → HasFault so_far line Limit
+  defined_twice : (so_far : SoFar) (line : List ℕ) (statement : StatementData)
+      → States line statement → KeepsCounts so_far statement → (IsFresh so_far statement → ⊥) → HasFault so_far line Twice
   with_unknown_name : (so_far : SoFar) (line : List ℕ) (statement : StatementData)
       → States line statement → KeepsCounts so_far statement → IsFresh so_far statement
       → ((item : ItemData) → Means so_far statement item → ⊥) → HasFault so_far line UnknownName

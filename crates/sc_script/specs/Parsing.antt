@@ -44,7 +44,8 @@ IsTokensFault line IllTyped = ⊥
 -- the tokens of a line that keeps the limits, or why there are none
 abbrev pub AreTokensOf : List ℕ → Result (Vec Token Global) LineError → Type 0
 AreTokensOf line (Ok tokens) =
-    HasTokens line (map token_data_of tokens.items) [] × IsWithinLimits line (map token_data_of tokens.items)
+    HasTokens line (map token_data_of tokens.items) []
+    × IsWithinLimits line (map token_data_of tokens.items)
 AreTokensOf line (Err (line_errors.Fault kind)) = IsTokensFault line kind
 AreTokensOf line (Err line_errors.OutOfMemory) = Unit {0}
 

@@ -19,13 +19,16 @@ pub data AddAll : SoFar → List (List ℕ) → SoFar → Type 0 where
 
 -- the first line with a fault, where the lines are numbered from `first` on
 pub data FirstFault : SoFar → ℕ → List (List ℕ) → ScriptFault → Type 0 where
-  at_this_line : (so_far : SoFar) (first : ℕ) (line : List ℕ) (lines : List (List ℕ)) (kind : FaultKind)
+  at_this_line : (so_far : SoFar) (first : ℕ) (line : List ℕ) (lines : List (List ℕ))
+      (kind : FaultKind)
       → is_skipped line ≡ false → HasFault so_far line kind
       → FirstFault so_far first (line ∷ lines) (record { line = first; kind = kind })
-  behind_skipped : (so_far : SoFar) (first : ℕ) (line : List ℕ) (lines : List (List ℕ)) (fault : ScriptFault)
+  behind_skipped : (so_far : SoFar) (first : ℕ) (line : List ℕ) (lines : List (List ℕ))
+      (fault : ScriptFault)
       → is_skipped line ≡ true → FirstFault so_far (first + 1) lines fault
       → FirstFault so_far first (line ∷ lines) fault
-  behind_adding : (so_far next : SoFar) (first : ℕ) (line : List ℕ) (lines : List (List ℕ)) (fault : ScriptFault)
+  behind_adding : (so_far next : SoFar) (first : ℕ) (line : List ℕ) (lines : List (List ℕ))
+      (fault : ScriptFault)
       → is_skipped line ≡ false → Adds so_far line next → FirstFault next (first + 1) lines fault
       → FirstFault so_far first (line ∷ lines) fault
 

@@ -36,7 +36,8 @@ abbrev mutual
 
 -- the operation or the action, and each head, is in its table
 abbrev pub KnowsWords : LineData → Type 0
-KnowsWords (definition_line name operation args) = Contains operations operation × KnowsAllHeads args
+KnowsWords (definition_line name operation args) =
+    Contains operations operation × KnowsAllHeads args
 KnowsWords (action_line action args) = Contains actions action × KnowsAllHeads args
 
 -- an expression in which words stand for variables
@@ -66,9 +67,11 @@ pub data StatementData : Type 0 where
 -- the form of the line that states it
 abbrev pub line_of_statement : StatementData → LineData
 line_of_statement (text_statement name input count) =
-    definition_line name (codes "text") (more_args (text_arg input) (more_args (int_arg count) no_args))
+    definition_line name (codes "text")
+    (more_args (text_arg input) (more_args (int_arg count) no_args))
 line_of_statement (map_statement name parent e) =
-    definition_line name (codes "map") (more_args (word_arg parent) (more_args (arg_of_raw e) no_args))
+    definition_line name (codes "map")
+    (more_args (word_arg parent) (more_args (arg_of_raw e) no_args))
 line_of_statement (collect_statement node) =
     action_line (codes "collect") (more_args (word_arg node) no_args)
 

@@ -1,5 +1,5 @@
--- The tokens of a line as they are read from the left: functions on lists, which the laws on tokens tie
--- to what a line's tokens are.
+-- The tokens of a line as they are read from the left: functions on lists, which the laws on tokens
+-- tie to what a line's tokens are.
 use Rattle.std.specs.Prelude.{ℕ, ◌+◌, ◌-◌, ◌≤◌, ◌≡◌, ℤ, Bool, true, false, ◌==◌, ◌&&◌, ◌||◌, not, List, [], ◌∷◌, ◌++◌, length, map, IsTrue, Option, Some, None, option_map, if◌then◌else◌, Result, Ok, Err}
 use Rattle.std.specs.Char.{is_ascii_digit}
 use Rattle.std.specs.List.{list_all, list_any}
@@ -77,7 +77,8 @@ token_of_piece spelling after =
 
 -- the token that the line's first piece writes, and the bytes after the piece
 unfoldable pub piece_at : List ℕ → Option (TokenData × List ℕ)
-piece_at line = option_map (λ t. (t, after_piece line)) (token_of_piece (piece_of line) (after_piece line))
+piece_at line =
+    option_map (λ t. (t, after_piece line)) (token_of_piece (piece_of line) (after_piece line))
 
 -- a quote or a backslash, which don't stand for themselves in a text
 abbrev pub is_mark : ℕ → Bool
@@ -103,7 +104,8 @@ abbrev pub with_escaped : Option ℕ → Option (List ℕ × List ℕ) → Optio
 with_escaped None read = None
 with_escaped (Some c) read = with_front (c ∷ []) read
 
--- the text up to its closing quote, and the bytes after the quote; whether a backslash stands before
+-- the text up to its closing quote, and the bytes after the quote; whether a backslash stands
+-- before
 abbrev pub text_at : Bool → List ℕ → Option (List ℕ × List ℕ)
 text_at escaped [] = None
 text_at false (c ∷ cs) =

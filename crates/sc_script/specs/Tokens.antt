@@ -34,7 +34,8 @@ IsWord (c ∷ cs) = IsTrue (is_word_start c) × IsTrue (list_all is_word_byte cs
 -- the signs
 abbrev pub signs : List (List ℕ)
 signs =
-    codes "+" ∷ codes "-" ∷ codes "*" ∷ codes "/" ∷ codes "%" ∷ codes "==" ∷ codes "<" ∷ codes "<=" ∷ []
+    codes "+" ∷ codes "-" ∷ codes "*" ∷ codes "/" ∷ codes "%"
+    ∷ codes "==" ∷ codes "<" ∷ codes "<=" ∷ []
 
 -- digits, or a minus and digits, write a number
 abbrev pub SpellsInt : List ℕ → ℤ → Type 0
@@ -104,10 +105,11 @@ pub data HasTokens : List ℕ → List TokenData → List ℕ → Type 0 where
   behind_blank : (c : ℕ) (cs rest : List ℕ) (tokens : List TokenData) → is_blank c ≡ true
       → HasTokens cs tokens rest → HasTokens (c ∷ cs) tokens rest
   behind_token : (line after rest : List ℕ) (token : TokenData) (tokens : List TokenData)
-      → BeginsWith line token after → HasTokens after tokens rest → HasTokens line (token ∷ tokens) rest
+      → BeginsWith line token after → HasTokens after tokens rest
+      → HasTokens line (token ∷ tokens) rest
 
--- how deep parentheses are nested in tokens that stand inside so many; a closing one too many closes
--- nothing
+-- how deep parentheses are nested in tokens that stand inside so many; a closing one too many
+-- closes nothing
 abbrev pub depth_of : ℕ → List TokenData → ℕ
 depth_of inside [] = inside
 depth_of inside (opening ∷ ts) = max inside (depth_of (inside + 1) ts)

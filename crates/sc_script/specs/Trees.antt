@@ -35,7 +35,8 @@ abbrev mutual
   tokens_of_arg (int_arg n) = int_token n ∷ []
   tokens_of_arg (text_arg t) = text_token t ∷ []
   tokens_of_arg (word_arg w) = word_token w ∷ []
-  tokens_of_arg (list_arg h args) = opening ∷ token_of_head h ∷ (tokens_of_args args ++ closing ∷ [])
+  tokens_of_arg (list_arg h args) =
+      opening ∷ token_of_head h ∷ (tokens_of_args args ++ closing ∷ [])
 
   -- the tokens of arguments
   pub tokens_of_args : ArgsData → List TokenData

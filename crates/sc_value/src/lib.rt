@@ -7,7 +7,8 @@
 //! [`Octets`] are bytes that are shared and never change. [`lines`] finds the lines of a text once,
 //! as [`Texts`]: places in the shared bytes, never a string for each line. [`Rows`] are the content
 //! of a partition, shared in constant time and seen as a list of data; a [`RowsBuilder`] makes them
-//! row by row, a [`TextsBuilder`] text by text. What lies inside may change with no caller the wiser.
+//! row by row, a [`TextsBuilder`] text by text. What lies inside may change with no caller the
+//! wiser.
 #![tactic(auto)]
 
 mod builder;

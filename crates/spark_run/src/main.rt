@@ -1,7 +1,7 @@
 //! Runs a script over text files: `spark_run run SCRIPT`.
 //!
-//! It makes the objects that reach the system, calls the run of `sc_app`, prints the text of a status
-//! other than 0 on standard error, and ends with the status.
+//! It makes the objects that reach the system, calls the run of `sc_app`, prints the text of a
+//! status other than 0 on standard error, and ends with the status.
 #![tactic(auto)]
 
 use sc_app::{Status, fault_text, run};
