@@ -36,7 +36,11 @@ fn other_words_are_refused_and_nothing_is_read(rt: HostRuntime) -> Result<(), Fa
 }
 
 #[test]
-fn a_script_that_is_not_there(rt: HostRuntime) -> Result<(), Fail> {
+fn no_words_and_no_file(rt: HostRuntime) -> Result<(), Fail> {
+    let seen = Row::of_words(rt.alloc(), &[])?.run(&rt);
+    assert_eq!(rt; seen.number(), 2);
+    assert_eq!(rt; seen.told()?.as_str(), "usage");
+    assert_eq!(rt; seen.asked(), "");
     let seen = Row::of_words(rt.alloc(), &["run", "nofile"])?.run(&rt);
     assert_eq!(rt; seen.number(), 5);
     assert_eq!(rt; seen.told()?.as_str(), "input: nofile: missing");

@@ -1,7 +1,6 @@
 -- What is read from arguments, step by step.
-use Rattle.std.proofs.Common.{◌≡◌, ◌≢◌, ℕ, suc, ◌+◌, ◌<◌, ◌≤◌, List, [], ◌∷◌, length, get_or, map, Option, Some, None, refl, ap, sym, ◌∙◌, subst, arith}
-use Rattle.std.specs.Option.{option_and_then, option_map}
-use Rattle.std.proofs.lemmas.Option.{same_Some, some_pair_parts}
+use Rattle.std.proofs.Common.{◌≡◌, ◌≢◌, ℕ, ◌+◌, ◌<◌, ◌≤◌, List, [], ◌∷◌, length, map, Option, Some, None, refl, ap, sym, ◌∙◌, arith}
+use Rattle.std.proofs.lemmas.Option.{some_pair_parts}
 use Rattle.sc_expr.specs.declared.exprs.BinaryHead.{BinaryHead}
 use Rattle.sc_script.specs.declared.trees.Head.{Head}
 use Rattle.sc_script.specs.declared.trees.Arg.{Arg}
@@ -15,8 +14,9 @@ use Rattle.sc_script.specs.declared.faults.LineError.TheVariants.{Fault, OutOfMe
 use Rattle.sc_script.specs.Trees.{HeadData, ArgData, int_arg, text_arg, word_arg, list_arg, ArgsData, no_args, more_args}
 use Rattle.sc_script.specs.Views.{head_data_of, args_of, arg_step, arg_data_of}
 use Rattle.sc_script.specs.FormReading.{Reads}
-use Rattle.sc_script.specs.ShapeReading.{named_head, two_args, one_arg, binary_from, raw_from}
-use Rattle.std.specs.Prelude.{Result, Ok, Err, Vec}
+use Rattle.sc_script.specs.TableReading.{named_head}
+use Rattle.sc_script.specs.ShapeReading.{two_args, one_arg, binary_from, raw_from}
+use Rattle.std.specs.Prelude.{Err, Vec}
 use Rattle.std.specs.declared.alloc.Global.{Global}
 
 -- arguments that aren't two

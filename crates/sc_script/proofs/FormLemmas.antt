@@ -1,11 +1,11 @@
 -- The tokens of a line have at most one form, and whether they have one can be told.
-use Rattle.std.proofs.Common.{◌≡◌, ℕ, Bool, true, false, List, [], ◌∷◌, ◌++◌, Option, Some, None, drop, refl, ap, sym, ◌∙◌, subst, ◌⊎◌, inl, inr}
+use Rattle.std.proofs.Common.{◌≡◌, ℕ, Bool, true, false, List, [], ◌∷◌, ◌++◌, Option, Some, None, drop, refl, ap, sym, ◌∙◌, ◌⊎◌, inl, inr}
 use Rattle.std.proofs.lemmas.Option.{option_and_then_some, same_Some, none-some}
-use Rattle.std.specs.Option.{option_and_then, option_map}
+use Rattle.std.specs.Option.{option_map}
 use Rattle.sc_script.specs.Tokens.{TokenData, opening, closing, equals, int_token, text_token, word_token, sign_token}
-use Rattle.sc_script.specs.Trees.{HeadData, word_head, sign_head, ArgData, int_arg, text_arg, word_arg, list_arg, ArgsData, no_args, more_args, LineData, definition_line, action_line, token_of_head, tokens_of_arg, tokens_of_args, tokens_of_line}
+use Rattle.sc_script.specs.Trees.{ArgData, int_arg, text_arg, word_arg, list_arg, ArgsData, no_args, more_args, LineData, definition_line, action_line, tokens_of_arg, tokens_of_args, tokens_of_line}
 use Rattle.sc_script.specs.Views.{args_of}
-use Rattle.sc_script.specs.FormReading.{args_from, word_of_token, first_word, is_equals, begins_with_equals, action_from, operation_from, definition_from, form_behind, form_from}
+use Rattle.sc_script.specs.FormReading.{args_from, first_word, begins_with_equals, action_from, operation_from, definition_from, form_behind, form_from}
 use Rattle.std.specs.Prelude.{Result, Ok, Err, if◌then◌else◌}
 use Rattle.sc_script.specs.declared.faults.LineError.{LineError}
 use Rattle.sc_script.specs.declared.faults.LineError.TheVariants.{Fault, OutOfMemory}
@@ -13,7 +13,7 @@ use Rattle.sc_script.specs.declared.trees.Form.{Form}
 use Rattle.sc_script.specs.Parsing.{IsFormOf}
 use Rattle.sc_script.specs.Views.{form_data_of}
 use Rattle.sc_script.specs.FormReading.{Reads}
-use Rattle.sc_script.proofs.TreeLemmas.{list_of_args, args_of-list, args_from-so, args_from-again}
+use Rattle.sc_script.proofs.TreeLemmas.{args_of-list, args_from-so, args_from-again}
 
 option_map_some : {A B P : Type 0} (f : A → B) (o : Option A) (y : B) → option_map f o ≡ Some y
     → ((x : A) → o ≡ Some x → f x ≡ y → P) → P

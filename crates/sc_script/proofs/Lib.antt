@@ -4,6 +4,7 @@ pub mod LineFaults
 pub mod LineNaming
 pub mod LineRaws
 pub mod LineTyping
+pub mod RawLemmas
 pub mod ReadingForks
 pub mod ReadingForms
 pub mod ReadingItems

@@ -1,5 +1,5 @@
 -- From what the steps of a line answer to its item or its fault.
-use Rattle.std.proofs.Common.{◌≡◌, ◌≢◌, ◌∙◌, ℕ, Bool, true, false, List, [], ◌∷◌, Result, Ok, Err, sym, subst, ap}
+use Rattle.std.proofs.Common.{◌≡◌, ◌∙◌, ℕ, Bool, true, false, List, [], ◌∷◌, Result, Ok, Err, sym, subst, ap}
 use Rattle.sc_script.specs.declared.faults.FaultKind.{FaultKind}
 use Rattle.sc_script.specs.declared.faults.FaultKind.TheVariants.{NotText, Limit, Syntax, UnknownName, Twice, IllTyped}
 use Rattle.sc_script.specs.declared.faults.LineError.{LineError}
@@ -8,8 +8,8 @@ use Rattle.sc_script.specs.declared.shapes.Statement.{Statement}
 use Rattle.sc_script.specs.declared.naming.Item.{Item}
 use Rattle.sc_script.specs.Tokens.{TokenData, HasTokens, IsWithinLimits}
 use Rattle.sc_script.specs.Trees.{LineData, tokens_of_line}
-use Rattle.sc_script.specs.Statements.{StatementData, KnowsWords, HasShape}
-use Rattle.sc_script.specs.Shaping.{statement_data_of, IsStatementOf}
+use Rattle.sc_script.specs.Statements.{StatementData}
+use Rattle.sc_script.specs.Shaping.{IsStatementOf}
 use Rattle.sc_script.specs.Lines.{SoFar, ItemData, IsKept, IsForm, States, KeepsCounts, IsFresh, Means, is_skipped, HasFault, past_a_limit, of_no_form, with_unknown_word, of_no_shape, past_a_count, defined_twice, with_unknown_name, ill_typed, of_large_type}
 use Rattle.sc_script.specs.Scripts.{AddAll, no_line, skipped_line, adding_line}
 use Rattle.sc_script.specs.Parsing.{AreTokensOf, IsTokensFault, IsFormOf}
@@ -27,8 +27,7 @@ tokens_fault line Syntax h so_far =
       tokens = h.tokens;
       rest = h.rest;
       has = h.has;
-      within =
-          h.within;
+      within = h.within;
     })
     (λ form is. h.more (HasTokens-unique h.has is).1)
 tokens_fault line UnknownName h so_far = absurd h
@@ -67,8 +66,7 @@ stated line ts form r has within is h = by_cases r h where
     form = form;
     is_form = is_form;
     words = h.0;
-    shape =
-        h.1;
+    shape = h.1;
   }
   by_cases (Err (Fault NotText)) h = absurd h
   by_cases (Err (Fault Limit)) h = absurd h

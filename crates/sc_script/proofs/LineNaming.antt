@@ -1,23 +1,19 @@
 -- The tests of counts, freshness and names.
-use Rattle.std.proofs.Common.{◌≡◌, ◌≢◌, ◌↔◌, ◌∙◌, ℕ, zero, suc, ◌+◌, ◌<◌, ◌≤◌, ℤ, pos, ◌≤ℤ◌, Bool, true, false, cond, not, ◌&&◌, List, [], ◌∷◌, length, get_or, drop, Option, Some, None, Result, Ok, Err, IsTrue, refl, sym, ap, subst, inl, inr, arith, drop-cons}
+use Rattle.std.proofs.Common.{◌≡◌, ◌↔◌, ◌∙◌, ℕ, zero, suc, ◌+◌, ◌<◌, pos, ◌≤ℤ◌, Bool, true, false, not, List, [], ◌∷◌, length, get_or, drop, Option, Some, None, Err, IsTrue, refl, sym, ap, subst, inl, inr, arith, drop-cons}
 use Rattle.std.specs.Prelude.{Contains, is_some}
 use Rattle.std.specs.Option.{option_map}
 use Rattle.std.specs.Str.{bytes_eq}
 use Rattle.std.specs.Cmp.Lexicographic.{bytes_decides}
-use Rattle.std.proofs.lemmas.Bool.{and_parts, and_from, cases_Bool, both_ways, true≢false}
+use Rattle.std.proofs.lemmas.Bool.{and_parts, cases_Bool, true≢false}
 use Rattle.std.proofs.lemmas.Int.{ints}
 use Rattle.std.proofs.lemmas.Option.{none-some, same_Some}
 use Rattle.sc_expr.specs.ExprData.{ExprData, int_expr, text_expr, variable_expr, binary_expr}
-use Rattle.sc_expr.specs.Views.{expr_data_of}
 use Rattle.sc_expr.specs.declared.exprs.Variable.{Variable}
-use Rattle.sc_expr.specs.declared.exprs.Variable.TheVariants.{X, A, B}
 use Rattle.sc_expr.specs.declared.exprs.BinaryHead.{BinaryHead}
-use Rattle.sc_lineage.specs.declared.nodes.Action.TheVariants.{Collect}
-use Rattle.sc_lineage.specs.ScriptData.{NodeData, text_node, map_node}
 use Rattle.sc_script.specs.declared.faults.LineError.{LineError}
 use Rattle.sc_script.specs.declared.faults.LineError.TheVariants.{Fault, OutOfMemory}
-use Rattle.sc_script.specs.Statements.{RawExpr, raw_int, raw_text, raw_word, raw_binary, StatementData, text_statement, map_statement, collect_statement}
-use Rattle.sc_script.specs.Lines.{SoFar, ItemData, node_item, action_item, number_of, raw_of_expr, is_over_rows, spelled_variable, is_row_variable, KeepsCounts, Means}
+use Rattle.sc_script.specs.Statements.{RawExpr, raw_word, raw_binary, StatementData, text_statement, map_statement, collect_statement}
+use Rattle.sc_script.specs.Lines.{SoFar, ItemData, number_of, raw_of_expr, is_over_rows, spelled_variable, is_row_variable, KeepsCounts, Means}
 use Rattle.sc_script.specs.Defining.{IsEven, IsPlaced, IsVariableOf, IsExprOf}
 
 -- a name that isn't the first one is among the others

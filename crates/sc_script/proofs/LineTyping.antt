@@ -1,5 +1,5 @@
 -- The tests of types, and what is added.
-use Rattle.std.proofs.Common.{◌≡◌, ℕ, ◌+◌, ◌<◌, ◌≤◌, List, [], ◌∷◌, ◌++◌, Result, Ok, Err, OnOk, arith}
+use Rattle.std.proofs.Common.{◌≡◌, ℕ, ◌<◌, ◌≤◌, List, Result, Ok, Err, OnOk, arith}
 use Rattle.sc_value.specs.Types.{TypeData, type_size}
 use Rattle.sc_lineage.specs.ScriptData.{NodeData}
 use Rattle.sc_script.specs.declared.faults.LineError.{LineError}

@@ -1,5 +1,5 @@
 -- Readings of which there is exactly one, and a test that leads to one of two of them.
-use Rattle.std.proofs.Common.{◌≡◌, ◌∙◌, ◌⊎◌, inl, inr, refl, sym, subst}
+use Rattle.std.proofs.Common.{◌≡◌, ◌⊎◌, inl, inr, refl}
 
 -- there is exactly one reading
 pub record HasOne (R : Type 0) (V : R → Type 0) : Type 0 where

@@ -1,15 +1,11 @@
 -- A line keeps the limits or not, and has one form or none.
-use Rattle.std.proofs.Common.{◌≡◌, ◌∙◌, ◌⊎◌, inl, inr, ℕ, List, [], ◌∷◌, Result, Ok, Err, refl, sym, ap, subst}
-use Rattle.sc_value.specs.Types.{TypeData}
-use Rattle.sc_script.specs.declared.faults.FaultKind.{FaultKind}
-use Rattle.sc_script.specs.declared.faults.FaultKind.TheVariants.{NotText, Limit, Syntax, UnknownName, Twice, IllTyped}
+use Rattle.std.proofs.Common.{◌≡◌, ◌⊎◌, inl, inr, ℕ, List, [], ◌∷◌, refl, subst}
 use Rattle.sc_script.specs.Tokens.{TokenData, HasTokens, IsWithinLimits}
-use Rattle.sc_script.specs.Trees.{LineData, tokens_of_line}
-use Rattle.sc_script.specs.Statements.{StatementData, KnowsWords, HasShape}
-use Rattle.sc_script.specs.Lines.{SoFar, ItemData, node_item, action_item, IsKept, IsForm, States, Names, Adds, KeepsCounts, IsFresh, Means, IsTyped, KeepsSize, with_item, HasFault, past_a_limit, of_no_form, with_unknown_word, of_no_shape, past_a_count, defined_twice, with_unknown_name, ill_typed, of_large_type}
+use Rattle.sc_script.specs.Trees.{LineData}
+use Rattle.sc_script.specs.Lines.{IsKept, IsForm}
 use Rattle.sc_script.proofs.TokenLemmas.{HasTokens-unique, tokens_exist, within_limits}
 use Rattle.sc_script.proofs.FormLemmas.{tokens_of_line-injective, form_exists}
-use Rattle.sc_script.proofs.ReadingForks.{HasOne, Found, Fork, fork, Test, test, alone, carried}
+use Rattle.sc_script.proofs.ReadingForks.{Found}
 
 -- whether a line keeps the limits
 pub kept_decided : (line : List ℕ) → IsKept line ⊎ (IsKept line → ⊥)

@@ -1,15 +1,14 @@
 -- A line that isn't skipped adds an item or has a fault, and never both.
-use Rattle.std.proofs.Common.{◌≡◌, ◌∙◌, ◌⊎◌, inl, inr, ℕ, List, [], ◌∷◌, Result, Ok, Err, refl, sym, ap, subst}
+use Rattle.std.proofs.Common.{◌≡◌, inl, inr, ℕ, List, Result, Ok, Err, refl, sym, ap, subst}
 use Rattle.sc_value.specs.Types.{TypeData}
 use Rattle.sc_script.specs.declared.faults.FaultKind.{FaultKind}
-use Rattle.sc_script.specs.declared.faults.FaultKind.TheVariants.{NotText, Limit, Syntax, UnknownName, Twice, IllTyped}
-use Rattle.sc_script.specs.Tokens.{TokenData, HasTokens, IsWithinLimits}
-use Rattle.sc_script.specs.Trees.{LineData, tokens_of_line}
+use Rattle.sc_script.specs.declared.faults.FaultKind.TheVariants.{Limit, Syntax, UnknownName, Twice, IllTyped}
+use Rattle.sc_script.specs.Trees.{LineData}
 use Rattle.sc_script.specs.Statements.{StatementData, KnowsWords, HasShape}
 use Rattle.sc_script.specs.Lines.{SoFar, ItemData, node_item, action_item, IsKept, IsForm, States, Names, Adds, KeepsCounts, IsFresh, Means, IsTyped, KeepsSize, with_item, HasFault, past_a_limit, of_no_form, with_unknown_word, of_no_shape, past_a_count, defined_twice, with_unknown_name, ill_typed, of_large_type}
 use Rattle.sc_script.proofs.ShapeLemmas.{statement-unique, knows_words, shape_exists}
 use Rattle.sc_script.proofs.ReadingForms.{kept_decided, form_found, one_form}
-use Rattle.sc_script.proofs.ReadingForks.{HasOne, Found, Fork, fork, Test, test, alone, carried}
+use Rattle.sc_script.proofs.ReadingForks.{HasOne, Fork, fork, Test, test, alone, carried}
 use Rattle.sc_script.proofs.ReadingItems.{counts_decided, fresh_decided, item_found, one_item}
 use Rattle.sc_script.proofs.ReadingTypes.{type_of_item_found, at_each_type, IsAction, size_decided}
 
@@ -129,8 +128,7 @@ there_names so_far line s states counts fresh r
         states = states;
         counts = counts;
         fresh = fresh;
-        means =
-            means;
+        means = means;
       };
       elements = t;
       typed = typed;
@@ -168,8 +166,7 @@ there so_far line r (inr (u, kept, inr (f, form, inr (w, words, inr (s, shape, m
       kept = kept;
       form = f;
       is_form = form;
-      words =
-          words;
+      words = words;
       shape = shape;
     }) r more
 

@@ -1,5 +1,5 @@
 -- Bytes are one script, or have one fault, and never both.
-use Rattle.std.proofs.Common.{◌≡◌, ◌∙◌, ◌⊎◌, inl, inr, ℕ, ◌+◌, ◌<◌, ◌≤◌, Bool, true, false, List, [], ◌∷◌, length, Result, Ok, Err, refl, sym, ap, subst, arith}
+use Rattle.std.proofs.Common.{◌≡◌, ◌∙◌, ◌⊎◌, inl, inr, ℕ, ◌+◌, ◌<◌, ◌≤◌, true, false, List, [], ◌∷◌, length, Result, Ok, Err, refl, sym, ap, subst, arith}
 use Rattle.std.specs.Str.{IsUtf8, is_utf8}
 use Rattle.std.proofs.lemmas.Bool.{cases_lt, cases_Bool, both_ways}
 use Rattle.std.proofs.lemmas.Str.{IsUtf8-from_is_utf8, is_utf8-from_IsUtf8}
@@ -9,7 +9,7 @@ use Rattle.sc_script.specs.declared.faults.FaultKind.{FaultKind}
 use Rattle.sc_script.specs.declared.faults.FaultKind.TheVariants.{NotText, Limit}
 use Rattle.sc_script.specs.declared.faults.ScriptFault.{ScriptFault}
 use Rattle.sc_script.specs.Lines.{SoFar, nothing_so_far, is_skipped, Adds, HasFault}
-use Rattle.sc_script.specs.Scripts.{AddAll, no_line, skipped_line, adding_line, FirstFault, at_this_line, behind_skipped, behind_adding, ReadsScript, FaultsScript, too_long, no_text, at_a_line, IsReading, HasOneReading}
+use Rattle.sc_script.specs.Scripts.{AddAll, no_line, skipped_line, adding_line, FirstFault, at_this_line, behind_skipped, behind_adding, too_long, no_text, at_a_line, IsReading}
 use Rattle.sc_script.specs.Parsing.{HaveOneReading}
 use Rattle.sc_script.proofs.ReadingForks.{HasOne}
 use Rattle.sc_script.proofs.ReadingLines.{LineReading, IsLineReading, one_line_reading}
@@ -142,8 +142,7 @@ one_lines_reading [] so_far first =
     record {
       reading = Ok so_far;
       is = no_line so_far;
-      only =
-          λ other h. only_none so_far first other h;
+      only = λ other h. only_none so_far first other h;
     }
 one_lines_reading (line ∷ lines) so_far first =
     by_skip (cases_Bool (is_skipped line)) (λ next. one_lines_reading lines next (first + 1)) where
@@ -213,8 +212,7 @@ pub one_reading : HaveOneReading
 one_reading bytes = elim (cases_lt 65536 (length bytes)) [
   | inl long ↦ record {
     reading = Err (record { line = 0; kind = Limit });
-    is =
-        too_long bytes long;
+    is = too_long bytes long;
     only = only_too_long bytes long;
   }
   | inr size ↦ elim (utf8_decided bytes) [
@@ -227,8 +225,7 @@ one_reading bytes = elim (cases_lt 65536 (length bytes)) [
         }
     | inr other ↦ record {
       reading = Err (record { line = 0; kind = NotText });
-      is =
-          no_text bytes size other;
+      is = no_text bytes size other;
       only = only_no_text bytes size other;
     }
   ]

@@ -1,24 +1,15 @@
 -- The tests of types are decided, and give at most one type.
-use Rattle.std.proofs.Common.{◌≡◌, ◌∙◌, ◌⊎◌, inl, inr, ℕ, ◌<◌, ◌≤◌, ℤ, pos, negsuc, ◌≤ℤ◌, ◌<ℤ◌, Bool, true, false, ◌&&◌, List, [], ◌∷◌, length, Option, Some, None, IsTrue, refl, sym, ap, ap₂, subst, arith}
-use Rattle.std.specs.Prelude.{Contains, slice_get, codes}
-use Rattle.std.specs.Str.{bytes_eq}
-use Rattle.std.specs.Cmp.Lexicographic.{bytes_decides}
-use Rattle.std.proofs.lemmas.Bool.{cases_lt, cases_Bool, and_parts, and_from, true≢false, both_ways}
-use Rattle.std.proofs.lemmas.Int.{by_lt_z, ints}
+use Rattle.std.proofs.Common.{◌≡◌, ◌∙◌, ◌⊎◌, inl, inr, refl, sym, subst}
+use Rattle.std.specs.Prelude.{slice_get}
 use Rattle.std.proofs.lemmas.Option.{none-some, same_Some}
 use Rattle.sc_value.specs.Types.{TypeData, int_type, bool_type, text_type, pair_type, list_type, type_size}
 use Rattle.sc_expr.specs.ExprData.{ExprData, int_expr, text_expr, variable_expr, binary_expr}
 use Rattle.sc_expr.specs.Typing.{IsOfType, TypeEnvData, one_type, TakesAndGives, variable_type}
-use Rattle.sc_expr.specs.declared.exprs.Variable.{Variable}
-use Rattle.sc_expr.specs.declared.exprs.Variable.TheVariants.{X, A, B}
 use Rattle.sc_expr.specs.declared.exprs.BinaryHead.{BinaryHead}
 use Rattle.sc_expr.specs.declared.exprs.BinaryHead.TheVariants.{Concat}
 use Rattle.sc_expr.proofs.TypeLemmas.{one_type_at_most}
-use Rattle.sc_lineage.specs.declared.nodes.Action.TheVariants.{Collect}
-use Rattle.sc_lineage.specs.ScriptData.{NodeData, text_node, map_node, partition_limit}
-use Rattle.sc_script.specs.Statements.{RawExpr, raw_int, raw_text, raw_word, raw_binary, StatementData, text_statement, map_statement, collect_statement}
-use Rattle.sc_script.specs.Lines.{SoFar, ItemData, node_item, action_item, number_of, raw_of_expr, is_over_rows, spelled_variable, is_row_variable, KeepsCounts, IsFresh, Means, HasElements, IsTyped, KeepsSize}
-use Rattle.sc_script.proofs.LineNaming.{number_of-contains, number_of-none}
+use Rattle.sc_lineage.specs.ScriptData.{NodeData, text_node, map_node}
+use Rattle.sc_script.specs.Lines.{SoFar, ItemData, node_item, action_item, HasElements, IsTyped, KeepsSize}
 use Rattle.sc_script.proofs.ReadingForks.{Found}
 use Rattle.sc_script.proofs.ReadingItems.{cases_Option, both, at_most}
 

@@ -1,5 +1,5 @@
 -- The lines of a script, one after another.
-use Rattle.std.proofs.Common.{◌≡◌, ◌∙◌, ℕ, zero, suc, ◌+◌, ◌<◌, ◌≤◌, Bool, true, false, cond, eqb, List, [], ◌∷◌, ◌++◌, length, get_or, take, drop, refl, sym, ap, subst, Some, Ok, Err, Result, arith, drop-cons, length-append, length-take, take-append-drop, take_all}
+use Rattle.std.proofs.Common.{◌≡◌, ◌∙◌, ℕ, suc, ◌+◌, ◌<◌, ◌≤◌, Bool, true, false, cond, eqb, List, [], ◌∷◌, ◌++◌, length, take, drop, refl, sym, ap, subst, Some, Ok, Err, Result, arith, drop-cons, length-append, length-take, take-append-drop, take_all}
 use Rattle.std.specs.Prelude.{IfOk, IfErr, slice_get}
 use Rattle.std.specs.Str.{IsUtf8}
 use Rattle.std.proofs.lemmas.Option.{slice_get_within, get_or_from_slice_get}
@@ -19,7 +19,7 @@ use Rattle.sc_script.specs.declared.faults.ScriptFault.{ScriptFault}
 use Rattle.sc_script.specs.Parsing.{IsParseCause}
 use Rattle.sc_script.specs.Statements.{StatementData, text_statement, map_statement, collect_statement}
 use Rattle.sc_script.specs.Lines.{SoFar, nothing_so_far, is_skipped, Adds, HasFault, ItemData, node_item, action_item, KeepsCounts, Means, with_item}
-use Rattle.sc_script.specs.Scripts.{AddAll, no_line, skipped_line, adding_line, FirstFault, at_this_line, behind_skipped, behind_adding, ReadsScript, FaultsScript, too_long, no_text, at_a_line}
+use Rattle.sc_script.specs.Scripts.{AddAll, no_line, skipped_line, adding_line, FirstFault, at_this_line, behind_skipped, behind_adding, ReadsScript, too_long, no_text, at_a_line}
 use Rattle.sc_script.specs.Defining.{IsEven, IsLineRead, AreLinesRead, error_at}
 
 -- lines behind lines
@@ -219,8 +219,7 @@ script_in_lines bytes copy lines (Ok script) same size utf8 is h =
       size = size;
       utf8 = subst IsUtf8 same utf8;
       after = h.0;
-      lines =
-          subst P (is ∙ ap text_lines same) h.1;
+      lines = subst P (is ∙ ap text_lines same) h.1;
       is = h.2;
     }
 script_in_lines bytes copy lines (Err e) same size utf8 is h = tt

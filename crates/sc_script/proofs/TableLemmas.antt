@@ -1,5 +1,5 @@
 -- What is found in the tables of operations, actions and heads, and which words are known.
-use Rattle.std.proofs.Common.{◌≡◌, ℕ, zero, suc, ◌<◌, Bool, true, false, ◌&&◌, List, [], ◌∷◌, length, map, Option, Some, None, refl, ap, sym, ◌∙◌, ◌⊎◌, inl, inr, arith}
+use Rattle.std.proofs.Common.{◌≡◌, ℕ, zero, suc, Bool, true, false, ◌&&◌, List, [], ◌∷◌, map, Option, Some, None, refl, ap, sym, ◌∙◌, ◌⊎◌, inl, inr, arith}
 use Rattle.std.specs.Prelude.{Contains, if◌then◌else◌}
 use Rattle.std.specs.Str.{bytes_eq}
 use Rattle.std.proofs.lemmas.List.Elements.{Contains-append_right, Contains-append_cases}
@@ -7,11 +7,11 @@ use Rattle.std.proofs.lemmas.Option.{same_Some}
 use Rattle.std.proofs.lemmas.Slice.Eq.{bytes_eq-Decides}
 use Rattle.sc_expr.specs.declared.exprs.BinaryHead.{BinaryHead}
 use Rattle.sc_expr.specs.declared.exprs.BinaryHead.TheVariants.{Concat}
-use Rattle.sc_script.specs.declared.shapes.Operation.{Operation}
-use Rattle.sc_script.specs.declared.shapes.ActionName.{ActionName}
+use Rattle.sc_script.specs.declared.tables.Operation.{Operation}
+use Rattle.sc_script.specs.declared.tables.ActionName.{ActionName}
 use Rattle.sc_script.specs.Trees.{HeadData, word_head, sign_head, ArgData, int_arg, text_arg, word_arg, list_arg, ArgsData, no_args, more_args, LineData, definition_line, action_line}
 use Rattle.sc_script.specs.Statements.{operations, actions, spelled_head, heads, KnowsHeads, KnowsAllHeads, KnowsWords}
-use Rattle.sc_script.specs.ShapeReading.{written_so, spelled_operation, all_operations, named_operation, spelled_action, all_actions, named_action, head_eq, all_heads, named_head, is_found, heads_known, all_heads_known, words_known}
+use Rattle.sc_script.specs.TableReading.{written_so, spelled_operation, all_operations, named_operation, spelled_action, all_actions, named_action, head_eq, all_heads, named_head, is_found, heads_known, all_heads_known, words_known}
 
 -- elements of lists
 pub contains_nil : {X : Type 0} (y : X) → Contains [] y → ⊥

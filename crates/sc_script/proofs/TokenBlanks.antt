@@ -19,15 +19,18 @@ blank_is_ascii c blank = grind (arith, nat_tests)
 
 utf8_behind_blank : (c : ℕ) (cs : List ℕ) → is_blank c ≡ true → IsUtf8 (c ∷ cs) → IsUtf8 cs
 utf8_behind_blank c cs blank utf8 =
-    IsUtf8-drop (c ∷ cs) 1 utf8 (IsCharBoundary-after_ascii (c ∷ cs) 0 utf8 (omega arith) (blank_is_ascii c blank))
+    IsUtf8-drop (c ∷ cs) 1 utf8
+    (IsCharBoundary-after_ascii (c ∷ cs) 0 utf8 (omega arith) (blank_is_ascii c blank))
 
-pub skips_blanks : (line : List ℕ) → IsUtf8 line → SkipsBlanks line (position_or_len (λ b. not (is_blank b)) line)
+pub skips_blanks : (line : List ℕ) → IsUtf8 line
+    → SkipsBlanks line (position_or_len (λ b. not (is_blank b)) line)
 skips_blanks [] utf8 = record { within = omega arith; is = refl; utf8 = utf8 }
 skips_blanks (c ∷ cs) utf8 = go (is_blank c) refl (skips_blanks cs)
   where
     go : (b : Bool) → is_blank c ≡ b
         → (IsUtf8 cs → SkipsBlanks cs (position_or_len (λ d. not (is_blank d)) cs))
-        → SkipsBlanks (c ∷ cs) (cond (not (not (is_blank c))) (1 + position_or_len (λ d. not (is_blank d)) cs) 0)
+        → SkipsBlanks (c ∷ cs)
+        (cond (not (not (is_blank c))) (1 + position_or_len (λ d. not (is_blank d)) cs) 0)
     go true blank later =
         let n = position_or_len (λ d. not (is_blank d)) cs in
         let rest = later (utf8_behind_blank c cs blank utf8) in
@@ -40,7 +43,8 @@ skips_blanks (c ∷ cs) utf8 = go (is_blank c) refl (skips_blanks cs)
         })
     go false plain later =
         let n = position_or_len (λ d. not (is_blank d)) cs in
-        let place : 0 ≡ cond (not (not (is_blank c))) (1 + n) 0 = sym (ap (λ b. cond (not (not b)) (1 + n) 0) plain) in
+        let place : 0 ≡ cond (not (not (is_blank c))) (1 + n) 0 =
+        sym (ap (λ b. cond (not (not b)) (1 + n) 0) plain) in
         subst (SkipsBlanks (c ∷ cs)) place (record {
           within = omega arith;
           is = sym (cond-false (is_blank c) (without_blanks cs) (c ∷ cs) plain);
@@ -48,10 +52,12 @@ skips_blanks (c ∷ cs) utf8 = go (is_blank c) refl (skips_blanks cs)
         })
 
 -- the same for a place and a line under other names
-pub skips : (line bytes : List ℕ) (n : ℕ) → bytes ≡ line → n ≡ position_or_len (λ b. not (is_blank b)) bytes → IsUtf8 bytes
+pub skips : (line bytes : List ℕ) (n : ℕ) → bytes ≡ line
+    → n ≡ position_or_len (λ b. not (is_blank b)) bytes → IsUtf8 bytes
     → SkipsBlanks line n
 skips line bytes n is place utf8 =
-    subst (λ l. SkipsBlanks l n) is (subst (SkipsBlanks bytes) (sym place) (skips_blanks bytes utf8))
+    subst (λ l. SkipsBlanks l n) is
+    (subst (SkipsBlanks bytes) (sym place) (skips_blanks bytes utf8))
 
 pub skip_boundary : (line : List ℕ) (n : ℕ) → SkipsBlanks line n → IsCharBoundary line n
 skip_boundary line n skips = IsCharBoundary-from_drop line n skips.within skips.utf8

@@ -1,6 +1,6 @@
--- Laws on the tokens of a line, over all lists of numbers: each has its tokens, and no others, and it is
--- decided whether they keep the limits.
-use Rattle.std.proofs.Common.{◌≡◌, ℕ, zero, suc, ◌+◌, ◌^◌, ◌<◌, ◌≤◌, Bool, true, false, List, [], ◌∷◌, ◌++◌, length, Option, Some, None, FitsSigned, refl, ap, sym, ◌∙◌, subst, ◌⊎◌, inl, inr, arith}
+-- Laws on the tokens of a line, over all lists of numbers: each has its tokens, and no others, and
+-- it is decided whether they keep the limits.
+use Rattle.std.proofs.Common.{◌≡◌, ℕ, zero, suc, ◌^◌, ◌<◌, Bool, true, false, List, [], ◌∷◌, length, Option, Some, None, refl, ap, sym, ◌∙◌, subst, ◌⊎◌, inl, inr, arith}
 use Rattle.std.specs.Int.Signed.{mag}
 use Rattle.std.proofs.lemmas.Bool.{both_ways, cases_lt}
 use Rattle.std.proofs.lemmas.Option.{none-some, some_pair_parts}
@@ -9,16 +9,19 @@ use Rattle.sc_script.specs.Tokens.{TokenData, opening, closing, equals, int_toke
 use Rattle.sc_script.specs.TokenReading.{token_at}
 
 -- a line begins with one token at most
-pub BeginsWith-unique : (line : List ℕ) (t u : TokenData) (a b : List ℕ) → BeginsWith line t a → BeginsWith line u b
+pub BeginsWith-unique : (line : List ℕ) (t u : TokenData) (a b : List ℕ) → BeginsWith line t a
+    → BeginsWith line u b
     → (t ≡ u) × (a ≡ b)
 BeginsWith-unique line t u a b first second =
     some_pair_parts t u a b (sym (token_at_begun line t a first) ∙ token_at_begun line u b second)
 
 -- and no line begins with a token and with a blank
-pub begins_with_no_blank : (c : ℕ) (cs : List ℕ) (token : TokenData) (after : List ℕ) → is_blank c ≡ true
+pub begins_with_no_blank : (c : ℕ) (cs : List ℕ) (token : TokenData) (after : List ℕ)
+    → is_blank c ≡ true
     → BeginsWith (c ∷ cs) token after → ⊥
 begins_with_no_blank c cs token after blank begins =
-    none-some (token, after) (sym (token_at-blank c cs blank) ∙ token_at_begun (c ∷ cs) token after begins)
+    none-some (token, after)
+    (sym (token_at-blank c cs blank) ∙ token_at_begun (c ∷ cs) token after begins)
 
 pub nothing_begins : (token : TokenData) (after : List ℕ) → BeginsWith [] token after → ⊥
 nothing_begins token after begins =
@@ -28,41 +31,54 @@ nothing_begins token after begins =
 pub HasTokens-unique : {line rest others : List ℕ} {ts us : List TokenData}
     → HasTokens line ts rest → HasTokens line us others → (ts ≡ us) × (rest ≡ others)
 HasTokens-unique at_end at_end = (refl, refl)
-HasTokens-unique at_end (behind_token _ after rest token tokens begins h) = absurd (nothing_begins token after begins)
+HasTokens-unique at_end (behind_token _ after rest token tokens begins h) =
+    absurd (nothing_begins token after begins)
 HasTokens-unique (at_no_token c cs not_blank none) (at_no_token _ _ _ _) = (refl, refl)
 HasTokens-unique (at_no_token c cs not_blank none) (behind_blank _ _ rest tokens blank h) =
     absurd (both_ways (is_blank c) not_blank blank)
-HasTokens-unique (at_no_token c cs not_blank none) (behind_token _ after rest token tokens begins h) =
+HasTokens-unique (at_no_token c cs not_blank none)
+    (behind_token _ after rest token tokens begins h) =
     absurd (none token after begins)
 HasTokens-unique (behind_blank c cs rest tokens blank h) (at_no_token _ _ not_blank none) =
     absurd (both_ways (is_blank c) not_blank blank)
-HasTokens-unique (behind_blank c cs rest tokens blank h) (behind_blank _ _ others us _ k) = HasTokens-unique h k
-HasTokens-unique (behind_blank c cs rest tokens blank h) (behind_token _ after others token us begins k) =
+HasTokens-unique (behind_blank c cs rest tokens blank h) (behind_blank _ _ others us _ k) =
+    HasTokens-unique h k
+HasTokens-unique (behind_blank c cs rest tokens blank h)
+    (behind_token _ after others token us begins k) =
     absurd (begins_with_no_blank c cs token after blank begins)
-HasTokens-unique (behind_token _ after rest token tokens begins h) at_end = absurd (nothing_begins token after begins)
-HasTokens-unique (behind_token _ after rest token tokens begins h) (at_no_token c cs not_blank none) =
+HasTokens-unique (behind_token _ after rest token tokens begins h) at_end =
+    absurd (nothing_begins token after begins)
+HasTokens-unique (behind_token _ after rest token tokens begins h)
+    (at_no_token c cs not_blank none) =
     absurd (none token after begins)
-HasTokens-unique (behind_token _ after rest token tokens begins h) (behind_blank c cs others us blank k) =
+HasTokens-unique (behind_token _ after rest token tokens begins h)
+    (behind_blank c cs others us blank k) =
     absurd (begins_with_no_blank c cs token after blank begins)
-HasTokens-unique (behind_token line after rest token tokens begins h) (behind_token _ next others other us starts k) =
+HasTokens-unique (behind_token line after rest token tokens begins h)
+    (behind_token _ next others other us starts k) =
     let same = BeginsWith-unique line token other after next begins starts in
     let later = HasTokens-unique h (subst (λ a. HasTokens a us others) (sym same.1) k) in
     (ap (λ t. t ∷ tokens) same.0 ∙ ap (λ ts. other ∷ ts) later.0, later.1)
 
 -- each line has its tokens
-tokens_within : (n : ℕ) (line : List ℕ) → length line < n → (ts : List TokenData) × (rest : List ℕ) × HasTokens line ts rest
+tokens_within : (n : ℕ) (line : List ℕ) → length line < n → (ts : List TokenData) × (rest : List ℕ)
+    × HasTokens line ts rest
 tokens_within zero line short = absurd (omega arith)
 tokens_within (suc n) [] short = ([], [], at_end)
-tokens_within (suc n) (c ∷ cs) short = at_byte (is_blank c) refl (tokens_within n cs (omega arith)) (token_at (c ∷ cs)) refl (tokens_within n)
+tokens_within (suc n) (c ∷ cs) short =
+    at_byte (is_blank c) refl (tokens_within n cs (omega arith)) (token_at (c ∷ cs)) refl
+    (tokens_within n)
   where
     at_front : is_blank c ≡ false → (read : Option (TokenData × List ℕ)) → token_at (c ∷ cs) ≡ read
-        → ((line : List ℕ) → length line < n → (ts : List TokenData) × (rest : List ℕ) × HasTokens line ts rest)
+        → ((line : List ℕ) → length line < n → (ts : List TokenData) × (rest : List ℕ)
+        × HasTokens line ts rest)
         → (ts : List TokenData) × (rest : List ℕ) × HasTokens (c ∷ cs) ts rest
     at_front not_blank None is later = (
       [],
       c ∷ cs,
       at_no_token c cs not_blank
-          (λ token after begins. none-some (token, after) (sym is ∙ token_at_begun (c ∷ cs) token after begins)),
+          (λ token after begins. none-some (token, after)
+          (sym is ∙ token_at_begun (c ∷ cs) token after begins)),
     )
     at_front not_blank (Some read) is later =
         let begins = begun_by_read (c ∷ cs) read.0 read.1 is in
@@ -70,14 +86,18 @@ tokens_within (suc n) (c ∷ cs) short = at_byte (is_blank c) refl (tokens_withi
         let more = later read.1 (omega arith) in
         (read.0 ∷ more.0, more.1, behind_token (c ∷ cs) read.1 more.1 read.0 more.0 begins more.2)
 
-    at_byte : (b : Bool) → is_blank c ≡ b → (ts : List TokenData) × (rest : List ℕ) × HasTokens cs ts rest
+    at_byte : (b : Bool) → is_blank c ≡ b → (ts : List TokenData) × (rest : List ℕ)
+        × HasTokens cs ts rest
         → (read : Option (TokenData × List ℕ)) → token_at (c ∷ cs) ≡ read
-        → ((line : List ℕ) → length line < n → (ts : List TokenData) × (rest : List ℕ) × HasTokens line ts rest)
+        → ((line : List ℕ) → length line < n → (ts : List TokenData) × (rest : List ℕ)
+        × HasTokens line ts rest)
         → (ts : List TokenData) × (rest : List ℕ) × HasTokens (c ∷ cs) ts rest
-    at_byte true blank behind read is later = (behind.0, behind.1, behind_blank c cs behind.1 behind.0 blank behind.2)
+    at_byte true blank behind read is later =
+        (behind.0, behind.1, behind_blank c cs behind.1 behind.0 blank behind.2)
     at_byte false not_blank behind read is later = at_front not_blank read is later
 
-pub tokens_exist : (line : List ℕ) → (ts : List TokenData) × (rest : List ℕ) × HasTokens line ts rest
+pub tokens_exist : (line : List ℕ) → (ts : List TokenData) × (rest : List ℕ)
+    × HasTokens line ts rest
 tokens_exist line = tokens_within (suc (length line)) line (omega arith)
 
 -- whether a token is short
@@ -86,7 +106,11 @@ is_short opening = inl tt
 is_short closing = inl tt
 is_short equals = inl tt
 is_short (int_token n) =
-    elim (cases_lt (mag n) (2 ^ 63)) [ inl fits ↦ inl (record { sfits = fits }) | inr large ↦ inr (λ fits. omega (arith, fits.sfits)) ]
+    elim (cases_lt (mag n) (2 ^ 63)) [
+      | inl fits ↦ inl (record { sfits = fits })
+      | inr large ↦
+          inr (λ fits. omega (arith, fits.sfits))
+    ]
 is_short (text_token t) = inl tt
 is_short (word_token w) =
     elim (cases_lt 64 (length w)) [ inl long ↦ inr (λ short. omega arith) | inr short ↦ inl short ]
@@ -97,11 +121,13 @@ are_short [] = inl tt
 are_short (t ∷ ts) =
     elim (is_short t) [
       | inr long ↦ inr (λ short. long short.0)
-      | inl one ↦ elim (are_short ts) [ inl more ↦ inl (one, more) | inr long ↦ inr (λ short. long short.1) ]
+      | inl one ↦ elim (are_short ts)
+          [ inl more ↦ inl (one, more) | inr long ↦ inr (λ short. long short.1) ]
     ]
 
 -- whether the tokens of a line keep the limits
-pub within_limits : (line : List ℕ) (ts : List TokenData) → IsWithinLimits line ts ⊎ (IsWithinLimits line ts → ⊥)
+pub within_limits : (line : List ℕ) (ts : List TokenData) → IsWithinLimits line ts
+    ⊎ (IsWithinLimits line ts → ⊥)
 within_limits line ts =
     elim (cases_lt 4096 (length line)) [
       | inl long ↦ inr (λ within. omega (arith, within.bytes))

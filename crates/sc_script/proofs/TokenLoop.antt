@@ -1,12 +1,12 @@
 -- The tokens of a line, as the code reads them: token by token from the left.
-use Rattle.std.proofs.Common.{◌≡◌, ◌≢◌, ℕ, ◌+◌, ◌-◌, ◌<◌, ◌≤◌, max, Bool, true, false, cond, List, [], ◌∷◌, ◌++◌, length, Option, Some, None, refl, ap, sym, ◌∙◌, subst, arith, append_assoc, append-nil, eqb, Err, Bor}
+use Rattle.std.proofs.Common.{◌≡◌, ◌≢◌, ℕ, ◌<◌, ◌≤◌, max, Bool, true, false, cond, List, [], ◌∷◌, ◌++◌, length, Some, None, refl, ap, sym, ◌∙◌, subst, arith, append_assoc, append-nil, eqb, Err, Bor}
 use Rattle.std.proofs.lemmas.Bool.{false≢true, eqb-true}
 use Rattle.std.proofs.lemmas.Option.{none-some}
 use Rattle.sc_script.proofs.TokenFronts.{token_at_begun, begun_by_read, BeginsWith-shorter}
 use Rattle.sc_script.proofs.TokenLemmas.{HasTokens-unique, tokens_exist}
 use Rattle.sc_script.specs.Lines.{IsKept}
 use Rattle.sc_script.specs.Parsing.{EndsEarly, IsTokensFault, AreTokensOf}
-use Rattle.sc_script.specs.Tokens.{TokenData, opening, closing, equals, int_token, text_token, word_token, sign_token, is_blank, BeginsWith, HasTokens, at_end, at_no_token, behind_blank, behind_token, depth_of, IsShort, AreShort, IsWithinLimits}
+use Rattle.sc_script.specs.Tokens.{TokenData, opening, closing, equals, int_token, text_token, word_token, sign_token, is_blank, HasTokens, at_end, at_no_token, behind_blank, behind_token, depth_of, IsShort, AreShort, IsWithinLimits}
 use Rattle.sc_script.specs.TokenReading.{token_at, without_blanks, begins_with_blank, depth_after, IsShortFront, IsFaultOf, Finds, front_of}
 use Rattle.sc_script.specs.declared.tokens.Token.{Token}
 use Rattle.sc_script.specs.declared.faults.FaultKind.{FaultKind}
@@ -15,16 +15,19 @@ use Rattle.sc_script.specs.declared.faults.LineError.{LineError}
 use Rattle.sc_script.specs.declared.faults.LineError.TheVariants as line_errors
 
 -- blanks before tokens
-has_behind_blanks : (line rest : List ℕ) (tokens : List TokenData) → HasTokens (without_blanks line) tokens rest → HasTokens line tokens rest
+has_behind_blanks : (line rest : List ℕ) (tokens : List TokenData)
+    → HasTokens (without_blanks line) tokens rest → HasTokens line tokens rest
 has_behind_blanks [] rest tokens has = has
 has_behind_blanks (c ∷ cs) rest tokens has = go (is_blank c) refl (has_behind_blanks cs rest tokens)
   where
-    go : (b : Bool) → is_blank c ≡ b → (HasTokens (without_blanks cs) tokens rest → HasTokens cs tokens rest)
+    go : (b : Bool) → is_blank c ≡ b
+        → (HasTokens (without_blanks cs) tokens rest → HasTokens cs tokens rest)
         → HasTokens (c ∷ cs) tokens rest
     go true blank later =
         behind_blank c cs rest tokens blank
         (later (subst (λ b. HasTokens (cond b (without_blanks cs) (c ∷ cs)) tokens rest) blank has))
-    go false plain later = subst (λ b. HasTokens (cond b (without_blanks cs) (c ∷ cs)) tokens rest) plain has
+    go false plain later =
+        subst (λ b. HasTokens (cond b (without_blanks cs) (c ∷ cs)) tokens rest) plain has
 
 no_blank_left : (line : List ℕ) → begins_with_blank (without_blanks line) ≡ false
 no_blank_left [] = refl
@@ -66,18 +69,23 @@ short_behind [] us all = all
 short_behind (t ∷ ts) us all = short_behind ts us all.1
 
 -- the line up to the bytes that are left is these tokens, which keep the limits and lead so deep
-pub record IsReadTo (line : List ℕ) (tokens : List TokenData) (inside : ℕ) (left : List ℕ) : Type 0 where
-  pub has : (more : List TokenData) (rest : List ℕ) → HasTokens left more rest → HasTokens line (tokens ++ more) rest
-  pub reaches : (more : List TokenData) → depth_of inside more ≤ depth_of 0 (tokens ++ more)
-  pub nested : (more : List TokenData) → depth_of inside more ≤ 32 → depth_of 0 (tokens ++ more) ≤ 32
-  pub shallow : inside ≤ 32
-  pub short : AreShort tokens
-  pub bytes : length line ≤ 4096
-  pub starts : begins_with_blank left ≡ false
+pub record IsReadTo (line : List ℕ) (tokens : List TokenData) (inside : ℕ) (left : List ℕ) : Type 0
+  where
+    pub has : (more : List TokenData) (rest : List ℕ) → HasTokens left more rest
+        → HasTokens line (tokens ++ more) rest
+    pub reaches : (more : List TokenData) → depth_of inside more ≤ depth_of 0 (tokens ++ more)
+    pub nested : (more : List TokenData) → depth_of inside more ≤ 32
+        → depth_of 0 (tokens ++ more) ≤ 32
+    pub shallow : inside ≤ 32
+    pub short : AreShort tokens
+    pub bytes : length line ≤ 4096
+    pub starts : begins_with_blank left ≡ false
 
-pub read_nothing_yet : (line left : List ℕ) → left ≡ without_blanks line → length line ≤ 4096 → IsReadTo line [] 0 left
+pub read_nothing_yet : (line left : List ℕ) → left ≡ without_blanks line → length line ≤ 4096
+    → IsReadTo line [] 0 left
 read_nothing_yet line left is bytes = record {
-  has = λ more rest has. has_behind_blanks line rest more (subst (λ l. HasTokens l more rest) is has);
+  has = λ more rest has. has_behind_blanks line rest more
+      (subst (λ l. HasTokens l more rest) is has);
   reaches = λ more. omega arith;
   nested = λ more within. within;
   shallow = omega arith;
@@ -87,33 +95,37 @@ read_nothing_yet line left is bytes = record {
 }
 
 pub read_token : (line : List ℕ) (tokens : List TokenData) (inside : ℕ) (left : List ℕ)
-    (token : TokenData) (after next : List ℕ) (deeper : ℕ) → IsReadTo line tokens inside left → token_at left ≡ Some (token, after)
+    (token : TokenData) (after next : List ℕ) (deeper : ℕ) → IsReadTo line tokens inside left
+    → token_at left ≡ Some (token, after)
     → IsShort token → deeper ≡ depth_after inside token → deeper ≤ 32 → next ≡ without_blanks after
     → IsReadTo line (tokens ++ token ∷ []) deeper next
-read_token line tokens inside left token after next deeper before read short deeper_is within next_is = record {
-  has = λ more rest has.
-      subst (λ ts. HasTokens line ts rest) (sym (append_assoc tokens (token ∷ []) more))
-      (before.has (token ∷ more) rest (behind_token left after rest token more (begun_by_read left token after read)
-      (has_behind_blanks after rest more (subst (λ l. HasTokens l more rest) next_is has))));
-  reaches = λ more.
-      (let cons = depth_of-cons inside token more in
-      let whole = ap (depth_of 0) (append_assoc tokens (token ∷ []) more) in
-      let same = ap (λ d. depth_of d more) deeper_is in
-      omega (arith, cons, whole, same, before.reaches (token ∷ more)));
-  nested = λ more enough.
-      (let cons = depth_of-cons inside token more in
-      let whole = ap (depth_of 0) (append_assoc tokens (token ∷ []) more) in
-      let same = ap (λ d. depth_of d more) deeper_is in
-      let later : depth_of inside (token ∷ more) ≤ 32 = omega (arith, cons, same, before.shallow) in
-      omega (arith, whole, before.nested (token ∷ more) later));
-  shallow = within;
-  short = AreShort-append tokens (token ∷ []) before.short (short, tt);
-  bytes = before.bytes;
-  starts = ap begins_with_blank next_is ∙ no_blank_left after;
-}
+read_token line tokens inside left token after next deeper before read short deeper_is within
+    next_is = record {
+      has = λ more rest has.
+          subst (λ ts. HasTokens line ts rest) (sym (append_assoc tokens (token ∷ []) more))
+          (before.has (token ∷ more) rest
+          (behind_token left after rest token more (begun_by_read left token after read)
+          (has_behind_blanks after rest more (subst (λ l. HasTokens l more rest) next_is has))));
+      reaches = λ more.
+          (let cons = depth_of-cons inside token more in
+          let whole = ap (depth_of 0) (append_assoc tokens (token ∷ []) more) in
+          let same = ap (λ d. depth_of d more) deeper_is in
+          omega (arith, cons, whole, same, before.reaches (token ∷ more)));
+      nested = λ more enough.
+          (let cons = depth_of-cons inside token more in
+          let whole = ap (depth_of 0) (append_assoc tokens (token ∷ []) more) in
+          let same = ap (λ d. depth_of d more) deeper_is in
+          let later : depth_of inside (token ∷ more) ≤ 32 = omega (arith, cons, same, before.shallow) in
+          omega (arith, whole, before.nested (token ∷ more) later));
+      shallow = within;
+      short = AreShort-append tokens (token ∷ []) before.short (short, tt);
+      bytes = before.bytes;
+      starts = ap begins_with_blank next_is ∙ no_blank_left after;
+    }
 
 -- at the end the tokens are those of the line
-pub read_all : (line : List ℕ) (tokens : List TokenData) (inside : ℕ) (left : List ℕ) → IsReadTo line tokens inside left
+pub read_all : (line : List ℕ) (tokens : List TokenData) (inside : ℕ) (left : List ℕ)
+    → IsReadTo line tokens inside left
     → left ≡ [] → HasTokens line tokens [] × IsWithinLimits line tokens
 read_all line tokens inside left before is =
     let P : List TokenData → Type 0 = λ ts. HasTokens line ts [] × IsWithinLimits line ts in
@@ -127,7 +139,8 @@ read_all line tokens inside left before is =
     )
 
 -- a line with a token next keeps the limits only where its tokens do, that one among them
-kept_tokens : (line : List ℕ) (tokens : List TokenData) (inside : ℕ) (left : List ℕ) (token : TokenData) (after : List ℕ)
+kept_tokens : (line : List ℕ) (tokens : List TokenData) (inside : ℕ) (left : List ℕ)
+    (token : TokenData) (after : List ℕ)
     → IsReadTo line tokens inside left → token_at left ≡ Some (token, after) → IsKept line
     → (more : List TokenData) × IsWithinLimits line (tokens ++ token ∷ more)
 kept_tokens line tokens inside left token after before read kept =
@@ -139,22 +152,35 @@ kept_tokens line tokens inside left token after before read kept =
 pub too_long : (line : List ℕ) → 4096 < length line → IsKept line → ⊥
 too_long line long kept = omega (arith, kept.within.bytes)
 
-pub too_deep : (line : List ℕ) (tokens : List TokenData) (inside : ℕ) (left : List ℕ) (token : TokenData) (after : List ℕ) (deeper : ℕ)
-    → IsReadTo line tokens inside left → token_at left ≡ Some (token, after) → deeper ≡ depth_after inside token → 32 < deeper
+pub too_deep : (line : List ℕ) (tokens : List TokenData) (inside : ℕ) (left : List ℕ)
+    (token : TokenData) (after : List ℕ) (deeper : ℕ)
+    → IsReadTo line tokens inside left → token_at left ≡ Some (token, after)
+    → deeper ≡ depth_after inside token → 32 < deeper
     → IsKept line → ⊥
 too_deep line tokens inside left token after deeper before read deeper_is deep kept =
     let all = kept_tokens line tokens inside left token after before read kept in
     let cons = depth_of-cons inside token all.0 in
-    omega (arith, cons, deeper_is, all.1.nested, before.reaches (token ∷ all.0), depth_of-above (depth_after inside token) all.0)
+    omega (
+      arith,
+      cons,
+      deeper_is,
+      all.1.nested,
+      before.reaches (token ∷ all.0),
+      depth_of-above
+          (depth_after inside token) all.0,
+    )
 
-not_short : (line : List ℕ) (tokens : List TokenData) (inside : ℕ) (left : List ℕ) (token : TokenData) (after : List ℕ)
-    → IsReadTo line tokens inside left → token_at left ≡ Some (token, after) → (IsShort token → ⊥) → IsKept line → ⊥
+not_short : (line : List ℕ) (tokens : List TokenData) (inside : ℕ) (left : List ℕ)
+    (token : TokenData) (after : List ℕ)
+    → IsReadTo line tokens inside left → token_at left ≡ Some (token, after) → (IsShort token → ⊥)
+    → IsKept line → ⊥
 not_short line tokens inside left token after before read long kept =
     let all = kept_tokens line tokens inside left token after before read kept in
     long (short_behind tokens (token ∷ all.0) all.1.short).0
 
 -- where no token stands the tokens so far are all, and the line is longer
-no_token : (line : List ℕ) (tokens : List TokenData) (inside : ℕ) (left : List ℕ) → IsReadTo line tokens inside left
+no_token : (line : List ℕ) (tokens : List TokenData) (inside : ℕ) (left : List ℕ)
+    → IsReadTo line tokens inside left
     → left ≢ [] → token_at left ≡ None → EndsEarly line
 no_token line tokens inside [] before some none = absurd (some refl)
 no_token line tokens inside (c ∷ cs) before some none = record {
@@ -162,7 +188,8 @@ no_token line tokens inside (c ∷ cs) before some none = record {
   rest = c ∷ cs;
   has = subst (λ ts. HasTokens line ts (c ∷ cs)) (append-nil tokens)
       (before.has [] (c ∷ cs) (at_no_token c cs before.starts
-      (λ token after begins. none-some (token, after) (sym none ∙ token_at_begun (c ∷ cs) token after begins))));
+      (λ token after begins. none-some (token, after)
+      (sym none ∙ token_at_begun (c ∷ cs) token after begins))));
   within = subst (IsWithinLimits line) (append-nil tokens) (record {
     bytes = before.bytes;
     nested = before.nested [] before.shallow;
@@ -172,20 +199,26 @@ no_token line tokens inside (c ∷ cs) before some none = record {
 }
 
 -- the fault of a token is that of the line
-pub refused : (line : List ℕ) (tokens : List TokenData) (inside : ℕ) (left : List ℕ) (kind : FaultKind)
-    → IsReadTo line tokens inside left → left ≢ [] → IsFaultOf IsShortFront kind (token_at left) → IsTokensFault line kind
+pub refused : (line : List ℕ) (tokens : List TokenData) (inside : ℕ) (left : List ℕ)
+    (kind : FaultKind)
+    → IsReadTo line tokens inside left → left ≢ [] → IsFaultOf IsShortFront kind (token_at left)
+    → IsTokensFault line kind
 refused line tokens inside left NotText before some fault = fault
 refused line tokens inside left Limit before some fault =
     not_short line tokens inside left fault.0.0 fault.0.1 before fault.1 fault.2
-refused line tokens inside left Syntax before some fault = no_token line tokens inside left before some fault
+refused line tokens inside left Syntax before some fault =
+    no_token line tokens inside left before some fault
 refused line tokens inside left UnknownName before some fault = fault
 refused line tokens inside left Twice before some fault = fault
 refused line tokens inside left IllTyped before some fault = fault
 
-pub refused_by : (error : LineError) (line : List ℕ) (tokens : List TokenData) (inside : ℕ) (left : List ℕ)
-    → IsReadTo line tokens inside left → left ≢ [] → Finds {X = Token × Bor (List ℕ)} front_of IsShortFront (Err error) (token_at left)
+pub refused_by : (error : LineError) (line : List ℕ) (tokens : List TokenData) (inside : ℕ)
+    (left : List ℕ)
+    → IsReadTo line tokens inside left → left ≢ []
+    → Finds {X = Token × Bor (List ℕ)} front_of IsShortFront (Err error) (token_at left)
     → AreTokensOf line (Err error)
-refused_by (line_errors.Fault kind) line tokens inside left before some fault = refused line tokens inside left kind before some fault
+refused_by (line_errors.Fault kind) line tokens inside left before some fault =
+    refused line tokens inside left kind before some fault
 refused_by line_errors.OutOfMemory line tokens inside left before some fault = tt
 
 -- whether bytes are left
@@ -206,7 +239,14 @@ length-without_blanks (c ∷ cs) = go (is_blank c) refl (length-without_blanks c
     go true blank later = rw blank (omega (arith, later))
     go false plain later = rw plain (omega arith)
 
-pub fewer_left : (left : List ℕ) (token : TokenData) (after next : List ℕ) → token_at left ≡ Some (token, after)
+pub fewer_left : (left : List ℕ) (token : TokenData) (after next : List ℕ)
+    → token_at left ≡ Some (token, after)
     → next ≡ without_blanks after → length next < length left
 fewer_left left token after next read is =
-    omega (arith, ap length is, length-without_blanks after, BeginsWith-shorter left token after (begun_by_read left token after read))
+    omega (
+      arith,
+      ap length is,
+      length-without_blanks after,
+      BeginsWith-shorter left token after
+          (begun_by_read left token after read),
+    )

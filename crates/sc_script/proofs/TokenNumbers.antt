@@ -1,5 +1,5 @@
 -- Numbers, as they are written and as they are read.
-use Rattle.std.proofs.Common.{◌≡◌, ℕ, ◌<◌, Bool, true, false, cond, not, eqb, ◌&&◌, List, [], ◌∷◌, length, ℤ, pos, neg_ℤ, refl, ap, sym, ◌∙◌, subst, inl, inr, arith, eqb-true}
+use Rattle.std.proofs.Common.{◌≡◌, ℕ, ◌<◌, Bool, true, false, eqb, List, [], ◌∷◌, ℤ, pos, refl, sym, ◌∙◌, subst, inl, inr, arith, eqb-true}
 use Rattle.std.proofs.lemmas.Bool.{and_from, and_left, false≢true}
 use Rattle.std.proofs.lemmas.Bool.Decides.{nat_tests}
 use Rattle.std.specs.Char.{is_ascii_digit, digit_value}
@@ -8,7 +8,7 @@ use Rattle.std.specs.Str.Parse.{AllDigits, IsNumeral, digits_value, signed_digit
 use Rattle.sc_script.proofs.TokenPieces.{has_no_end, digits_have_no_end}
 use Rattle.sc_script.proofs.TokenTools.{list_all-cons}
 use Rattle.sc_script.specs.Tokens.{SpellsInt, is_word_start}
-use Rattle.sc_script.specs.TokenReading.{is_digits, is_number, is_word, without_minus}
+use Rattle.sc_script.specs.TokenReading.{is_digits, is_number, is_word}
 
 -- a byte is a digit where its value is below ten
 digit_below : (c : ℕ) → is_ascii_digit c ≡ true → digit_value c < 10
@@ -27,7 +27,8 @@ all_from_digits (c ∷ cs) all =
 digits_from_all : (ds : List ℕ) → AllDigits 10 ds → list_all is_ascii_digit ds ≡ true
 digits_from_all [] all = refl
 digits_from_all (c ∷ cs) all =
-    and_from (is_ascii_digit c) (list_all is_ascii_digit cs) (below_digit c all.0) (digits_from_all cs all.1)
+    and_from (is_ascii_digit c) (list_all is_ascii_digit cs) (below_digit c all.0)
+    (digits_from_all cs all.1)
 
 numeral_from_digits : (ds : List ℕ) → is_digits ds ≡ true → IsNumeral 10 ds
 numeral_from_digits [] is = absurd (false≢true is)
@@ -59,7 +60,8 @@ value_plain c cs is =
     rw (minus, plus) refl
 
 -- bytes that pass as a number spell their value
-pub number_spells : (spelling : List ℕ) → is_number spelling ≡ true → SpellsInt spelling (signed_digits_value 10 spelling)
+pub number_spells : (spelling : List ℕ) → is_number spelling ≡ true
+    → SpellsInt spelling (signed_digits_value 10 spelling)
 number_spells [] is = absurd (false≢true is)
 number_spells (c ∷ cs) is = go (eqb c 45) refl
   where
@@ -75,14 +77,16 @@ number_spells (c ∷ cs) is = go (eqb c 45) refl
         inl (numeral_from_digits (c ∷ cs) digits, value_plain c cs first.0)
 
 -- and behind a sign they are a numeral
-pub numeral_behind_sign : (spelling : List ℕ) → is_number spelling ≡ true → IsNumeral 10 (without_leading_sign spelling)
+pub numeral_behind_sign : (spelling : List ℕ) → is_number spelling ≡ true
+    → IsNumeral 10 (without_leading_sign spelling)
 numeral_behind_sign [] is = absurd (false≢true is)
 numeral_behind_sign (c ∷ cs) is = go (eqb c 45) refl
   where
     go : (b : Bool) → eqb c 45 ≡ b → IsNumeral 10 (without_leading_sign (c ∷ cs))
     go true e =
         let digits : is_digits cs ≡ true = rw e at is in
-        subst (λ (d : ℕ). IsNumeral 10 (without_leading_sign (d ∷ cs))) (sym (eqb-true c 45 e)) (numeral_from_digits cs digits)
+        subst (λ (d : ℕ). IsNumeral 10 (without_leading_sign (d ∷ cs))) (sym (eqb-true c 45 e))
+        (numeral_from_digits cs digits)
     go false e =
         let digits : is_digits (c ∷ cs) ≡ true = rw e at is in
         let first = list_all-cons is_ascii_digit c cs digits in
@@ -94,7 +98,8 @@ pub record IsReadNumber (spelling : List ℕ) (n : ℤ) : Type 0 where
   pub is : is_number spelling ≡ true
   pub value : signed_digits_value 10 spelling ≡ n
 
-plain_number : (spelling : List ℕ) (n : ℤ) → is_digits spelling ≡ true → n ≡ pos (digits_value 10 spelling)
+plain_number : (spelling : List ℕ) (n : ℤ) → is_digits spelling ≡ true
+    → n ≡ pos (digits_value 10 spelling)
     → IsReadNumber spelling n
 plain_number [] n digits value = absurd (false≢true digits)
 plain_number (c ∷ cs) n digits value =
@@ -103,7 +108,8 @@ plain_number (c ∷ cs) n digits value =
     record { is = rw minus digits; value = value_plain c cs first.0 ∙ sym value }
 
 pub spelled_number : (spelling : List ℕ) (n : ℤ) → SpellsInt spelling n → IsReadNumber spelling n
-spelled_number spelling n (inl plain) = plain_number spelling n (digits_from_numeral spelling plain.0) plain.1
+spelled_number spelling n (inl plain) =
+    plain_number spelling n (digits_from_numeral spelling plain.0) plain.1
 spelled_number spelling n (inr negative) =
     subst (λ s. IsReadNumber s n) (sym negative.1)
     (record { is = digits_from_numeral negative.0 negative.2; value = sym negative.3 })
@@ -120,7 +126,8 @@ digits_piece c cs digits =
     record {
       whole = digits_have_no_end (c ∷ cs) digits;
       no_word = and_left (is_word_start c) _ (not_word c first.0);
-      no_quote = λ d ds is. let same : c ≡ d = cc in subst (λ (b : ℕ). eqb b 34 ≡ false) same (not_quote c first.0);
+      no_quote = λ d ds is. let same : c ≡ d = cc in
+          subst (λ (b : ℕ). eqb b 34 ≡ false) same (not_quote c first.0);
     }
 
 minus_piece : (cs : List ℕ) → is_digits cs ≡ true → IsNumberPiece (45 ∷ cs)

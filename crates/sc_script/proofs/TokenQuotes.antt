@@ -1,5 +1,5 @@
 -- A text in quotes, as the code reads it: piece by piece from the left.
-use Rattle.std.proofs.Common.{◌≡◌, ℕ, suc, ◌+◌, ◌<◌, ◌≤◌, Bool, true, false, cond, not, eqb, ◌||◌, List, [], ◌∷◌, ◌++◌, length, take, drop, get_or, Option, Some, None, option_map, refl, ap, sym, ◌∙◌, subst, ◌⊎◌, inl, inr, arith, append_assoc, append-nil, one-add}
+use Rattle.std.proofs.Common.{◌≡◌, ℕ, suc, ◌+◌, ◌<◌, ◌≤◌, Bool, true, false, cond, not, eqb, List, [], ◌∷◌, ◌++◌, length, take, drop, get_or, Option, Some, None, option_map, refl, ap, sym, ◌∙◌, subst, ◌⊎◌, inl, inr, arith, append_assoc, append-nil, one-add}
 use Rattle.std.proofs.lemmas.Bool.{or_parts, or_cases, eqb-true, cases_lt, cond-true, cond-false}
 use Rattle.std.proofs.lemmas.Bool.Decides.{nat_tests}
 use Rattle.std.proofs.lemmas.List.Sums.{passes_at_first, prefix_len-le-length}
@@ -34,9 +34,11 @@ record SplitsAtMark (bytes : List ℕ) (n : ℕ) : Type 0 where
 
 at_mark : (bytes : List ℕ) → IsMarked bytes → SplitsAtMark bytes 0
 at_mark [] marked = record { reads = refl; marked = tt }
-at_mark (c ∷ cs) marked = record { reads = sym (with_front-nil (text_at false (c ∷ cs))); marked = marked }
+at_mark (c ∷ cs) marked =
+    record { reads = sym (with_front-nil (text_at false (c ∷ cs))); marked = marked }
 
-past_plain : (c : ℕ) (cs : List ℕ) (n : ℕ) → is_mark c ≡ false → SplitsAtMark cs n → SplitsAtMark (c ∷ cs) (suc n)
+past_plain : (c : ℕ) (cs : List ℕ) (n : ℕ) → is_mark c ≡ false → SplitsAtMark cs n
+    → SplitsAtMark (c ∷ cs) (suc n)
 past_plain c cs n plain split =
     let parts = or_parts (eqb c 34) (eqb c 92) plain in
     record {
@@ -54,11 +56,13 @@ splits_at_mark (c ∷ cs) = go (is_mark c) refl (splits_at_mark cs)
     go : (b : Bool) → is_mark c ≡ b → SplitsAtMark cs (position_or_len is_mark cs)
         → SplitsAtMark (c ∷ cs) (cond (not (is_mark c)) (1 + position_or_len is_mark cs) 0)
     go true mark later =
-        subst (SplitsAtMark (c ∷ cs)) (sym (ap (λ b. cond (not b) (1 + position_or_len is_mark cs) 0) mark))
+        subst (SplitsAtMark (c ∷ cs))
+        (sym (ap (λ b. cond (not b) (1 + position_or_len is_mark cs) 0) mark))
         (at_mark (c ∷ cs) mark)
     go false mark later =
         subst (SplitsAtMark (c ∷ cs))
-        (sym (one-add (position_or_len is_mark cs)) ∙ sym (ap (λ b. cond (not b) (1 + position_or_len is_mark cs) 0) mark))
+        (sym (one-add (position_or_len is_mark cs))
+        ∙ sym (ap (λ b. cond (not b) (1 + position_or_len is_mark cs) 0) mark))
         (past_plain c cs (position_or_len is_mark cs) mark later)
 
 -- what a quote or a backslash begins, as it is read
@@ -109,7 +113,8 @@ mark_begins (c ∷ cs) marked = go (or_cases (eqb c 34) (eqb c 92) marked)
           reads = cond-true (eqb c 34) _ _ quote;
         })
     go (inr backslash) =
-        subst (λ (d : ℕ). Begins (d ∷ cs) (mark_at (d ∷ cs))) (sym (eqb-true c 92 backslash)) (escape_begins cs)
+        subst (λ (d : ℕ). Begins (d ∷ cs) (mark_at (d ∷ cs))) (sym (eqb-true c 92 backslash))
+        (escape_begins cs)
 
 -- the line is read up to the bytes that are left, as this text
 pub record IsReadText (line text left : List ℕ) : Type 0 where
@@ -141,12 +146,17 @@ pub record IsFound (line now marked : List ℕ) (found : Option Mark) : Type 0 w
   pub begins : Begins marked found
   pub utf8 : IsUtf8 marked
 
-pub found_at_mark : (line text left plain now marked left_bytes bytes : List ℕ) (n : ℕ) (found : Option Mark)
-    → left_bytes ≡ left → n ≡ position_or_len is_mark left_bytes → plain ≡ take n left → marked ≡ drop n left
-    → now ≡ text ++ plain → bytes ≡ marked → IsUtf8 bytes → found ≡ mark_at bytes → IsReadText line text left
+pub found_at_mark : (line text left plain now marked left_bytes bytes : List ℕ) (n : ℕ)
+    (found : Option Mark)
+    → left_bytes ≡ left → n ≡ position_or_len is_mark left_bytes → plain ≡ take n left
+    → marked ≡ drop n left
+    → now ≡ text ++ plain → bytes ≡ marked → IsUtf8 bytes → found ≡ mark_at bytes
+    → IsReadText line text left
     → IsFound line now marked found
-found_at_mark line text left plain now marked left_bytes bytes n found left_is n_is plain_is marked_is now_is is utf8 found_is before =
-    let read = read_plain line text left plain now marked n (n_is ∙ ap (position_or_len is_mark) left_is) plain_is marked_is now_is before in
+found_at_mark line text left plain now marked left_bytes bytes n found left_is n_is plain_is
+    marked_is now_is is utf8 found_is before =
+    let read = read_plain line text left plain now marked n
+    (n_is ∙ ap (position_or_len is_mark) left_is) plain_is marked_is now_is before in
     record {
       read = read.0;
       begins = subst (Begins marked) (sym (found_is ∙ ap mark_at is)) (mark_begins marked read.1);
@@ -154,7 +164,8 @@ found_at_mark line text left plain now marked left_bytes bytes n found left_is n
     }
 
 -- where a text may be cut: before the first byte of some ASCII bytes
-pub boundary_at_first : (test : ℕ → Bool) → ((c : ℕ) → test c ≡ true → c < 128) → (bytes : List ℕ) (n : ℕ)
+pub boundary_at_first : (test : ℕ → Bool) → ((c : ℕ) → test c ≡ true → c < 128)
+    → (bytes : List ℕ) (n : ℕ)
     → n ≡ position_or_len test bytes → IsCharBoundary bytes n
 boundary_at_first test ascii bytes n is = go (cases_lt n (length bytes))
   where
@@ -164,7 +175,8 @@ boundary_at_first test ascii bytes n is = go (cases_lt n (length bytes))
         ap (λ i. test (get_or bytes i 0)) is ∙ passes_at_first test bytes 0 (omega (arith, is)) in
         IsCharBoundary-before_ascii bytes n within (ascii (get_or bytes n 0) at_first)
     go (inr past) =
-        let whole : length bytes ≡ n = omega (arith, is, prefix_len-le-length (λ c. not (test c)) bytes) in
+        let whole : length bytes ≡ n =
+        omega (arith, is, prefix_len-le-length (λ c. not (test c)) bytes) in
         subst (IsCharBoundary bytes) whole (IsCharBoundary-end bytes)
 
 pub mark_is_ascii : (c : ℕ) → is_mark c ≡ true → c < 128
@@ -174,7 +186,8 @@ mark_is_ascii c mark = grind (arith, nat_tests)
 pub read_quote : (line text left : List ℕ) → IsReadText line text left → EndsText left
     → text_at false line ≡ Some (text, drop 1 left)
 read_quote line text left before ends =
-    sym before.read ∙ ap (with_front text) ends.reads ∙ ap (λ (t : List ℕ). Some (t, drop 1 left)) (append-nil text)
+    sym before.read ∙ ap (with_front text) ends.reads
+    ∙ ap (λ (t : List ℕ). Some (t, drop 1 left)) (append-nil text)
 
 pub read_escape : (line text left : List ℕ) (d : ℕ) → IsReadText line text left → IsEscape left d
     → IsReadText line (text ++ d ∷ []) (drop 2 left)
@@ -186,5 +199,6 @@ read_escape line text left d before escape = record {
 }
 
 -- where neither stands there is no text
-pub read_none : (line text left : List ℕ) → IsReadText line text left → text_at false left ≡ None → text_at false line ≡ None
+pub read_none : (line text left : List ℕ) → IsReadText line text left → text_at false left ≡ None
+    → text_at false line ≡ None
 read_none line text left before none = sym before.read ∙ ap (with_front text) none

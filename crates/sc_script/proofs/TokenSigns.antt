@@ -1,6 +1,6 @@
 -- Signs, as they are listed and as they are tested.
 use Rattle.std.proofs.Common.{◌≡◌, ℕ, Bool, true, false, not, eqb, ◌&&◌, List, [], ◌∷◌, Contains, Decides, refl, sym}
-use Rattle.std.proofs.lemmas.Bool.{and_parts, not-true, false≢true}
+use Rattle.std.proofs.lemmas.Bool.{and_parts, not-true}
 use Rattle.std.proofs.lemmas.Bool.Decides.{Decides-by_or, Decides-like}
 use Rattle.std.proofs.lemmas.List.Elements.{All-contains, Decides-contains}
 use Rattle.std.proofs.lemmas.List.Sums.{AllPass-from_list_all}
@@ -16,7 +16,8 @@ pub Decides-is_sign : (spelling : List ℕ) → Decides (is_sign spelling) (Cont
 Decides-is_sign spelling =
     Decides-contains signs spelling (is_sign spelling)
     (Decides-by_or (bytes_eq spelling) (λ s. s ≡ spelling) (list_any (bytes_eq spelling))
-    (λ s. Decides-like (bytes_eq spelling s) sym sym (bytes_decides spelling s)) refl (λ _ _. refl) signs)
+    (λ s. Decides-like (bytes_eq spelling s) sym sym (bytes_decides spelling s)) refl (λ _ _. refl)
+    signs)
 
 -- bytes that begin with no quote and end no token
 abbrev pub is_piece : List ℕ → Bool
@@ -40,7 +41,8 @@ all_neither = refl
 sign_neither : (spelling : List ℕ) → is_neither spelling ≡ true → IsSignPiece spelling
 unfolding is_neither
 sign_neither spelling is =
-    let outer = and_parts (is_piece spelling) (not (is_word spelling) && not (is_number spelling)) is in
+    let outer = and_parts (is_piece spelling) (not (is_word spelling) && not (is_number spelling))
+    is in
     let inner = and_parts (not (is_word spelling)) (not (is_number spelling)) outer.1 in
     record {
       piece = outer.0;

@@ -1,6 +1,6 @@
 -- Tests of bytes as the code makes them.
-use Rattle.std.proofs.Common.{◌≡◌, ℕ, ◌+◌, ◌-◌, ◌<◌, ◌≤◌, Bool, true, false, cond, not, eqb, ltb, ◌&&◌, ◌||◌, List, [], ◌∷◌, length, take, drop, get_or, Option, Some, None, unwrap_or, ◌⊎◌, inl, inr, refl, ap, sym, ◌∙◌, arith, take_all, le-ltb}
-use Rattle.std.proofs.lemmas.Bool.{cases_Bool, ltb-false, cond-false, cond-true, false≢true, true≢false}
+use Rattle.std.proofs.Common.{◌≡◌, ℕ, ◌-◌, ◌≤◌, Bool, true, false, cond, not, eqb, ltb, ◌&&◌, List, [], ◌∷◌, length, take, drop, get_or, Option, Some, None, unwrap_or, ◌⊎◌, inl, inr, refl, ap, sym, ◌∙◌, arith, take_all}
+use Rattle.std.proofs.lemmas.Bool.{cases_Bool, ltb-false, cond-false, cond-true, true≢false}
 use Rattle.std.proofs.lemmas.List.Sums.{prefix_len-le-length}
 use Rattle.std.specs.Char.{is_ascii_digit}
 use Rattle.std.specs.List.{list_all, position_or_len}
@@ -8,12 +8,14 @@ use Rattle.sc_script.specs.Tokens.{is_word_start, is_word_byte}
 use Rattle.sc_script.specs.TokenReading.{is_digits, is_word}
 
 -- where there is a byte, digits are told by all bytes
-pub is_digits_of_some : (bytes : List ℕ) → eqb (length bytes) 0 ≡ false → list_all is_ascii_digit bytes ≡ is_digits bytes
+pub is_digits_of_some : (bytes : List ℕ) → eqb (length bytes) 0 ≡ false
+    → list_all is_ascii_digit bytes ≡ is_digits bytes
 is_digits_of_some [] some = absurd (true≢false some)
 is_digits_of_some (c ∷ cs) some = refl
 
 -- behind a byte that begins a word, a word is told by the bytes that follow
-pub is_word_of_some : (bytes rest : List ℕ) → 1 ≤ length bytes → is_word_start (get_or bytes 0 0) ≡ true
+pub is_word_of_some : (bytes rest : List ℕ) → 1 ≤ length bytes
+    → is_word_start (get_or bytes 0 0) ≡ true
     → rest ≡ take (length bytes - 1) (drop 1 bytes) → list_all is_word_byte rest ≡ is_word bytes
 is_word_of_some [] rest some start is = absurd (omega arith)
 is_word_of_some (c ∷ cs) rest some start is =
@@ -22,11 +24,14 @@ is_word_of_some (c ∷ cs) rest some start is =
 
 -- the first place that passes, or else the length, is one number
 pub position_or_length : (test : ℕ → Bool) (bytes : List ℕ) (found : Option ℕ)
-    → found ≡ cond (ltb (position_or_len test bytes) (length bytes)) (Some (position_or_len test bytes)) None
+    → found ≡ cond (ltb (position_or_len test bytes) (length bytes))
+    (Some (position_or_len test bytes)) None
     → unwrap_or found (length bytes) ≡ position_or_len test bytes
-position_or_length test bytes found is = at (cases_Bool (ltb (position_or_len test bytes) (length bytes)))
+position_or_length test bytes found is =
+    at (cases_Bool (ltb (position_or_len test bytes) (length bytes)))
   where
-    at : (ltb (position_or_len test bytes) (length bytes) ≡ true) ⊎ (ltb (position_or_len test bytes) (length bytes) ≡ false)
+    at : (ltb (position_or_len test bytes) (length bytes) ≡ true)
+        ⊎ (ltb (position_or_len test bytes) (length bytes) ≡ false)
         → unwrap_or found (length bytes) ≡ position_or_len test bytes
     at (inl within) = ap (λ o. unwrap_or o (length bytes)) (is ∙ cond-true _ _ _ within)
     at (inr past) =

@@ -1,5 +1,5 @@
 -- A text in quotes, as it is written and as it is read.
-use Rattle.std.proofs.Common.{◌≡◌, ◌≢◌, ℕ, Bool, true, false, cond, eqb, List, [], ◌∷◌, ◌++◌, Option, Some, None, refl, ap, sym, ◌∙◌, subst, ◌⊎◌, inl, inr, arith, ne_eqb, eqb-true}
+use Rattle.std.proofs.Common.{◌≡◌, ℕ, Bool, true, false, cond, eqb, List, [], ◌∷◌, ◌++◌, Option, Some, None, refl, ap, sym, ◌∙◌, subst, ◌⊎◌, inl, inr, ne_eqb, eqb-true}
 use Rattle.std.proofs.lemmas.Bool.{eqb-false}
 use Rattle.std.proofs.lemmas.Option.{none-some, some_pair_parts}
 use Rattle.sc_script.proofs.TokenTools.{chosen, with_front_some}
@@ -30,7 +30,8 @@ with_backslash true bytes = 92 ∷ bytes
 
 -- at the quote
 at_quote : (c : ℕ) (cs text after : List ℕ) → eqb c 34 ≡ true
-    → ◌≡◌ {A = Option (List ℕ × List ℕ)} (Some ([], cs)) (Some (text, after)) → IsText (c ∷ cs) text after
+    → ◌≡◌ {A = Option (List ℕ × List ℕ)} (Some ([], cs)) (Some (text, after))
+    → IsText (c ∷ cs) text after
 at_quote c cs text after quote e =
     let parts = some_pair_parts [] text cs after e in
     let is : c ≡ 34 = eqb-true c 34 quote in
@@ -56,11 +57,13 @@ at_escape : (c d : ℕ) (cs text after : List ℕ) → escaped_byte c ≡ Some d
 at_escape c d cs text after stands inner is rest = record {
   inner = 92 ∷ c ∷ rest.inner;
   is = ap (λ bytes. 92 ∷ c ∷ bytes) rest.is;
-  spells = subst (SpellsText (92 ∷ c ∷ rest.inner)) (sym is) (escape c d rest.inner inner stands rest.spells);
+  spells = subst (SpellsText (92 ∷ c ∷ rest.inner)) (sym is)
+      (escape c d rest.inner inner stands rest.spells);
 }
 
 -- what is read as a text is spelled so
-pub text_spelled : (escaped : Bool) (bytes text after : List ℕ) → text_at escaped bytes ≡ Some (text, after)
+pub text_spelled : (escaped : Bool) (bytes text after : List ℕ)
+    → text_at escaped bytes ≡ Some (text, after)
     → IsText (with_backslash escaped bytes) text after
 text_spelled false [] text after e = absurd (none-some (text, after) e)
 text_spelled true [] text after e = absurd (none-some (text, after) e)
@@ -82,13 +85,16 @@ text_spelled false (c ∷ cs) text after e =
 
     go : (text_at true cs ≡ Some (text, after) → IsText (92 ∷ cs) text after)
         → ((t a : List ℕ) → text_at false cs ≡ Some (t, a) → IsText cs t a)
-        → ((eqb c 34 ≡ true) × (◌≡◌ {A = Option (List ℕ × List ℕ)} (Some ([], cs)) (Some (text, after))))
+        → ((eqb c 34 ≡ true) ×
+        (◌≡◌ {A = Option (List ℕ × List ℕ)} (Some ([], cs)) (Some (text, after))))
         ⊎ ((eqb c 34 ≡ false)
-        × (cond (eqb c 92) (text_at true cs) (with_front (c ∷ []) (text_at false cs)) ≡ Some (text, after)))
+        × (cond (eqb c 92) (text_at true cs) (with_front (c ∷ []) (text_at false cs)) ≡ Some
+        (text, after)))
         → IsText (c ∷ cs) text after
     go by_backslash by_rest (inl p) = at_quote c cs text after p.0 p.1
     go by_backslash by_rest (inr p) =
-        behind by_backslash by_rest p.0 (chosen (eqb c 92) (text_at true cs) _ (Some (text, after)) p.1)
+        behind by_backslash by_rest p.0
+        (chosen (eqb c 92) (text_at true cs) _ (Some (text, after)) p.1)
 text_spelled true (c ∷ cs) text after e = go (escaped_byte c) refl (text_spelled false cs) e
   where
     go : (d : Option ℕ) → escaped_byte c ≡ d

@@ -1,12 +1,12 @@
 -- What is read from the tokens of arguments, and which tokens were read.
-use Rattle.std.proofs.Common.{◌≡◌, Bool, true, false, cond, List, [], ◌∷◌, ◌++◌, Option, Some, None, refl, ap, sym, ◌∙◌, subst}
+use Rattle.std.proofs.Common.{◌≡◌, Bool, true, false, List, [], ◌∷◌, ◌++◌, Some, refl, ap, sym, ◌∙◌, subst}
 use Rattle.std.proofs.lemmas.List.{append-nil, append_assoc}
 use Rattle.std.proofs.lemmas.Option.{option_and_then_some, same_Some}
 use Rattle.std.specs.Option.{option_and_then}
 use Rattle.sc_script.specs.Tokens.{TokenData, opening, closing, equals, int_token, text_token, word_token, sign_token}
 use Rattle.sc_script.specs.Trees.{HeadData, word_head, sign_head, ArgData, int_arg, text_arg, word_arg, list_arg, ArgsData, no_args, more_args, token_of_head, tokens_of_arg, tokens_of_args}
 use Rattle.sc_script.specs.Views.{args_of}
-use Rattle.sc_script.specs.FormReading.{OpenData, ReadingData, nothing_read, with_arg, with_parenthesis, with_head, list_closed, head_read, arg_read, token_read, tokens_read, all_closed, args_at_end, args_from}
+use Rattle.sc_script.specs.FormReading.{OpenData, ReadingData, nothing_read, head_read, arg_read, token_read, tokens_read, args_at_end, args_from}
 
 -- the tokens of lists that aren't closed
 abbrev pub tokens_of_open : List OpenData → List TokenData

@@ -15,8 +15,7 @@ pub record OpenData : Type 0 where
   pub head : HeadData
   pub before : List ArgData
 
--- what the tokens so far leave: the lists that aren't closed, the innermost first; the arguments of
--- the innermost; and whether a parenthesis has been opened whose head comes next
+-- the lists left open, the innermost first; its arguments; whether a parenthesis awaits its head
 pub record ReadingData : Type 0 where
   pub open_lists : List OpenData
   pub args : List ArgData

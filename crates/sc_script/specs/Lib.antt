@@ -3,6 +3,7 @@ pub mod TokenReading
 pub mod Trees
 pub mod FormReading
 pub mod Statements
+pub mod TableReading
 pub mod ShapeReading
 pub mod Shaping
 pub mod Lines

@@ -1,5 +1,5 @@
 -- What the reading of a line's shape answers.
-use Rattle.std.specs.Prelude.{ℕ, List, Result, Ok, Err, box_value}
+use Rattle.std.specs.Prelude.{Result, Ok, Err, box_value}
 use Rattle.sc_script.specs.declared.faults.FaultKind.{FaultKind}
 use Rattle.sc_script.specs.declared.faults.FaultKind.TheVariants.{NotText, Limit, Syntax, UnknownName, Twice, IllTyped}
 use Rattle.sc_script.specs.declared.faults.LineError.{LineError}

@@ -1,11 +1,11 @@
 -- The tokens of a line as they are read from the left: functions on lists, which the laws on tokens
 -- tie to what a line's tokens are.
-use Rattle.std.specs.Prelude.{ℕ, ◌+◌, ◌-◌, ◌≤◌, ◌≡◌, ℤ, Bool, true, false, ◌==◌, ◌&&◌, ◌||◌, not, List, [], ◌∷◌, ◌++◌, length, map, IsTrue, Option, Some, None, option_map, if◌then◌else◌, Result, Ok, Err}
+use Rattle.std.specs.Prelude.{ℕ, ◌+◌, ◌-◌, ◌≡◌, Bool, true, false, ◌==◌, ◌&&◌, ◌||◌, List, [], ◌∷◌, ◌++◌, Option, Some, None, option_map, if◌then◌else◌, Result, Ok, Err}
 use Rattle.std.specs.Char.{is_ascii_digit}
 use Rattle.std.specs.List.{list_all, list_any}
 use Rattle.std.specs.Str.{bytes_eq}
 use Rattle.std.specs.Str.Parse.{signed_digits_value}
-use Rattle.sc_script.specs.Tokens.{TokenData, opening, closing, equals, int_token, text_token, word_token, sign_token, is_blank, is_word_start, is_word_byte, signs, escaped_byte, ends_token, ends_equals, IsShort, depth_of, AreShort, HasTokens}
+use Rattle.sc_script.specs.Tokens.{TokenData, opening, closing, equals, int_token, text_token, word_token, sign_token, is_blank, is_word_start, is_word_byte, signs, escaped_byte, ends_token, ends_equals, IsShort}
 use Rattle.sc_script.specs.declared.faults.FaultKind.{FaultKind}
 use Rattle.sc_script.specs.declared.faults.FaultKind.TheVariants.{NotText, Limit, Syntax, UnknownName, Twice, IllTyped}
 use Rattle.std.specs.Borrow.{Bor}
@@ -77,8 +77,8 @@ token_of_piece spelling after =
 
 -- the token that the line's first piece writes, and the bytes after the piece
 unfoldable pub piece_at : List ℕ → Option (TokenData × List ℕ)
-piece_at line =
-    option_map (λ t. (t, after_piece line)) (token_of_piece (piece_of line) (after_piece line))
+piece_at line = option_map (λ t. (t, after_piece line))
+    (token_of_piece (piece_of line) (after_piece line))
 
 -- a quote or a backslash, which don't stand for themselves in a text
 abbrev pub is_mark : ℕ → Bool
@@ -104,8 +104,7 @@ abbrev pub with_escaped : Option ℕ → Option (List ℕ × List ℕ) → Optio
 with_escaped None read = None
 with_escaped (Some c) read = with_front (c ∷ []) read
 
--- the text up to its closing quote, and the bytes after the quote; whether a backslash stands
--- before
+-- the text up to its closing quote, and the bytes after it; whether a backslash stands before
 abbrev pub text_at : Bool → List ℕ → Option (List ℕ × List ℕ)
 text_at escaped [] = None
 text_at false (c ∷ cs) =

@@ -16,6 +16,7 @@ mod literals;
 mod naming;
 mod parsing;
 mod shapes;
+mod tables;
 mod tokens;
 mod trees;
 

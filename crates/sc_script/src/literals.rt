@@ -1,11 +1,12 @@
 //! Pieces of a line: words, numbers and signs, and texts in quotes.
 #![tactic(auto)]
 
-ghost use Rattle.std.specs.Prelude.{◌≡◌, ◌++◌, ℕ, List, length, true, false, Some, FitsSigned};
+ghost use Rattle.std.specs.Prelude.{◌≡◌, true, false, Some, FitsSigned};
 ghost use Rattle.std.specs.Int.{w64};
 ghost use Rattle.std.specs.List.{position_or_len};
 ghost use Rattle.std.specs.Str.Parse.{signed_digits_value};
-ghost use Rattle.sc_script.specs.TokenReading.{Finds, is_mark, mark_at, is_digits, is_number, is_word, is_sign, piece_of, text_at};
+ghost use Rattle.sc_script.specs.TokenReading.{Finds, is_mark, mark_at, text_at};
+ghost use Rattle.sc_script.specs.TokenReading.{is_digits, is_number, is_word, is_sign};
 ghost use Rattle.sc_script.specs.Tokens.{escaped_byte, is_word_start, is_word_byte, is_blank};
 
 use crate::faults::{FaultKind, LineError};

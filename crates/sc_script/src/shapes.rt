@@ -3,13 +3,16 @@
 
 ghost use Rattle.std.specs.Prelude.{◌≡◌, map, Some};
 ghost use Rattle.sc_script.specs.FormReading.{Reads};
-ghost use Rattle.sc_script.specs.ShapeReading.{named_operation, named_action, named_head, all_heads_known, words_known, one_arg, two_args, text_from, int_from, word_from, is_input_name, raw_from, text_shape, map_shape, collect_shape, shape_from};
+ghost use Rattle.sc_script.specs.ShapeReading.{one_arg, two_args, text_from, int_from, word_from, is_input_name, raw_from, text_shape, map_shape, collect_shape, shape_from};
 ghost use Rattle.sc_script.specs.Shaping.{raw_data_of, statement_data_of, IsStatementOf};
 ghost use Rattle.sc_script.specs.Statements.{raw_binary};
-ghost use Rattle.sc_script.specs.Views.{head_data_of, args_of, arg_data_of, form_data_of};
+ghost use Rattle.sc_script.specs.Views.{args_of, arg_data_of, form_data_of};
 
 use crate::faults::{FaultKind, LineError};
-use crate::trees::{Arg, Form, Head};
+use crate::tables::{
+    ActionName, Operation, action_named, head_named, knows_words, operation_named,
+};
+use crate::trees::{Arg, Form};
 use sc_expr::BinaryHead;
 use sc_value::Text;
 use std::alloc::Global;
@@ -36,81 +39,6 @@ pub enum Statement {
     Map(Text, Text, Raw),
     /// The name of the node whose rows are printed.
     Collect(Text),
-}
-
-/// What a definition may be by.
-#[derive(Clone, Copy)]
-enum Operation {
-    Text,
-    Map,
-}
-
-/// What an action may be.
-#[derive(Clone, Copy)]
-enum ActionName {
-    Collect,
-}
-
-/// The operation of this name.
-fn operation_named(word: &str) -> Option<Operation>
-    ensures { result ≡ named_operation word.now }
-{
-    match word {
-        "text" => Some(Operation::Text),
-        "map" => Some(Operation::Map),
-        _ => None,
-    }
-}
-
-/// The action of this name.
-fn action_named(word: &str) -> Option<ActionName>
-    ensures { result ≡ named_action word.now }
-{
-    match word {
-        "collect" => Some(ActionName::Collect),
-        _ => None,
-    }
-}
-
-/// The head that is written so.
-fn head_named(head: &Head) -> Option<BinaryHead>
-    ensures { result ≡ named_head (head_data_of head.now) }
-{
-    match head {
-        Head::Word(word) => match word.as_str() {
-            "concat" => Some(BinaryHead::Concat),
-            _ => None,
-        },
-        Head::Sign(_) => None,
-    }
-}
-
-/// Whether each head in the arguments is known.
-fn knows_all_heads(args: &[Arg]) -> bool
-    ensures { result ≡ all_heads_known (args_of (map arg_data_of args.now)) }
-{
-    for arg in args {
-        if let Arg::List(head, inner) = arg {
-            if head_named(head).is_none() || !knows_all_heads(inner) {
-                return false;
-            }
-        }
-    }
-    true
-}
-
-/// Whether the operation or the action, and each head, is known.
-fn knows_words(form: &Form) -> bool
-    ensures { result ≡ words_known (form_data_of form.now) }
-{
-    match form {
-        Form::Definition(_, operation, args) => {
-            operation_named(operation.as_str()).is_some() && knows_all_heads(args)
-        }
-        Form::Action(action, args) => {
-            action_named(action.as_str()).is_some() && knows_all_heads(args)
-        }
-    }
 }
 
 /// The argument, where it is one.

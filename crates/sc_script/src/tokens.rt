@@ -4,7 +4,9 @@
 ghost use Rattle.std.specs.Prelude.{◌≡◌, ◌≤◌, map, not, false};
 ghost use Rattle.std.specs.List.{position_or_len};
 ghost use Rattle.sc_script.specs.Tokens.{ends_token, ends_equals, is_blank, IsShort};
-ghost use Rattle.sc_script.specs.TokenReading.{Finds, depth_after, front_of, is_token_end, IsShortFront, piece_at, text_at, text_token_of, token_at, token_of_piece, without_blanks};
+ghost use Rattle.sc_script.specs.TokenReading.{Finds, IsShortFront, front_of, depth_after};
+ghost use Rattle.sc_script.specs.TokenReading.{is_token_end, piece_at, text_at, text_token_of};
+ghost use Rattle.sc_script.specs.TokenReading.{token_at, token_of_piece, without_blanks};
 ghost use Rattle.sc_script.specs.Views.{token_data_of};
 ghost use Rattle.sc_script.specs.Parsing.{AreTokensOf};
 

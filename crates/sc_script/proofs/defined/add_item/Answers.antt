@@ -1,4 +1,4 @@
-use Rattle.std.proofs.Common.{◌≡◌, ◌∙◌, ◌<◌, ◌≤◌, sym, inl, inr, arith}
+use Rattle.std.proofs.Common.{◌∙◌, ◌≤◌, sym, inl, inr, arith}
 use Rattle.std.proofs.lemmas.Bool.{cases_lt, true≢false}
 use Rattle.sc_value.specs.Types.{type_size}
 use Rattle.sc_value.specs.Views.{type_data_of}

@@ -1,4 +1,4 @@
-use Rattle.std.proofs.Common.{◌≡◌, map}
+use Rattle.std.proofs.Common.{map}
 use Rattle.std.proofs.lemmas.Result.{err_from_is_err_and}
 use Rattle.sc_script.specs.Views.{token_data_of, form_data_of}
 use Rattle.sc_script.proofs.LineFaults.{no_tokens, no_form, stated}

@@ -1,4 +1,4 @@
-use Rattle.std.proofs.Common.{◌∙◌, Err, ap, arith}
+use Rattle.std.proofs.Common.{Err, ap}
 use Rattle.sc_script.proofs.ScriptLines.{few_lines, too_many, not_text, fault_in_lines, script_in_lines}
 use Rattle.sc_script.proofs.parsing.parse.Goals as goal
 

@@ -1,4 +1,4 @@
-use Rattle.std.proofs.Common.{take, arith}
+use Rattle.std.proofs.Common.{take}
 use Rattle.sc_script.specs.Defining.{so_far_of}
 use Rattle.sc_script.proofs.ScriptLines.{added_none, added_more, even_so_far, stopped}
 use Rattle.sc_script.proofs.parsing.script_of.Goals as goal

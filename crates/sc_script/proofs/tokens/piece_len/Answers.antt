@@ -10,4 +10,5 @@ returns c =
     let line = c.args.line.now in
     c.unwrap_or.ensures
     ∙ position_or_length is_token_end line c.position.result
-    (position_from_yields_List is_token_end _ _ c.position.result c.position.ensures.ran (YieldsList-from_slice line cc) (λ x b q k. search (rules, tests)))
+    (position_from_yields_List is_token_end _ _ c.position.result c.position.ensures.ran
+    (YieldsList-from_slice line cc) (λ x b q k. search (rules, tests)))

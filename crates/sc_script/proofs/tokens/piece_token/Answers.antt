@@ -16,13 +16,17 @@ split_at-requires c =
 pub returns-in_err-token_of_piece : goal.returns-in_err-token_of_piece
 returns-in_err-token_of_piece c =
     let line = c.args.line.now in
-    let cut = cut_piece line _ _ _ _ c.as_bytes.ensures.value c.piece_len.ensures c.split_at.ensures.front c.split_at.ensures.back in
+    let cut = cut_piece line _ _ _ _ c.as_bytes.ensures.value c.piece_len.ensures
+    c.split_at.ensures.front c.split_at.ensures.back in
     let error = err_from_is_err_and c.from_residual.result c.from_residual.ensures.1 in
-    rw (error.1, error.2) (piece_refused c.in_err-token_of_piece.field-0.0 line _ _ cut.0 cut.1 c.in_err-token_of_piece.ensures)
+    rw (error.1, error.2)
+    (piece_refused c.in_err-token_of_piece.field-0.0 line _ _ cut.0 cut.1
+    c.in_err-token_of_piece.ensures)
 
 pub returns : goal.returns
 returns c =
     let line = c.args.line.now in
-    let cut = cut_piece line _ _ _ _ c.as_bytes.ensures.value c.piece_len.ensures c.split_at.ensures.front c.split_at.ensures.back in
+    let cut = cut_piece line _ _ _ _ c.as_bytes.ensures.value c.piece_len.ensures
+    c.split_at.ensures.front c.split_at.ensures.back in
     let found = c.in_ok-token_of_piece.ensures in
     (piece_at-read line _ _ _ cut.0 cut.1 found.0, found.1)

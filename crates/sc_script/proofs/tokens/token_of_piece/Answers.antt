@@ -7,5 +7,6 @@ use Rattle.sc_script.proofs.tokens.token_of_piece.Goals as goal
 pub returns-then-piece-gt-MAX_WORD_BYTES : goal.returns-then-piece-gt-MAX_WORD_BYTES
 returns-then-piece-gt-MAX_WORD_BYTES c =
     let piece = c.args.piece.now in
-    let word : is_word piece ≡ true = sym (ap is_word c.as_bytes.ensures.value) ∙ sym c.is_word.ensures ∙ c.if-is_word.true in
+    let word : is_word piece ≡ true =
+    sym (ap is_word c.as_bytes.ensures.value) ∙ sym c.is_word.ensures ∙ c.if-is_word.true in
     (word_token piece, piece_is_word piece c.args.after.now word, λ short. omega arith)

@@ -1,7 +1,7 @@
 use Rattle.std.proofs.Common.{ap, sym, ◌∙◌, map}
 use Rattle.std.proofs.lemmas.List.{map_push}
 use Rattle.std.proofs.lemmas.Result.{err_from_is_err_and}
-use Rattle.sc_script.proofs.TokenLoop.{IsReadTo, read_nothing_yet, read_token, read_all, too_deep, refused_by, none_left, some_left, fewer_left}
+use Rattle.sc_script.proofs.TokenLoop.{read_nothing_yet, read_token, read_all, too_deep, refused_by, none_left, some_left, fewer_left}
 use Rattle.sc_script.specs.Views.{token_data_of}
 use Rattle.sc_script.proofs.tokens.tokens_of.Goals as goal
 
@@ -9,7 +9,8 @@ pub loop-rest-init : goal.loop-rest-init
 loop-rest-init c = (
   c.skip_blanks-rest.utf8,
   rw c.new-tokens.ensures.items
-      (read_nothing_yet c.args.line.now _ c.skip_blanks-rest.ensures c.if-line-gt-MAX_LINE_BYTES.false),
+      (read_nothing_yet c.args.line.now _ c.skip_blanks-rest.ensures
+      c.if-line-gt-MAX_LINE_BYTES.false),
 )
 
 pub returns-in_err-token : goal.returns-in_err-token
@@ -18,7 +19,8 @@ returns-in_err-token c =
     let error = err_from_is_err_and c.from_residual.result c.from_residual.ensures.1 in
     let some = some_left left (sym c.is_empty.ensures ∙ c.loop-rest-test.true) in
     rw (error.1, error.2)
-    (refused_by c.in_err-token.field-0.0 c.args.line.now _ c.loop-rest.inside left c.loop-rest.invariant.1 some c.in_err-token.ensures)
+    (refused_by c.in_err-token.field-0.0 c.args.line.now _ c.loop-rest.inside left
+    c.loop-rest.invariant.1 some c.in_err-token.ensures)
 
 pub returns-then-inside-gt-MAX_DEPTH : goal.returns-then-inside-gt-MAX_DEPTH
 returns-then-inside-gt-MAX_DEPTH c =
@@ -31,17 +33,21 @@ pub loop-rest-smaller : goal.loop-rest-smaller
 loop-rest-smaller c =
     let left = c.loop-rest.rest.now in
     let read = c.in_ok-token.ensures in
-    fewer_left left _ _ c.skip_blanks-rest-in-loop-rest.result.now read.0 c.skip_blanks-rest-in-loop-rest.ensures
+    fewer_left left _ _ c.skip_blanks-rest-in-loop-rest.result.now read.0
+    c.skip_blanks-rest-in-loop-rest.ensures
 
 pub loop-rest-preserved : goal.loop-rest-preserved
 loop-rest-preserved c =
     let left = c.loop-rest.rest.now in
     let read = c.in_ok-token.ensures in
-    let tokens = ap (map token_data_of) c.in_ok-push.ensures.items ∙ map_push token_data_of c.loop-rest.tokens.items c.in_ok-token.token in (
+    let tokens = ap (map token_data_of) c.in_ok-push.ensures.items
+    ∙ map_push token_data_of c.loop-rest.tokens.items c.in_ok-token.token in (
       c.skip_blanks-rest-in-loop-rest.utf8,
       rw tokens
-          (read_token c.args.line.now _ c.loop-rest.inside left _ _ _ _ c.loop-rest.invariant.1 read.0 read.1
-          c.depth_after-inside.ensures c.if-inside-gt-MAX_DEPTH.false c.skip_blanks-rest-in-loop-rest.ensures),
+          (read_token c.args.line.now _ c.loop-rest.inside left _ _ _ _ c.loop-rest.invariant.1
+          read.0 read.1
+          c.depth_after-inside.ensures c.if-inside-gt-MAX_DEPTH.false
+          c.skip_blanks-rest-in-loop-rest.ensures),
     )
 
 pub returns : goal.returns

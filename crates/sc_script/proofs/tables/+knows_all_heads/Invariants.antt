@@ -1,7 +1,7 @@
 use Rattle.std.proofs.Common.{◌≡◌, map, drop}
-use Rattle.sc_script.specs.ShapeReading.{all_heads_known}
+use Rattle.sc_script.specs.TableReading.{all_heads_known}
 use Rattle.sc_script.specs.Views.{args_of, arg_data_of}
-use Rattle.sc_script.proofs.shapes.+knows_all_heads.Given as goal
+use Rattle.sc_script.proofs.tables.+knows_all_heads.Given as goal
 
 abbrev pub invariant-loop-arg : goal.invariant-loop-arg
 invariant-loop-arg l =
