@@ -9,7 +9,7 @@ use Rattle.sc_expr.specs.ExprData.{ExprData}
 use Rattle.sc_expr.specs.Views.{expr_data_of}
 use Rattle.sc_expr.specs.declared.exprs.Expr.{Expr}
 use Rattle.sc_expr.specs.declared.exprs.Variable.{Variable}
-use Rattle.sc_lineage.specs.ScriptData.{NodeData, ScriptData, ReadsBefore, NamesCount, node_of_action, partition_limit}
+use Rattle.sc_lineage.specs.ScriptData.{NodeData, ReadsBefore, NamesCount, node_of_action, partition_limit}
 use Rattle.sc_lineage.specs.Views.{node_data_of}
 use Rattle.sc_script.specs.declared.defined.Defined.{Defined}
 use Rattle.sc_script.specs.declared.naming.Item.{Item}
@@ -31,8 +31,7 @@ abbrev pub so_far_of : Defined → SoFar
 so_far_of d = record {
   names = d.names.items;
   types = map type_data_of d.types.items;
-  script =
-      d.script;
+  script = d.script;
 }
 
 -- each node has a name and a type, and there are at most 256

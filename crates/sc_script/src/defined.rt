@@ -1,8 +1,7 @@
 //! What the lines so far have defined, and how an item is added to it.
 #![tactic(auto)]
 
-ghost use Rattle.std.specs.Prelude.{◌≡◌, ◌+◌, ◌<◌, ◌≤◌, ◌↔◌, IsTrue, MatchOption, OnOk, length};
-ghost use Rattle.sc_value.specs.Types.{type_size};
+ghost use Rattle.std.specs.Prelude.{◌≡◌, OnOk, length};
 ghost use Rattle.sc_value.specs.Views.{type_data_of};
 ghost use Rattle.sc_expr.specs.Views.{expr_data_of};
 ghost use Rattle.sc_lineage.specs.ScriptData.{ReadsBefore, NamesCount, partition_limit};
@@ -18,7 +17,7 @@ use sc_value::{Text, Ty};
 use std::alloc::Global;
 
 /// The most constructors that the type of a node's elements is written with.
-const TYPE_SIZE_LIMIT: u32 = 256;
+const TYPE_SIZE_LIMIT: u64 = 256;
 
 /// What the lines so far have defined: the nodes' names, the types of their elements, and the
 /// script with the nodes and the actions.
@@ -55,7 +54,7 @@ pub(crate) fn add_item(alloc: Global, defined: &mut Defined, item: Item) -> Resu
     match item {
         Item::Node(name, node) => {
             let elements = element_type(alloc, defined, &node)?;
-            if is_large(&elements) {
+            if elements.is_larger_than(TYPE_SIZE_LIMIT) {
                 return Err(LineError::Fault(FaultKind::Limit));
             }
             define(defined, name, node, elements)
@@ -103,30 +102,5 @@ fn type_over(alloc: Global, x: &Ty, expr: &Expr) -> Result<Ty, LineError>
             TypeError::IllTyped => Err(LineError::Fault(FaultKind::IllTyped)),
             TypeError::OutOfMemory => Err(LineError::OutOfMemory),
         },
-    }
-}
-
-/// Whether a type is written with more constructors than the limit.
-fn is_large(ty: &Ty) -> bool
-    ensures { IsTrue result ↔ (256 < type_size (type_data_of ty.now)) }
-{
-    room_behind(ty, TYPE_SIZE_LIMIT).is_none()
-}
-
-/// How much of some room is left behind the constructors of a type, where they fit in it.
-fn room_behind(ty: &Ty, room: u32) -> Option<u32>
-    ensures { MatchOption result (room < type_size (type_data_of ty.now))
-        (λ left. type_size (type_data_of ty.now) + left ≡ room) }
-{
-    let inside = room.checked_sub(1)?;
-    match ty {
-        Ty::Int => Some(inside),
-        Ty::Bool => Some(inside),
-        Ty::Text => Some(inside),
-        Ty::Pair(a, b) => {
-            let behind = room_behind(a, inside)?;
-            room_behind(b, behind)
-        }
-        Ty::List(t) => room_behind(t, inside),
     }
 }

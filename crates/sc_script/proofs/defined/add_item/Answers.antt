@@ -7,21 +7,22 @@ use Rattle.sc_script.specs.Defining.{so_far_of}
 use Rattle.sc_script.proofs.LineTyping.{large_type, node_added}
 use Rattle.sc_script.proofs.defined.add_item.Goals as goal
 
-pub returns-then-is_large : goal.returns-then-is_large
-returns-then-is_large c =
+pub returns-then-is_larger_than : goal.returns-then-is_larger_than
+returns-then-is_larger_than c =
     rw c.in-Node.is (large_type (so_far_of c.args.defined.now) c.in-Node.name
     (node_data_of c.in-Node.node)
     (type_data_of c.in_ok-elements-in-Node.elements) c.in_ok-elements-in-Node.ensures
-    (omega (arith, c.is_large.ensures.0 c.if-is_large.true)))
+    (omega (arith, c.is_larger_than.ensures.0 c.if-is_larger_than.true)))
 
 small : (c : goal.After-define) → type_size (type_data_of c.in_ok-elements-in-Node.elements) ≤ 256
 small c = elim (cases_lt 256 (type_size (type_data_of c.in_ok-elements-in-Node.elements))) [
-  | inl more ↦ absurd (true≢false (sym (c.is_large.ensures.1 more) ∙ c.if-is_large.false))
+  | inl more ↦
+      absurd (true≢false (sym (c.is_larger_than.ensures.1 more) ∙ c.if-is_larger_than.false))
   | inr most ↦ most
 ]
 
-pub returns-else-is_large : goal.returns-else-is_large
-returns-else-is_large c =
+pub returns-else-is_larger_than : goal.returns-else-is_larger_than
+returns-else-is_larger_than c =
     rw c.in-Node.is (node_added (so_far_of c.args.defined.now)
     (so_far_of c.define.new.defined) c.in-Node.name
     (node_data_of c.in-Node.node) (type_data_of c.in_ok-elements-in-Node.elements) c.define.result
