@@ -5,6 +5,7 @@ use Rattle.std.specs.Str.{IsUtf8}
 use Rattle.std.proofs.lemmas.List.{length-map, take_all, map-append, length-append}
 use Rattle.sc_base.specs.Outside.{Files, SourceState, SinkState, IsLaterSource, Outside, outside_of}
 use Rattle.sc_lineage.specs.ScriptData.{ScriptData, WorkData, IsSoundWork, AreTexts, input_names, name_of_input}
+use Rattle.sc_lineage.specs.Laws.{NothingRaises}
 use Rattle.sc_read.specs.declared.reads.Read.{Read}
 use Rattle.sc_read.specs.Reads.{script_read, input_read, IsShown, IsMissing, AreShown, AreFirstInputs}
 use Rattle.sc_read.specs.declared.stops.ReadStop.{ReadStop}
@@ -19,7 +20,7 @@ use Rattle.sc_app.specs.Printing.{PrintsAll, StopsPrinting}
 use Rattle.sc_app.specs.Scripts.{HasReadScript, StopsAtScript}
 use Rattle.sc_app.specs.Ends.{PrintsMeaning, Ends, AreReadsUnder, StopsRun}
 use Rattle.sc_app.specs.Statuses.{status_of_read, status_of_print}
-use Rattle.sc_app.specs.Good.{IsGood, EndsWell}
+use Rattle.sc_app.specs.Good.{IsGood, EndsWell, IsNoRaise}
 use Rattle.sc_app.proofs.PrintLemmas.{Rose-earlier, take-next}
 
 -- ---- after the script's reading stopped
@@ -205,3 +206,16 @@ ends_well words rs before after statuses.WriteFault ends good = good.no_write_fa
 ends_well words rs before after statuses.OutOfMemory ends good = tt
 ends_well words rs before after (statuses.NotText name) ends good =
     ends.no_text (AreTexts-last ends.inputs name ends.bytes (good.texts ends.read.bytes (ends.inputs ++ (name, ends.bytes) ∷ []) ends.read.is))
+
+-- no run ends for a raise, where no action raises
+pub raises_nothing : NothingRaises → (words : List (List ℕ)) (rs : List Read) (before after : Outside) (status : Status)
+    → Ends words rs before after status → IsNoRaise status
+raises_nothing law words rs before after statuses.Done ends = tt
+raises_nothing law words rs before after statuses.Usage ends = tt
+raises_nothing law words rs before after (statuses.Script fault) ends = tt
+raises_nothing law words rs before after (statuses.Input name missing) ends = tt
+raises_nothing law words rs before after (statuses.TaskLimit k a p) ends =
+    let text = law ends.work ends.stops.action in let never = ends.stops.raises in cc
+raises_nothing law words rs before after statuses.WriteFault ends = tt
+raises_nothing law words rs before after statuses.OutOfMemory ends = tt
+raises_nothing law words rs before after (statuses.NotText name) ends = tt

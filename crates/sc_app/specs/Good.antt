@@ -34,3 +34,14 @@ EndsWell (statuses.TaskLimit k attempt partition) = Unit {0}
 EndsWell statuses.WriteFault = ⊥
 EndsWell statuses.OutOfMemory = Unit {0}
 EndsWell (statuses.NotText name) = ⊥
+
+-- the status isn't that of an action without a value
+abbrev pub IsNoRaise : Status → Type 0
+IsNoRaise statuses.Done = Unit {0}
+IsNoRaise statuses.Usage = Unit {0}
+IsNoRaise (statuses.Script fault) = Unit {0}
+IsNoRaise (statuses.Input name missing) = Unit {0}
+IsNoRaise (statuses.TaskLimit k attempt partition) = ⊥
+IsNoRaise statuses.WriteFault = Unit {0}
+IsNoRaise statuses.OutOfMemory = Unit {0}
+IsNoRaise (statuses.NotText name) = Unit {0}

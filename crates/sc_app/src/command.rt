@@ -6,7 +6,7 @@ ghost use Rattle.std.specs.String.{string_bytes};
 ghost use Rattle.sc_base.specs.Outside.{IsLaterSource, outside_of};
 ghost use Rattle.sc_app.specs.Ends.{AreReadsUnder, Ends, PrintsMeaning, StopsRun};
 ghost use Rattle.sc_app.specs.Exactly.{TellsFault, TellsNotText};
-ghost use Rattle.sc_app.specs.Good.{EndsWell, IsGood};
+ghost use Rattle.sc_app.specs.Good.{EndsWell, IsGood, IsNoRaise};
 ghost use Rattle.sc_app.specs.Words.{script_word};
 ghost use Rattle.sc_app.specs.Works.{AreReads};
 
@@ -15,6 +15,7 @@ use crate::ran::{Ran, Status};
 use crate::scripts::read_script;
 use crate::words::find_script;
 use sc_input::Source;
+use sc_lineage::nothing_raises;
 use sc_read::{Read, read_work};
 use sc_script::scripts_have_one_reading;
 use sc_sink::Sink;
@@ -68,11 +69,15 @@ pub fn run<R, S: Source, K: Sink>(
     // An input that was read and isn't text is told by its name, unless memory runs out.
     ensures text_exactly { TellsNotText result.read.items result.status }
 
+    // Today no expression raises, so no action is without a value.
+    ensures no_raise { IsNoRaise result.status }
+
     // With nothing to refuse the run is done, unless memory runs out or an action has no value.
     ensures good { IsGood (map string_bytes words.now) result.read.items
         (outside_of (S.state source.old) (K.state sink.old))
         (outside_of (S.state source.new) (K.state sink.new)) → EndsWell result.status }
 {
+    nothing_raises();
     scripts_have_one_reading();
     let mut read = Vec::new(alloc);
     let status = run_words(alloc, words, source, sink, &mut read);
