@@ -8,8 +8,9 @@ PROGRAM := crates/spark_run/out/spark_run
 run: $(PROGRAM)
 	cd examples/first_path && ../../$(PROGRAM) run job.spark
 
+# `rt run` proves, builds and runs it; run without words it ends with 2, as it must.
 $(PROGRAM):
-	cd crates/spark_run && rt run >/dev/null
+	cd crates/spark_run && (rt run >/dev/null 2>&1 || test -x out/spark_run)
 
 # The whole gate: proofs, must-fail edits, tests, programs.
 test:

@@ -3,24 +3,14 @@
 //! Nothing is written for such a script, and no input is read.
 #![tactic(auto)]
 
-use crate::given::{Row, Seen};
-use sc_script::FaultKind::{self, IllTyped, Limit, NotText, Syntax, Twice, UnknownName};
+use crate::claims::{assert_refused, assert_refused_bytes};
+use sc_script::FaultKind::{IllTyped, Limit, NotText, Syntax, Twice, UnknownName};
 use sc_script::ScriptFault;
-use std::process::Abort;
-use std::test::Fail;
-
-/// Sees that a script was refused for this fault, and nothing else was done.
-pub fn assert_refused(rt: &impl Abort, seen: &Seen, line: u32, kind: FaultKind, case: &str) {
-    assert_eq!(rt; seen.fault(), Some(ScriptFault { line, kind }), "{case}");
-    assert_eq!(rt; seen.number(), 3, "{case}");
-    assert_eq!(rt; seen.text(), "", "{case}");
-    assert_eq!(rt; seen.asked(), "job.spark", "{case}");
-    assert_eq!(rt; seen.reads(), 1, "{case}");
-}
+use std::alloc::AllocError;
 
 // A line is a definition or an action; its words, and then its arguments, are those of the tables.
 #[test]
-fn lines_of_another_form(rt: HostRuntime) -> Result<(), Fail> {
+fn lines_of_another_form(rt: HostRuntime) -> Result<(), AllocError> {
     let cases = [
         ("l = text \"a", 1, Syntax),
         ("l =", 1, Syntax),
@@ -48,14 +38,13 @@ fn lines_of_another_form(rt: HostRuntime) -> Result<(), Fail> {
         ("l = text \"in.txt\" 1\nm = map l (\"a\" x)", 2, Syntax),
     ];
     for (script, line, kind) in cases {
-        let seen = Row::of(rt.alloc(), script)?.file("in.txt", "b\n")?.run(&rt);
-        assert_refused(&rt, &seen, line, kind, script);
+        assert_refused(&rt, script, line, kind)?;
     }
     Ok(())
 }
 
 #[test]
-fn words_of_no_table(rt: HostRuntime) -> Result<(), Fail> {
+fn words_of_no_table(rt: HostRuntime) -> Result<(), AllocError> {
     let cases = [
         ("l", 1, UnknownName),
         ("l = sample 3", 1, UnknownName),
@@ -72,14 +61,13 @@ fn words_of_no_table(rt: HostRuntime) -> Result<(), Fail> {
         ),
     ];
     for (script, line, kind) in cases {
-        let seen = Row::of(rt.alloc(), script)?.file("in.txt", "b\n")?.run(&rt);
-        assert_refused(&rt, &seen, line, kind, script);
+        assert_refused(&rt, script, line, kind)?;
     }
     Ok(())
 }
 
 #[test]
-fn arguments_of_another_number_or_shape(rt: HostRuntime) -> Result<(), Fail> {
+fn arguments_of_another_number_or_shape(rt: HostRuntime) -> Result<(), AllocError> {
     let cases = [
         ("l = text", 1, Syntax),
         ("l = text \"in.txt\"", 1, Syntax),
@@ -101,14 +89,13 @@ fn arguments_of_another_number_or_shape(rt: HostRuntime) -> Result<(), Fail> {
         ("m = map l (concat)", 1, Syntax),
     ];
     for (script, line, kind) in cases {
-        let seen = Row::of(rt.alloc(), script)?.file("in.txt", "b\n")?.run(&rt);
-        assert_refused(&rt, &seen, line, kind, script);
+        assert_refused(&rt, script, line, kind)?;
     }
     Ok(())
 }
 
 #[test]
-fn names_that_are_not_known_or_known_already(rt: HostRuntime) -> Result<(), Fail> {
+fn names_that_are_not_known_or_known_already(rt: HostRuntime) -> Result<(), AllocError> {
     let cases = [
         ("m = map l x", 1, UnknownName),
         ("collect l", 1, UnknownName),
@@ -126,14 +113,13 @@ fn names_that_are_not_known_or_known_already(rt: HostRuntime) -> Result<(), Fail
         ("l = text \"in.txt\" 1\nl = text \"in.txt\" 1", 2, Twice),
     ];
     for (script, line, kind) in cases {
-        let seen = Row::of(rt.alloc(), script)?.file("in.txt", "b\n")?.run(&rt);
-        assert_refused(&rt, &seen, line, kind, script);
+        assert_refused(&rt, script, line, kind)?;
     }
     Ok(())
 }
 
 #[test]
-fn expressions_without_a_type(rt: HostRuntime) -> Result<(), Fail> {
+fn expressions_without_a_type(rt: HostRuntime) -> Result<(), AllocError> {
     let cases = [
         (
             "l = text \"in.txt\" 1\n\nm = map l (concat x 1)",
@@ -153,8 +139,7 @@ fn expressions_without_a_type(rt: HostRuntime) -> Result<(), Fail> {
         ),
     ];
     for (script, line, kind) in cases {
-        let seen = Row::of(rt.alloc(), script)?.file("in.txt", "b\n")?.run(&rt);
-        assert_refused(&rt, &seen, line, kind, script);
+        assert_refused(&rt, script, line, kind)?;
     }
     Ok(())
 }
@@ -162,7 +147,7 @@ fn expressions_without_a_type(rt: HostRuntime) -> Result<(), Fail> {
 // Of the tests that a line fails, the first names the fault: limits of tokens, the form, words of
 // the tables, the arguments, limits of numbers, the name, the names that it uses, the type.
 #[test]
-fn the_first_test_that_fails_names_the_fault(rt: HostRuntime) -> Result<(), Fail> {
+fn the_first_test_that_fails_names_the_fault(rt: HostRuntime) -> Result<(), AllocError> {
     let cases = [
         ("l = sample 9223372036854775808 (", 1, Limit),
         ("l = sample (", 1, Syntax),
@@ -189,15 +174,14 @@ fn the_first_test_that_fails_names_the_fault(rt: HostRuntime) -> Result<(), Fail
         ),
     ];
     for (script, line, kind) in cases {
-        let seen = Row::of(rt.alloc(), script)?.file("in.txt", "b\n")?.run(&rt);
-        assert_refused(&rt, &seen, line, kind, script);
+        assert_refused(&rt, script, line, kind)?;
     }
     Ok(())
 }
 
 // Lines that are skipped count, whatever their ends.
 #[test]
-fn the_line_of_a_fault_is_counted_from_one(rt: HostRuntime) -> Result<(), Fail> {
+fn the_line_of_a_fault_is_counted_from_one(rt: HostRuntime) -> Result<(), AllocError> {
     let cases = [
         ("\n  # of nothing\n\t \nl = sample 3\n", 4, UnknownName),
         ("#\r\n#\rl = sample 3", 3, UnknownName),
@@ -209,18 +193,20 @@ fn the_line_of_a_fault_is_counted_from_one(rt: HostRuntime) -> Result<(), Fail> 
         ),
     ];
     for (script, line, kind) in cases {
-        let seen = Row::of(rt.alloc(), script)?.file("in.txt", "b\n")?.run(&rt);
-        assert_refused(&rt, &seen, line, kind, script);
+        assert_refused(&rt, script, line, kind)?;
     }
     Ok(())
 }
 
 #[test]
-fn bytes_that_are_no_text_are_refused_as_a_whole(rt: HostRuntime) -> Result<(), Fail> {
+fn bytes_that_are_no_text_are_refused_as_a_whole(rt: HostRuntime) -> Result<(), AllocError> {
     let cases: [&[u8]; 3] = [b"\xFF", b"# \xC3\n", b"l = sample 3\n\xFF\n"];
     for script in cases {
-        let seen = Row::of_bytes(rt.alloc(), script)?.run(&rt);
-        assert_refused(&rt, &seen, 0, NotText, "bytes that are no text");
+        let fault = ScriptFault {
+            line: 0,
+            kind: NotText,
+        };
+        assert_refused_bytes(&rt, script, fault)?;
     }
     Ok(())
 }

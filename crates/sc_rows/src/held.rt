@@ -6,6 +6,7 @@ use sc_value::{
     LinesError, Name, Octets, Rows, RowsBuilder, Text, Texts, TextsBuilder, Value, lines, print,
 };
 use std::alloc::{AllocError, Global};
+use std::process::Abort;
 use std::test::Fail;
 
 /// The texts, each with a `|` behind it.
@@ -16,6 +17,17 @@ fn listed(alloc: Global, texts: &Texts) -> Result<String, AllocError> {
         out.push('|')?;
     }
     Ok(out)
+}
+
+/// Sees that texts are these, each with a `|` behind it.
+fn assert_listed<R: Abort + AllocGlobal>(
+    rt: &R,
+    texts: &Texts,
+    want: &str,
+) -> Result<(), AllocError> {
+    assert_eq!(rt; listed(rt.alloc(), texts)?.as_str(), want);
+    assert_eq!(rt; texts.is_empty(), want.is_empty());
+    Ok(())
 }
 
 /// The rows as they are printed, each with a `|` behind it.
@@ -44,7 +56,7 @@ fn lines_end_at_each_line_end(rt: HostRuntime) -> Result<(), Fail> {
     for (bytes, want) in cases {
         let bytes = Octets::copy_of(alloc, bytes.as_bytes())?;
         let texts = lines(alloc, &bytes)?;
-        assert_eq!(rt; listed(alloc, &texts)?.as_str(), want);
+        assert_listed(&rt, &texts, want)?;
     }
     Ok(())
 }
@@ -91,26 +103,33 @@ fn a_copied_name_is_the_same_name(rt: HostRuntime) -> Result<(), Fail> {
     Ok(())
 }
 
-#[test]
-fn texts_are_written_piece_by_piece_and_shared_in_part(rt: HostRuntime) -> Result<(), Fail> {
-    let alloc = rt.alloc();
+/// The texts `b a`, an empty one and `c`, the first in two pieces; what is left open isn't one.
+fn written(alloc: Global) -> Result<Texts, AllocError> {
     let mut builder = TextsBuilder::with_capacity(alloc, 3, 8)?;
     builder.write("b ")?;
     builder.push("a")?;
     builder.end()?;
     builder.push("c")?;
     builder.write("left open")?;
-    let texts = builder.finish(alloc)?;
-    assert_eq!(rt; texts.len(), 3);
-    assert_eq!(rt; listed(alloc, &texts)?.as_str(), "b a||c|");
-    assert_eq!(rt; listed(alloc, &texts.share()?)?.as_str(), "b a||c|");
+    builder.finish(alloc)
+}
 
-    let part = texts.part(1, 3)?;
-    assert_eq!(rt; listed(alloc, &part)?.as_str(), "|c|");
-    let none = texts.part(1, 1)?;
-    assert!(rt; none.is_empty());
-    assert!(rt; TextsBuilder::new(alloc).finish(alloc)?.is_empty());
-    Ok(())
+#[test]
+fn texts_are_written_piece_by_piece(rt: HostRuntime) -> Result<(), AllocError> {
+    let texts = written(rt.alloc())?;
+    assert_listed(&rt, &texts, "b a||c|")?;
+    assert_listed(&rt, &texts.share()?, "b a||c|")?;
+    let none = TextsBuilder::new(rt.alloc()).finish(rt.alloc())?;
+    assert_listed(&rt, &none, "")
+}
+
+#[test]
+fn texts_are_shared_in_part(rt: HostRuntime) -> Result<(), AllocError> {
+    let texts = written(rt.alloc())?;
+    assert_eq!(rt; texts.len(), 3);
+    assert_listed(&rt, &texts.part(1, 3)?, "|c|")?;
+    assert_listed(&rt, &texts.part(0, 1)?, "b a|")?;
+    assert_listed(&rt, &texts.part(3, 3)?, "")
 }
 
 #[test]

@@ -1,9 +1,9 @@
 //! The limits of a script: what just keeps one passes, and what passes it is refused at its line.
 #![tactic(auto)]
 
-use crate::faults::assert_refused;
-use crate::given::Row;
+use crate::claims::{assert_prints, assert_refused, assert_refused_bytes, joined};
 use sc_script::FaultKind::{Limit, NotText};
+use sc_script::ScriptFault;
 use std::alloc::{AllocError, Global};
 use std::test::Fail;
 
@@ -17,148 +17,146 @@ fn repeated(alloc: Global, text: &str, count: usize) -> Result<String, AllocErro
 }
 
 #[test]
-fn counts_of_partitions_are_from_1_to_1024(rt: HostRuntime) -> Result<(), Fail> {
-    for count in ["1", "1024", "0001024"] {
-        let script = format!(in rt.alloc(); "l = text \"in.txt\" {count}\ncollect l\n")?;
-        let seen = Row::of(rt.alloc(), script.as_str())?
-            .file("in.txt", "b\n")?
-            .run(&rt);
-        assert_eq!(rt; seen.told()?.as_str(), "", "{count}");
-        assert_eq!(rt; seen.text(), "b\n", "{count}");
-    }
-    for count in [
-        "0",
-        "-0",
-        "-1",
-        "1025",
-        "9223372036854775807",
-        "-9223372036854775808",
+fn counts_of_partitions_up_to_1024_pass(rt: HostRuntime) -> Result<(), AllocError> {
+    for script in [
+        "l = text \"in.txt\" 1\ncollect l\n",
+        "l = text \"in.txt\" 1024\ncollect l\n",
+        "l = text \"in.txt\" 0001024\ncollect l\n",
     ] {
-        let script = format!(in rt.alloc(); "l = text \"in.txt\" {count}\ncollect l\n")?;
-        let seen = Row::of(rt.alloc(), script.as_str())?
-            .file("in.txt", "b\n")?
-            .run(&rt);
-        assert_refused(&rt, &seen, 1, Limit, count);
+        assert_prints(&rt, script, "b\n", "b\n")?;
     }
     Ok(())
 }
 
 #[test]
-fn numbers_have_64_bits(rt: HostRuntime) -> Result<(), Fail> {
-    let cases = [
-        "9223372036854775808",
-        "-9223372036854775809",
-        "99999999999999999999999999",
+fn other_counts_of_partitions_are_refused(rt: HostRuntime) -> Result<(), AllocError> {
+    for script in [
+        "l = text \"in.txt\" 0",
+        "l = text \"in.txt\" -0",
+        "l = text \"in.txt\" -1",
+        "l = text \"in.txt\" 1025",
+        "l = text \"in.txt\" 9223372036854775807",
+        "l = text \"in.txt\" -9223372036854775808",
+    ] {
+        assert_refused(&rt, script, 1, Limit)?;
+    }
+    Ok(())
+}
+
+#[test]
+fn numbers_have_64_bits(rt: HostRuntime) -> Result<(), AllocError> {
+    for script in [
+        "l = text \"in.txt\" 9223372036854775808",
+        "m = map l 9223372036854775808",
+        "m = map l -9223372036854775809",
+        "m = map l (concat x 99999999999999999999999999)",
+    ] {
+        assert_refused(&rt, script, 1, Limit)?;
+    }
+    Ok(())
+}
+
+#[test]
+fn a_word_has_64_characters_at_most(rt: HostRuntime) -> Result<(), AllocError> {
+    let word = repeated(rt.alloc(), "w", 64)?;
+    let word = word.as_str();
+    let parts = [word, " = text \"in.txt\" 1\ncollect ", word];
+    let script = joined(rt.alloc(), &parts)?;
+    assert_prints(&rt, script.as_str(), "b\n", "b\n")?;
+
+    let parts = ["\nw", word, " = text \"in.txt\" 1\n"];
+    let script = joined(rt.alloc(), &parts)?;
+    assert_refused(&rt, script.as_str(), 2, Limit)
+}
+
+#[test]
+fn parentheses_nest_32_deep(rt: HostRuntime) -> Result<(), AllocError> {
+    let open = repeated(rt.alloc(), "(concat ", 32)?;
+    let close = repeated(rt.alloc(), " \"!\")", 32)?;
+    let parts = [
+        "l = text \"in.txt\" 1\nm = map l ",
+        open.as_str(),
+        "x",
+        close.as_str(),
+        "\ncollect m\n",
     ];
-    for int in cases {
-        let script = format!(in rt.alloc(); "l = text \"in.txt\" 1\nm = map l {int}\n")?;
-        let seen = Row::of(rt.alloc(), script.as_str())?
-            .file("in.txt", "b\n")?
-            .run(&rt);
-        assert_refused(&rt, &seen, 2, Limit, int);
-    }
-    Ok(())
+    let script = joined(rt.alloc(), &parts)?;
+    assert_prints(
+        &rt,
+        script.as_str(),
+        "b\n",
+        "b!!!!!!!!!!!!!!!!!!!!!!!!!!!!!!!!\n",
+    )
 }
 
+// Whatever is wrong with the line besides.
 #[test]
-fn a_word_has_64_characters_at_most(rt: HostRuntime) -> Result<(), Fail> {
-    let alloc = rt.alloc();
-    let word = repeated(alloc, "w", 64)?;
-    let script = format!(in alloc; "{word} = text \"in.txt\" 1\ncollect {word}\n")?;
-    let seen = Row::of(alloc, script.as_str())?
-        .file("in.txt", "b\n")?
-        .run(&rt);
-    assert_eq!(rt; seen.told()?.as_str(), "");
-    assert_eq!(rt; seen.text(), "b\n");
-
-    let script = format!(in alloc; "\n{word}w = text \"in.txt\" 1\n")?;
-    let seen = Row::of(alloc, script.as_str())?
-        .file("in.txt", "b\n")?
-        .run(&rt);
-    assert_refused(&rt, &seen, 2, Limit, "a word of 65 characters");
-    Ok(())
-}
-
-#[test]
-fn parentheses_nest_32_deep_at_most(rt: HostRuntime) -> Result<(), Fail> {
-    let alloc = rt.alloc();
-    let open = repeated(alloc, "(concat ", 32)?;
-    let close = repeated(alloc, " \"!\")", 32)?;
-    let script = format!(in alloc; "l = text \"in.txt\" 1\nm = map l {open}x{close}\ncollect m\n")?;
-    let seen = Row::of(alloc, script.as_str())?
-        .file("in.txt", "b\n")?
-        .run(&rt);
-    assert_eq!(rt; seen.told()?.as_str(), "");
-    assert_eq!(rt; seen.text(), "b!!!!!!!!!!!!!!!!!!!!!!!!!!!!!!!!\n");
-
-    let deep = format!(in alloc;
-        "l = text \"in.txt\" 1\nm = map l (concat {open}x{close} \"!\")\n"
+fn parentheses_nest_32_deep_at_most(rt: HostRuntime) -> Result<(), AllocError> {
+    let open = repeated(rt.alloc(), "(concat ", 33)?;
+    let close = repeated(rt.alloc(), " \"!\")", 33)?;
+    let script = joined(
+        rt.alloc(),
+        &["\nm = map l ", open.as_str(), "x", close.as_str()],
     )?;
-    let seen = Row::of(alloc, deep.as_str())?
-        .file("in.txt", "b\n")?
-        .run(&rt);
-    assert_refused(&rt, &seen, 2, Limit, "33 concats");
+    assert_refused(&rt, script.as_str(), 2, Limit)?;
 
-    let left_open = repeated(alloc, "(", 33)?;
-    let seen = Row::of(alloc, left_open.as_str())?.run(&rt);
-    assert_refused(&rt, &seen, 1, Limit, "33 parentheses that aren't closed");
-    Ok(())
+    let left_open = repeated(rt.alloc(), "(", 33)?;
+    assert_refused(&rt, left_open.as_str(), 1, Limit)
+}
+
+/// A definition with blanks behind it, of 4,096 bytes.
+fn long_line(alloc: Global) -> Result<String, AllocError> {
+    let mut line = String::from_str(alloc, "l = text \"in.txt\" 1")?;
+    for _ in line.len()..4096 {
+        line.push(' ')?;
+    }
+    Ok(line)
 }
 
 // A line that is skipped has no limit but the script's.
 #[test]
-fn a_line_has_4096_bytes_at_most(rt: HostRuntime) -> Result<(), Fail> {
-    let alloc = rt.alloc();
-    let line = "l = text \"in.txt\" 1";
-    let blanks = repeated(alloc, " ", 4096 - line.len())?;
-    let comment = repeated(alloc, "#", 4097)?;
-    let script = format!(in alloc; "{comment}\n {blanks}{line}\n")?;
-    let seen = Row::of(alloc, script.as_str())?
-        .file("in.txt", "b\n")?
-        .run(&rt);
-    assert_refused(&rt, &seen, 2, Limit, "a line of 4,097 bytes");
+fn a_line_of_4096_bytes_passes(rt: HostRuntime) -> Result<(), AllocError> {
+    let comment = repeated(rt.alloc(), "#", 4097)?;
+    let line = long_line(rt.alloc())?;
+    let parts = [comment.as_str(), "\n", line.as_str(), "\ncollect l\n"];
+    let script = joined(rt.alloc(), &parts)?;
+    assert_prints(&rt, script.as_str(), "b\n", "b\n")
+}
 
-    let script = format!(in alloc; "{comment}\n{line}{blanks}\n \t{blanks}{line}\n")?;
-    let seen = Row::of(alloc, script.as_str())?
-        .file("in.txt", "b\n")?
-        .run(&rt);
-    assert_refused(&rt, &seen, 3, Limit, "behind a line of 4,096 bytes");
+#[test]
+fn a_line_of_4097_bytes_is_refused(rt: HostRuntime) -> Result<(), AllocError> {
+    let line = long_line(rt.alloc())?;
+    let script = joined(rt.alloc(), &["\n", line.as_str(), " \n"])?;
+    assert_refused(&rt, script.as_str(), 2, Limit)?;
+    let script = joined(rt.alloc(), &["\n\n\t", line.as_str()])?;
+    assert_refused(&rt, script.as_str(), 3, Limit)
+}
 
-    let script = format!(in alloc; "{comment}\n{line}{blanks}\ncollect l\n")?;
-    let seen = Row::of(alloc, script.as_str())?
-        .file("in.txt", "b\n")?
-        .run(&rt);
-    assert_eq!(rt; seen.told()?.as_str(), "");
-    assert_eq!(rt; seen.text(), "b\n");
-    Ok(())
+#[test]
+fn a_script_of_65536_blanks_passes(rt: HostRuntime) -> Result<(), AllocError> {
+    let blanks = repeated(rt.alloc(), " ", 65_536)?;
+    assert_prints(&rt, blanks.as_str(), "b\n", "")
+}
+
+#[test]
+fn a_script_of_65537_line_ends_is_refused(rt: HostRuntime) -> Result<(), AllocError> {
+    let line_ends = repeated(rt.alloc(), "\n", 65_537)?;
+    assert_refused(&rt, line_ends.as_str(), 0, Limit)
 }
 
 // The length is tested before the bytes are read as text.
 #[test]
-fn a_script_has_65536_bytes_at_most(rt: HostRuntime) -> Result<(), Fail> {
-    let alloc = rt.alloc();
-    let blanks = repeated(alloc, " ", 65_536)?;
-    let seen = Row::of(alloc, blanks.as_str())?.run(&rt);
-    assert_eq!(rt; seen.told()?.as_str(), "");
-    assert_eq!(rt; seen.text(), "");
-
-    let more = repeated(alloc, "\n", 65_537)?;
-    let seen = Row::of(alloc, more.as_str())?.run(&rt);
-    assert_refused(&rt, &seen, 0, Limit, "65,537 line ends");
-
-    let bad = vec![in alloc; 0xFF; 65_536]?;
-    let seen = Row::of_bytes(alloc, &bad)?.run(&rt);
-    assert_refused(&rt, &seen, 0, NotText, "65,536 bytes that are no text");
-
-    let bad = vec![in alloc; 0xFF; 65_537]?;
-    let seen = Row::of_bytes(alloc, &bad)?.run(&rt);
-    assert_refused(&rt, &seen, 0, Limit, "65,537 bytes that are no text");
+fn bytes_that_are_no_text_are_too_many_or_no_text(rt: HostRuntime) -> Result<(), Fail> {
+    for (len, kind) in [(65_536, NotText), (65_537, Limit)] {
+        let bytes = vec![in rt.alloc(); 0xFF; len]?;
+        assert_refused_bytes(&rt, &bytes, ScriptFault { line: 0, kind })?;
+    }
     Ok(())
 }
 
-/// A chain of so many definitions, each with a "!" behind the one before.
+/// So many definitions, each with a "!" behind the one before.
 fn chain(alloc: Global, definitions: u32) -> Result<String, AllocError> {
-    let mut script = format!(in alloc; "n0 = text \"in.txt\" 1\n")?;
+    let mut script = String::from_str(alloc, "n0 = text \"in.txt\" 1\n")?;
     for i in 1..definitions {
         let parent = i - 1;
         let line = format!(in alloc; "n{i} = map n{parent} (concat x \"!\")\n")?;
@@ -168,55 +166,37 @@ fn chain(alloc: Global, definitions: u32) -> Result<String, AllocError> {
 }
 
 #[test]
-fn a_script_has_256_definitions_at_most(rt: HostRuntime) -> Result<(), Fail> {
-    let alloc = rt.alloc();
-    let mut script = chain(alloc, 256)?;
+fn a_script_of_256_definitions_passes(rt: HostRuntime) -> Result<(), AllocError> {
+    let mut script = chain(rt.alloc(), 256)?;
     script.push_str("collect n255\n")?;
-    let seen = Row::of(alloc, script.as_str())?
-        .file("in.txt", "b\n")?
-        .run(&rt);
-    let marks = repeated(alloc, "!", 255)?;
-    let want = format!(in alloc; "b{marks}\n")?;
-    assert_eq!(rt; seen.told()?.as_str(), "");
-    assert_eq!(rt; seen.text(), want.as_str());
+    let marks = repeated(rt.alloc(), "!", 255)?;
+    let want = joined(rt.alloc(), &["b", marks.as_str(), "\n"])?;
+    assert_prints(&rt, script.as_str(), "b\n", want.as_str())
+}
 
-    let script = chain(alloc, 257)?;
-    let seen = Row::of(alloc, script.as_str())?
-        .file("in.txt", "b\n")?
-        .run(&rt);
-    assert_refused(&rt, &seen, 257, Limit, "257 definitions");
-
-    let mut script = chain(alloc, 256)?;
+// Also where its name is defined already.
+#[test]
+fn the_257th_definition_is_refused(rt: HostRuntime) -> Result<(), AllocError> {
+    let script = chain(rt.alloc(), 257)?;
+    assert_refused(&rt, script.as_str(), 257, Limit)?;
+    let mut script = chain(rt.alloc(), 256)?;
     script.push_str("n0 = text \"in.txt\" 1\n")?;
-    let seen = Row::of(alloc, script.as_str())?
-        .file("in.txt", "b\n")?
-        .run(&rt);
-    assert_refused(
-        &rt,
-        &seen,
-        257,
-        Limit,
-        "one too many under a name that is there",
-    );
-    Ok(())
+    assert_refused(&rt, script.as_str(), 257, Limit)
 }
 
 #[test]
-fn a_script_has_64_actions_at_most(rt: HostRuntime) -> Result<(), Fail> {
-    let alloc = rt.alloc();
-    let collects = repeated(alloc, "collect l\n", 64)?;
-    let script = format!(in alloc; "l = text \"in.txt\" 1\n{collects}")?;
-    let seen = Row::of(alloc, script.as_str())?
-        .file("in.txt", "b\n")?
-        .run(&rt);
-    let want = repeated(alloc, "b\n", 64)?;
-    assert_eq!(rt; seen.told()?.as_str(), "");
-    assert_eq!(rt; seen.text(), want.as_str());
+fn a_script_of_64_actions_passes(rt: HostRuntime) -> Result<(), AllocError> {
+    let collects = repeated(rt.alloc(), "collect l\n", 64)?;
+    let script = joined(rt.alloc(), &["l = text \"in.txt\" 1\n", collects.as_str()])?;
+    let want = repeated(rt.alloc(), "b\n", 64)?;
+    assert_prints(&rt, script.as_str(), "b\n", want.as_str())
+}
 
-    let script = format!(in alloc; "l = text \"in.txt\" 1\n{collects}collect q\n")?;
-    let seen = Row::of(alloc, script.as_str())?
-        .file("in.txt", "b\n")?
-        .run(&rt);
-    assert_refused(&rt, &seen, 66, Limit, "65 actions");
-    Ok(())
+// Also where it names no node.
+#[test]
+fn the_65th_action_is_refused(rt: HostRuntime) -> Result<(), AllocError> {
+    let collects = repeated(rt.alloc(), "collect l\n", 64)?;
+    let parts = ["l = text \"in.txt\" 1\n", collects.as_str(), "collect q\n"];
+    let script = joined(rt.alloc(), &parts)?;
+    assert_refused(&rt, script.as_str(), 66, Limit)
 }

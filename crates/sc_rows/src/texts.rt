@@ -4,67 +4,62 @@
 use sc_app::{Status, fault_text};
 use sc_script::{FaultKind, ScriptFault};
 use sc_value::Name;
-use std::test::Fail;
+use std::alloc::AllocError;
+use std::process::Abort;
+
+/// Sees that a status has this number and this text.
+fn assert_told<R: Abort + AllocGlobal>(
+    rt: &R,
+    status: Status,
+    number: u8,
+    text: &str,
+) -> Result<(), AllocError> {
+    assert_eq!(rt; status.number(), number, "{text}");
+    assert_eq!(rt; fault_text(rt.alloc(), &status)?.as_str(), text);
+    Ok(())
+}
 
 #[test]
-fn each_status_has_its_text_and_its_number(rt: HostRuntime) -> Result<(), Fail> {
-    let alloc = rt.alloc();
-    let fault = ScriptFault {
-        line: 3,
-        kind: FaultKind::IllTyped,
-    };
+fn each_status_has_its_text_and_its_number(rt: HostRuntime) -> Result<(), AllocError> {
+    assert_told(&rt, Status::Done, 0, "")?;
+    assert_told(&rt, Status::Usage, 2, "usage")?;
+    assert_told(&rt, Status::WriteFault, 12, "write failed")?;
+    assert_told(&rt, Status::OutOfMemory, 13, "out of memory")?;
     let limit = Status::TaskLimit {
         stage: 0,
         stage_attempt: 0,
         partition: 1,
     };
-    let missing = Status::Input {
-        name: Name::new(alloc, "in.txt")?,
-        missing: true,
-    };
-    let failed = Status::Input {
-        name: Name::new(alloc, "a b/é")?,
-        missing: false,
-    };
-    let not_text = Status::NotText {
-        name: Name::new(alloc, "in.txt")?,
-    };
-    let cases = [
-        (Status::Done, 0, ""),
-        (Status::Usage, 2, "usage"),
-        (Status::Script(fault), 3, "script: line 3: IllTyped"),
-        (missing, 5, "input: in.txt: missing"),
-        (failed, 5, "input: a b/é: failed"),
-        (limit, 6, "task limit: stage 0 attempt 0 partition 1"),
-        (Status::WriteFault, 12, "write failed"),
-        (Status::OutOfMemory, 13, "out of memory"),
-        (not_text, 15, "not text: in.txt"),
-    ];
-    for (status, number, text) in cases {
-        assert_eq!(rt; status.number(), number, "{text}");
-        assert_eq!(rt; fault_text(alloc, &status)?.as_str(), text);
-    }
-    Ok(())
+    assert_told(&rt, limit, 6, "task limit: stage 0 attempt 0 partition 1")
 }
 
 #[test]
-fn each_kind_of_fault_has_its_name(rt: HostRuntime) -> Result<(), Fail> {
+fn each_status_of_a_file_tells_its_name(rt: HostRuntime) -> Result<(), AllocError> {
+    let name = Name::new(rt.alloc(), "in.txt")?;
+    let missing = true;
+    let status = Status::Input { name, missing };
+    assert_told(&rt, status, 5, "input: in.txt: missing")?;
+    let name = Name::new(rt.alloc(), "a b/é")?;
+    let missing = false;
+    let status = Status::Input { name, missing };
+    assert_told(&rt, status, 5, "input: a b/é: failed")?;
+    let name = Name::new(rt.alloc(), "in.txt")?;
+    assert_told(&rt, Status::NotText { name }, 15, "not text: in.txt")
+}
+
+#[test]
+fn each_kind_of_fault_has_its_name(rt: HostRuntime) -> Result<(), AllocError> {
     let cases = [
+        (3, FaultKind::IllTyped, "script: line 3: IllTyped"),
         (0, FaultKind::NotText, "script: line 0: NotText"),
         (0, FaultKind::Limit, "script: line 0: Limit"),
         (1, FaultKind::Syntax, "script: line 1: Syntax"),
         (10, FaultKind::UnknownName, "script: line 10: UnknownName"),
         (65_536, FaultKind::Twice, "script: line 65536: Twice"),
-        (
-            4_294_967_295,
-            FaultKind::IllTyped,
-            "script: line 4294967295: IllTyped",
-        ),
     ];
     for (line, kind, text) in cases {
         let status = Status::Script(ScriptFault { line, kind });
-        assert_eq!(rt; status.number(), 3, "{text}");
-        assert_eq!(rt; fault_text(rt.alloc(), &status)?.as_str(), text);
+        assert_told(&rt, status, 3, text)?;
     }
     Ok(())
 }
