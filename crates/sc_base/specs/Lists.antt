@@ -1,5 +1,5 @@
 -- Words on lists.
-use Rattle.std.specs.Prelude.{ℕ, zero, suc, List, [], ◌∷◌, ◌++◌, Option, Some, None, if◌then◌else◌}
+use Rattle.std.specs.Prelude.{ℕ, zero, suc, List, [], ◌∷◌, Option, Some, None, filter, not, if◌then◌else◌}
 use Rattle.std.specs.Str.{bytes_eq}
 
 -- the numbers from `first` on, so many of them
@@ -22,3 +22,8 @@ abbrev pub content_of : List (List ℕ × List ℕ) → List ℕ → Option (Lis
 content_of [] name = None
 content_of (entry ∷ entries) name =
     if bytes_eq entry.0 name then Some entry.1 else content_of entries name
+
+-- each of some names once, where it stands first
+abbrev pub firsts : List (List ℕ) → List (List ℕ)
+firsts [] = []
+firsts (name ∷ names) = name ∷ filter (λ other. not (bytes_eq name other)) (firsts names)

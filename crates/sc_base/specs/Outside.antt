@@ -1,5 +1,6 @@
 -- What the outside of a run shows at one moment.
 use Rattle.std.specs.Prelude.{ℕ, ◌≡◌, ◌≤◌, List, ◌++◌, Option, option_map}
+use Rattle.std.specs.List.{concat}
 
 -- names with their bytes; of two entries of one name the first counts
 abbrev pub Files : Type 0
@@ -9,6 +10,8 @@ Files = List (List ℕ × List ℕ)
 pub record SourceState : Type 0 where
   -- its files, where it shows them
   pub shown : Option Files
+  -- the names of the reads that it answered, in order, where it shows them
+  pub asked : Option (List (List ℕ))
   -- how often a read failed
   pub faults : ℕ
   -- how often a name wasn't there
@@ -16,8 +19,8 @@ pub record SourceState : Type 0 where
 
 -- a sink for bytes
 pub record SinkState : Type 0 where
-  -- the bytes that it was given so far, where it shows them
-  pub shown : Option (List ℕ)
+  -- what it took of each write, in order, where it shows them
+  pub pieces : Option (List (List ℕ))
   -- how often a write failed
   pub faults : ℕ
 
@@ -35,6 +38,19 @@ pub record IsLaterSource (before after : SourceState) : Type 0 where
   pub faults : before.faults ≤ after.faults
   pub misses : before.misses ≤ after.misses
 
--- what a sink shows, with these bytes behind it
-abbrev pub with_bytes : Option (List ℕ) → List ℕ → Option (List ℕ)
-with_bytes shown bytes = option_map (λ before. before ++ bytes) shown
+-- more of what is shown in order, behind what was shown before
+abbrev pub with_more : {A : Type 0} → Option (List A) → List A → Option (List A)
+with_more shown more = option_map (λ before. before ++ more) shown
+
+-- a source was asked for these names and for no other between two moments
+abbrev pub HasAsked : SourceState → SourceState → List (List ℕ) → Type 0
+HasAsked before after names = after.asked ≡ with_more before.asked names
+
+-- no count of a source rose between two moments
+pub record IsQuietSource (before after : SourceState) : Type 0 where
+  pub faults : after.faults ≡ before.faults
+  pub misses : after.misses ≡ before.misses
+
+-- all bytes that a sink took, where it shows them
+abbrev pub bytes_taken : SinkState → Option (List ℕ)
+bytes_taken sink = option_map concat sink.pieces

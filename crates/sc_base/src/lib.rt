@@ -1,7 +1,16 @@
-//! What several crates say in common: definitions alone, with no code.
+//! What several crates say in common.
 //!
-//! `specs/Outside.antt` has what the outside of a run shows before and after a call: the files that
-//! a source holds, the bytes that a sink was given, and how often each of them failed.
-//! `specs/Counts.antt` says when such a count rose, and `specs/Lists.antt` has the words on lists
-//! that the definitions above share.
+//! [`OrMemory`] is how a call is refused: with a fault of its own, or for want of memory, which no
+//! clause ties to a cause. `specs/Answers.antt` has the two words by which a contract holds such an
+//! answer to what was to be found. `specs/Outside.antt` has what the outside of a run shows before
+//! and after a call: the files that a source holds and the names that it was asked for, the pieces
+//! that a sink took, and how often each of them failed. `specs/Counts.antt` says when such a count
+//! rose, and `specs/Lists.antt` has the words on lists that the definitions above share.
+//! `proofs/Gathering.antt` carries every loop that gathers results up to the first that stops it.
+//!
+//! It stands below every other crate, and knows nothing of values, scripts or runs.
 #![tactic(auto)]
+
+mod refusals;
+
+pub use refusals::OrMemory;

@@ -1,7 +1,7 @@
 -- Spans of bytes, as more bytes and more spans come.
 use Rattle.std.proofs.Common.{◌≡◌, ℕ, ◌+◌, ◌-◌, ◌<◌, ◌≤◌, ◌^◌, Bool, true, false, cond, List, [], ◌∷◌, ◌++◌, length, map, take, drop, refl, ap, sym, ◌∙◌, subst, arith}
-use Rattle.std.proofs.lemmas.List.{take-append-le, drop_all, drop-append-le, drop-drop, drop-take, take-take, length-append, length-take-le, length-drop, map_push}
-use Rattle.std.proofs.lemmas.List.Elements.{All-head, All-tail, All-push, All-weaker}
+use Rattle.std.proofs.lemmas.List.{take-append-le, drop_all, drop-append-le, drop-drop, drop-take, take-take, take-map, drop-map, length-append, length-take-le, length-drop, map_push}
+use Rattle.std.proofs.lemmas.List.Elements.{All-head, All-tail, All-push, All-weaker, All-take, All-drop}
 use Rattle.std.proofs.lemmas.Slice.{between_to_end}
 use Rattle.std.proofs.lemmas.Str.{IsUtf8-append, IsUtf8-nil}
 use Rattle.std.specs.List.{All, slice_range}
@@ -120,3 +120,15 @@ slice_range-slice_range xs seen a b i j is ordered within inner_ordered inner_wi
     ∙ ap (take (j - i)) (drop-drop i a xs) in
     let same : (a + j) - (a + i) ≡ j - i = omega arith in
     ap (λ n. take n (drop (a + i) xs)) same ∙ sym inner
+
+pub All-slice_range : {X : Type 0} (P : X → Type 0) (xs : List X) (a b : ℕ) → All P xs
+    → All P (slice_range xs a b)
+All-slice_range P xs a b all = All-take P (b - a) (drop a xs) (All-drop P a xs all)
+
+-- a part of what a function gives
+pub part-map : {X Y : Type 0} (f : X → Y) (xs part : List X) (seen : List Y) (a b : ℕ)
+    → seen ≡ map f xs → part ≡ slice_range xs a b → map f part ≡ slice_range seen a b
+part-map f xs part seen a b are is =
+    ap (map f) is ∙ sym (take-map f (b - a) (drop a xs))
+    ∙ ap (take (b - a)) (sym (drop-map f a xs))
+    ∙ ap (λ r. take (b - a) (drop a r)) (sym are)

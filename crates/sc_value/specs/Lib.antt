@@ -6,3 +6,7 @@ pub mod Keys
 pub mod Types
 pub mod Lines
 pub mod Spans
+pub mod Kept
+pub mod Picked
+pub mod Words
+pub mod Numbers

@@ -1,13 +1,10 @@
-//! Texts and rows that are being made.
+//! Texts that are being made.
 #![tactic(auto)]
 
-ghost use Rattle.std.specs.Prelude.{◌≡◌, ◌<◌, ◌^◌, ◌++◌, [], ◌∷◌, if◌then◌else◌, IfOk, OnOk, is_ok, length};
-ghost use Rattle.sc_value.specs.Views.{datum_of};
+ghost use Rattle.std.specs.Prelude.{◌≡◌, ◌==◌, ◌<◌, ◌^◌, ◌++◌, [], ◌∷◌, if◌then◌else◌, IfOk, is_ok, length, take};
 
 use crate::octets::Octets;
-use crate::rows::Rows;
 use crate::texts::{Span, Texts};
-use crate::values::{Value, copy};
 use std::alloc::{AllocError, Global};
 use std::marker::Model;
 
@@ -62,6 +59,20 @@ impl TextsBuilder {
         })
     }
 
+    /// How many texts were ended.
+    pub fn len(&self) -> usize
+        ensures { result ≡ length self.now.texts }
+    {
+        self.spans.len()
+    }
+
+    /// Whether no text was ended.
+    pub fn is_empty(&self) -> bool
+        ensures { result ≡ (length self.now.texts == 0) }
+    {
+        self.len() == 0
+    }
+
     /// Writes a piece of the text that is open.
     pub fn write(&mut self, piece: &str) -> Result<(), AllocError>
         ensures texts { self.new.texts ≡ self.old.texts }
@@ -111,6 +122,34 @@ impl TextsBuilder {
         }
     }
 
+    /// Adds whole texts behind those that were ended, all of them or none.
+    pub fn append(&mut self, texts: &Texts) -> Result<(), AllocError>
+        requires { self.old.open_text ≡ [] }
+        ensures texts { self.new.texts
+            ≡ (if is_ok result then self.old.texts ++ texts.now else self.old.texts) }
+        ensures open_text { self.new.open_text ≡ [] }
+    {
+        let count = self.len();
+        for i in 0..texts.len() {
+            match self.push(texts.get(i)) {
+                Ok(()) => {}
+                Err(_) => {
+                    self.truncate(count);
+                    return Err(AllocError);
+                }
+            }
+        }
+        Ok(())
+    }
+
+    // Forgets the texts that were ended behind the first so many.
+    fn truncate(&mut self, count: usize)
+        ensures texts { self.new.texts ≡ take count self.old.texts }
+        ensures open_text { self.new.open_text ≡ self.old.open_text }
+    {
+        self.spans.truncate(count);
+    }
+
     /// The texts that were ended, to be shared.
     pub fn finish(self, alloc: Global) -> Result<Texts, AllocError>
         ensures { IfOk result (λ t. t ≡ self.texts) }
@@ -131,61 +170,4 @@ fn append(bytes: &mut Vec<u8>, more: &[u8]) -> Result<(), AllocError>
         return Err(AllocError);
     }
     bytes.extend_from_slice(more)
-}
-
-/// Rows that are being made one after another.
-#[derive(Drop)]
-pub struct RowsBuilder {
-    texts: TextsBuilder,
-    values: Vec<Value>,
-}
-
-impl Model for RowsBuilder {
-    ghost use Rattle.std.specs.Prelude.{◌≡◌, ◌++◌, List, [], map};
-    ghost use Rattle.std.specs.Coded.{coded_list};
-    ghost use Rattle.sc_value.specs.Datum.{Datum, text};
-    ghost use Rattle.sc_value.specs.DatumCode.{datum_code};
-    ghost use Rattle.sc_value.specs.Views.{datum_of};
-
-    ghost Value = { List Datum };
-
-    ghost coded = { coded_list datum_code };
-
-    ghost view = { λ b. map text b.texts.texts ++ map datum_of b.values.items };
-
-    ghost invariant = { λ b. b.texts.open_text ≡ [] };
-}
-
-impl RowsBuilder {
-    /// No rows.
-    pub fn new(alloc: Global) -> RowsBuilder
-        ensures { result ≡ [] }
-    {
-        RowsBuilder {
-            texts: TextsBuilder::new(alloc),
-            values: Vec::new(alloc),
-        }
-    }
-
-    /// Adds a copy of a value as the last row.
-    pub fn push(&mut self, alloc: Global, value: &Value) -> Result<(), AllocError>
-        ensures { self.new
-            ≡ (if is_ok result then self.old ++ datum_of value.now ∷ [] else self.old) }
-    {
-        if self.values.is_empty() {
-            if let Value::Text(text) = value {
-                return self.texts.push(text.as_str());
-            }
-        }
-        self.values.push(copy(alloc, value)?)?;
-        Ok(())
-    }
-
-    /// The rows, to be shared.
-    pub fn finish(self, alloc: Global) -> Result<Rows, AllocError>
-        ensures { IfOk result (λ r. r ≡ self) }
-    {
-        let RowsBuilder { texts, values } = self;
-        Rows::of_both(alloc, texts.finish(alloc)?, values)
-    }
 }

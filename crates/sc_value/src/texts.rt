@@ -1,17 +1,22 @@
 //! Texts as places in shared bytes.
 #![tactic(auto)]
 
-ghost use Rattle.std.specs.Prelude.{◌≡◌, ◌==◌, ◌<◌, ◌≤◌, IfOk, Some, length, map, slice_get, slice_range};
+ghost use Rattle.std.specs.Prelude.{◌≡◌, ◌==◌, ◌<◌, ◌≤◌, ◌++◌, [], ◌∷◌, IfOk, OnOk, Some, length, map, slice_get, slice_range};
 ghost use Rattle.std.specs.List.{All};
+ghost use Rattle.sc_value.specs.Kept.{kept as items_kept};
+ghost use Rattle.sc_value.specs.Picked.{picked as items_picked};
 ghost use Rattle.sc_value.specs.Spans.{IsPart, part_at};
+ghost use Rattle.sc_value.specs.Words.{cut_at, nth_piece as piece_at, nth_word as word_at, range_of, until_none, words_of};
 
+use crate::cuts::{nth_pieces_at, pieces_at};
+use crate::held::{Held, kept_items, picked_items};
 use crate::octets::Octets;
+use crate::words::{nth_words_at, words_at};
 use std::alloc::{AllocError, Global};
 use std::marker::Model;
 use std::str;
-use std::sync::Arc;
 
-/// From one place in some bytes up to, not including, another.
+/// From one place up to, not including, another: in bytes, where a text lies, or in a list.
 #[derive(Clone, Copy)]
 pub struct Span {
     pub from: u32,
@@ -24,48 +29,49 @@ pub struct Span {
 #[derive(Drop)]
 pub struct Texts {
     bytes: Octets,
-    spans: Arc<Vec<Span>, Global>,
-    first: usize,
-    end: usize,
+    spans: Held<Span>,
 }
 
 impl Model for Texts {
-    ghost use Rattle.std.specs.Arc.{arc_value};
-    ghost use Rattle.std.specs.Prelude.{List, ℕ, map, slice_range};
-    ghost use Rattle.sc_value.specs.Spans.{IsRange, part_at};
+    ghost use Rattle.std.specs.Prelude.{List, ℕ, map};
+    ghost use Rattle.std.specs.List.{All};
+    ghost use Rattle.sc_value.specs.Spans.{IsPart, part_at};
 
     ghost Value = { List (List ℕ) };
 
-    ghost view = { λ t. slice_range
-        (map (part_at t.bytes) (arc_value t.spans).items) t.first t.end };
+    ghost view = { λ t. map (part_at t.bytes) t.spans };
 
-    ghost invariant = { λ t. IsRange t.bytes (arc_value t.spans).items t.first t.end };
+    ghost invariant = { λ t. All (IsPart t.bytes) t.spans };
+}
+
+/// Lists of texts: the texts of all of them, and for each list a range of these.
+#[derive(Drop)]
+pub struct TextLists {
+    pub items: Texts,
+    pub lists: Vec<Span>,
+}
+
+/// Where the pieces of texts lie, and for each text a range of its pieces.
+pub(crate) struct Pieces {
+    pub items: Vec<Span>,
+    pub lists: Vec<Span>,
 }
 
 impl Texts {
     /// The parts of some bytes at some places, which copies none of them.
-    pub(crate) fn of_spans(
-        alloc: Global,
-        bytes: Octets,
-        spans: Vec<Span>,
-    ) -> Result<Texts, AllocError>
+    pub fn of_spans(alloc: Global, bytes: Octets, spans: Vec<Span>) -> Result<Texts, AllocError>
         requires { All (IsPart bytes) spans.items }
         ensures { IfOk result (λ t. t ≡ map (part_at bytes) spans.items) }
     {
-        let end = spans.len();
-        Ok(Texts {
-            bytes,
-            spans: Arc::new(alloc, spans)?,
-            first: 0,
-            end,
-        })
+        let spans = Held::new(alloc, spans)?;
+        Ok(Texts { bytes, spans })
     }
 
     /// How many texts there are.
     pub fn len(&self) -> usize
         ensures { result ≡ length self.now }
     {
-        self.end - self.first
+        self.spans.len()
     }
 
     /// Whether there is no text.
@@ -80,31 +86,29 @@ impl Texts {
         requires { i < length self.now }
         ensures { slice_get self.now i ≡ Some result.now }
     {
-        let span = self.spans.as_slice()[self.first + i];
+        let span = self.spans.as_slice()[i];
         let part = &self.bytes.as_slice()[span.from as usize..span.to as usize];
         unsafe { str::from_utf8_unchecked(part) }
     }
 
-    /// About how many bytes the texts take: from where the first begins to where the last ends.
-    pub(crate) fn extent(&self) -> usize {
-        if self.is_empty() {
-            return 0;
+    /// About how many bytes the texts take, from where the first begins to where the last ends: a
+    /// guess, for a reservation.
+    pub fn extent(&self) -> usize {
+        match self.spans.as_slice() {
+            [] => 0,
+            [one] => (one.to as usize).saturating_sub(one.from as usize),
+            [first, .., last] => (last.to as usize).saturating_sub(first.from as usize),
         }
-        let spans = self.spans.as_slice();
-        let from = spans[self.first].from as usize;
-        let to = spans[self.end - 1].to as usize;
-        to.saturating_sub(from)
     }
 
     /// The same texts again, which copies none of them.
     pub fn share(&self) -> Result<Texts, AllocError>
         ensures { IfOk result (λ t. t ≡ self.now) }
     {
+        let spans = self.spans.share()?;
         Ok(Texts {
             bytes: self.bytes.share()?,
-            spans: Arc::try_clone(&self.spans)?,
-            first: self.first,
-            end: self.end,
+            spans,
         })
     }
 
@@ -114,11 +118,103 @@ impl Texts {
         requires within { to ≤ length self.now }
         ensures { IfOk result (λ t. t ≡ slice_range self.now from to) }
     {
+        let bytes = self.bytes.share()?;
         Ok(Texts {
-            bytes: self.bytes.share()?,
-            spans: Arc::try_clone(&self.spans)?,
-            first: self.first + from,
-            end: self.first + to,
+            bytes,
+            spans: self.spans.part(from, to)?,
         })
     }
+
+    /// The texts whose place is marked, which copies none of their bytes.
+    pub fn kept(&self, alloc: Global, marks: &[bool]) -> Result<Texts, AllocError>
+        ensures { IfOk result (λ t. t ≡ items_kept marks.now self.now) }
+    {
+        let spans = kept_items(alloc, self.spans.as_slice(), marks)?;
+        Texts::of_spans(alloc, self.bytes.share()?, spans)
+    }
+
+    /// The texts at some places, which copies none of their bytes. A place past the end is answered
+    /// as want of memory.
+    pub fn picked(&self, alloc: Global, places: &[u32]) -> Result<Texts, AllocError>
+        ensures { IfOk result (λ t. t ≡ items_picked self.now places.now) }
+    {
+        let spans = picked_items(alloc, self.spans.as_slice(), places)?;
+        Texts::of_spans(alloc, self.bytes.share()?, spans)
+    }
+
+    /// The words of each text, which lie in the same bytes.
+    pub fn words(&self, alloc: Global) -> Result<TextLists, AllocError>
+        ensures { IfOk result (λ w. map (range_of w.items) w.lists.items ≡ map words_of self.now) }
+    {
+        let bytes = self.bytes.share()?;
+        let found = words_at(alloc, self.bytes.as_slice(), self.spans.as_slice())?;
+        let Pieces { items, lists } = found;
+        Ok(TextLists {
+            items: Texts::of_spans(alloc, bytes, items)?,
+            lists,
+        })
+    }
+
+    /// The pieces of each text between the occurrences of an ASCII character, which lie in the same
+    /// bytes. Empty pieces are kept.
+    pub fn cut(&self, alloc: Global, separator: u8) -> Result<TextLists, AllocError>
+        requires { separator < 128 }
+        ensures { IfOk result (λ w. map (range_of w.items) w.lists.items
+            ≡ map (cut_at (separator ∷ [])) self.now) }
+    {
+        let bytes = self.bytes.share()?;
+        let found = pieces_at(
+            alloc,
+            self.bytes.as_slice(),
+            self.spans.as_slice(),
+            separator,
+        )?;
+        let Pieces { items, lists } = found;
+        Ok(TextLists {
+            items: Texts::of_spans(alloc, bytes, items)?,
+            lists,
+        })
+    }
+
+    /// A word of each text up to the first text that has fewer, which copies none of them.
+    pub fn nth_words(&self, alloc: Global, k: usize) -> Result<Texts, AllocError>
+        ensures { IfOk result (λ t. t ≡ until_none (word_at k) self.now) }
+    {
+        let bytes = self.bytes.share()?;
+        let places = nth_words_at(alloc, self.bytes.as_slice(), self.spans.as_slice(), k)?;
+        Texts::of_spans(alloc, bytes, places)
+    }
+
+    /// A piece of each text, cut at an ASCII character, up to the first text that has fewer, which
+    /// copies none of them.
+    pub fn nth_cuts(&self, alloc: Global, separator: u8, k: usize) -> Result<Texts, AllocError>
+        requires { separator < 128 }
+        ensures { IfOk result (λ t. t ≡ until_none (piece_at (separator ∷ []) k) self.now) }
+    {
+        let bytes = self.bytes.share()?;
+        let places = nth_pieces_at(
+            alloc,
+            self.bytes.as_slice(),
+            self.spans.as_slice(),
+            separator,
+            k,
+        )?;
+        Texts::of_spans(alloc, bytes, places)
+    }
+}
+
+/// Adds a range of items as a list, where its places fit.
+pub(crate) fn push_list(lists: &mut Vec<Span>, from: usize, to: usize) -> Result<(), AllocError>
+    requires { from ≤ to }
+    ensures { OnOk result
+        (lists.new.items ≡ lists.old.items ++ record { from = from; to = to } ∷ []) }
+{
+    if to > u32::MAX as usize {
+        return Err(AllocError);
+    }
+    lists.push(Span {
+        from: from as u32,
+        to: to as u32,
+    })?;
+    Ok(())
 }

@@ -1,0 +1,11 @@
+pub mod VariantLemmas
+pub mod ListLemmas
+pub mod RangeLemmas
+pub mod MarkLemmas
+pub mod PlaceLemmas
+pub mod ViewLemmas
+pub mod RunLemmas
+pub mod JoinLemmas
+pub mod FlatLemmas
+pub mod PrintLemmas
+pub mod FindingLemmas

@@ -1,0 +1,122 @@
+//! Rows that are being made.
+#![tactic(auto)]
+
+ghost use Rattle.std.specs.Arc.{arc_value};
+ghost use Rattle.std.specs.Prelude.{◌≡◌, ◌++◌, [], ◌∷◌, if◌then◌else◌, IfOk, is_ok};
+ghost use Rattle.sc_value.specs.Views.{datum_of};
+ghost use Rattle.sc_columns.specs.Columns.{rows_in};
+ghost use Rattle.sc_columns.specs.Runs.{run_rows};
+
+use crate::chains::{chain_of, joined};
+use crate::columns::Shared;
+use crate::joins::extend;
+use crate::pushes::{one_row, push};
+use crate::rows::Rows;
+use crate::runs::{Run, closed as closed_run, closed_all};
+use sc_value::Value;
+use std::alloc::{AllocError, Global};
+use std::marker::Model;
+use std::mem;
+use std::sync::Arc;
+
+/// Rows that are being made one after another, or column by column.
+///
+/// Numbers, truth values, texts and pairs of these are gathered as columns of their own; where a
+/// row of another kind comes, a new run of rows begins. What is refused for want of memory changes
+/// nothing.
+#[derive(Drop)]
+pub struct RowsBuilder {
+    closed: Vec<Run>,
+    last: Run,
+}
+
+impl Model for RowsBuilder {
+    ghost use Rattle.std.specs.Prelude.{◌++◌, List};
+    ghost use Rattle.std.specs.List.{flat_map};
+    ghost use Rattle.std.specs.Coded.{coded_list};
+    ghost use Rattle.sc_value.specs.Datum.{Datum};
+    ghost use Rattle.sc_value.specs.DatumCode.{datum_code};
+    ghost use Rattle.sc_columns.specs.Runs.{run_rows};
+
+    ghost Value = { List Datum };
+
+    ghost coded = { coded_list datum_code };
+
+    ghost view = { λ b. flat_map run_rows b.closed.items ++ run_rows b.last };
+}
+
+impl RowsBuilder {
+    /// No rows.
+    pub fn new(alloc: Global) -> RowsBuilder
+        ensures { result ≡ [] }
+    {
+        RowsBuilder {
+            closed: Vec::new(alloc),
+            last: Run::Empty,
+        }
+    }
+
+    /// Adds a copy of a value as the last row.
+    pub fn push(&mut self, alloc: Global, value: &Value) -> Result<(), AllocError>
+        ensures { self.new
+            ≡ (if is_ok result then self.old ++ datum_of value.now ∷ [] else self.old) }
+    {
+        if push(alloc, value, &mut self.last)? {
+            return Ok(());
+        }
+        self.begin(one_row(alloc, value)?)
+    }
+
+    /// Adds rows behind those that are there: a whole column at once, where it is of their kind.
+    pub fn append(&mut self, alloc: Global, rows: &Rows) -> Result<(), AllocError>
+        ensures { self.new ≡ (if is_ok result then self.old ++ rows.now else self.old) }
+    {
+        if rows.is_empty() {
+            return Ok(());
+        }
+        let column = joined(alloc, rows.column())?;
+        self.add(alloc, &column)
+    }
+
+    /// The rows, to be shared.
+    pub fn finish(self, alloc: Global) -> Result<Rows, AllocError>
+        ensures { IfOk result (λ r. r ≡ self) }
+    {
+        Rows::of_column(self.close(alloc)?)
+    }
+
+    /// Adds the rows of a column.
+    pub(crate) fn add(&mut self, alloc: Global, column: &Shared) -> Result<(), AllocError>
+        ensures { self.new ≡ (if is_ok result
+            then self.old ++ rows_in (arc_value column.now) else self.old) }
+    {
+        if extend(alloc, column, &mut self.last)? {
+            return Ok(());
+        }
+        self.begin(Run::Lone(Arc::try_clone(column)?))
+    }
+
+    /// Begins a new run of rows.
+    fn begin(&mut self, next: Run) -> Result<(), AllocError>
+        ensures { self.new ≡ (if is_ok result then self.old ++ run_rows next else self.old) }
+    {
+        let last = mem::replace(&mut self.last, next);
+        match self.closed.push(last) {
+            Ok(()) => Ok(()),
+            Err(failed) => {
+                self.last = failed.value;
+                Err(AllocError)
+            }
+        }
+    }
+
+    /// The rows as a column.
+    pub(crate) fn close(self, alloc: Global) -> Result<Shared, AllocError>
+        ensures { IfOk result (λ c. rows_in (arc_value c) ≡ self) }
+    {
+        let RowsBuilder { closed, last } = self;
+        let mut runs = closed_all(alloc, closed)?;
+        runs.push(closed_run(alloc, last)?)?;
+        chain_of(alloc, &runs)
+    }
+}

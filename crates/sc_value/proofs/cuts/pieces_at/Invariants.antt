@@ -1,0 +1,8 @@
+use Rattle.std.proofs.Common.{[], ◌∷◌}
+use Rattle.sc_value.specs.Words.{cut_at}
+use Rattle.sc_value.proofs.ListLemmas.{AreListsTo}
+use Rattle.sc_value.proofs.cuts.pieces_at.Given as goal
+
+abbrev pub invariant-loop-i : goal.invariant-loop-i
+invariant-loop-i l =
+    AreListsTo (cut_at (l.separator ∷ [])) l.text l.places l.items.items l.lists.items l.i

@@ -1,0 +1,114 @@
+//! Items that are shared.
+#![tactic(auto)]
+
+ghost use Rattle.std.specs.Prelude.{◌≡◌, ◌≤◌, IfOk, length, slice_range};
+ghost use Rattle.sc_value.specs.Kept.{kept};
+ghost use Rattle.sc_value.specs.Picked.{picked};
+
+use std::alloc::{AllocError, Global};
+use std::marker::Model;
+use std::sync::Arc;
+
+/// A range of items that are shared and never change. Contracts see it as a list.
+#[derive(Drop)]
+pub struct Held<T> {
+    shared: Arc<Vec<T>, Global>,
+    first: usize,
+    end: usize,
+}
+
+impl<T> Model for Held<T> {
+    ghost use Rattle.std.specs.Arc.{arc_value};
+    ghost use Rattle.std.specs.Prelude.{◌≤◌, List, length, slice_range};
+
+    ghost Value = { List T };
+
+    ghost view = { λ h. slice_range (arc_value h.shared).items h.first h.end };
+
+    ghost invariant = { λ h. (h.first ≤ h.end) × (h.end ≤ length (arc_value h.shared).items) };
+}
+
+impl<T: Drop> Held<T> {
+    /// The items of a vector, which are moved and not copied.
+    pub fn new(alloc: Global, items: Vec<T>) -> Result<Held<T>, AllocError>
+        ensures { IfOk result (λ h. h ≡ items.items) }
+    {
+        let end = items.len();
+        Ok(Held {
+            shared: Arc::new(alloc, items)?,
+            first: 0,
+            end,
+        })
+    }
+
+    /// The items, borrowed.
+    pub fn as_slice(&self) -> &[T]
+        ensures { result.now ≡ self.now }
+    {
+        &self.shared.as_slice()[self.first..self.end]
+    }
+
+    /// How many items there are.
+    pub fn len(&self) -> usize
+        ensures { result ≡ length self.now }
+    {
+        self.end - self.first
+    }
+
+    /// The same items again, which copies none of them.
+    pub fn share(&self) -> Result<Held<T>, AllocError>
+        ensures { IfOk result (λ h. h ≡ self.now) }
+    {
+        Ok(Held {
+            shared: Arc::try_clone(&self.shared)?,
+            first: self.first,
+            end: self.end,
+        })
+    }
+
+    /// The items from one place up to, not including, another, which copies none of them.
+    pub fn part(&self, from: usize, to: usize) -> Result<Held<T>, AllocError>
+        requires ordered { from ≤ to }
+        requires within { to ≤ length self.now }
+        ensures { IfOk result (λ h. h ≡ slice_range self.now from to) }
+    {
+        Ok(Held {
+            shared: Arc::try_clone(&self.shared)?,
+            first: self.first + from,
+            end: self.first + to,
+        })
+    }
+}
+
+/// The items whose place is marked.
+pub fn kept_items<T: Copy>(alloc: Global, items: &[T], marks: &[bool]) -> Result<Vec<T>, AllocError>
+    ensures { IfOk result (λ v. v.items ≡ kept marks.now items.now) }
+{
+    let end = items.len().min(marks.len());
+    let mut out = Vec::with_capacity(alloc, end)?;
+    for i in 0..end {
+        if marks[i] {
+            out.push(items[i])?;
+        }
+    }
+    Ok(out)
+}
+
+/// The items at some places. A refusal also comes where a place has none.
+pub fn picked_items<T: Copy>(
+    alloc: Global,
+    items: &[T],
+    places: &[u32],
+) -> Result<Vec<T>, AllocError>
+    ensures { IfOk result (λ v. v.items ≡ picked items.now places.now) }
+{
+    let mut out = Vec::with_capacity(alloc, places.len())?;
+    for i in 0..places.len() {
+        let place = places[i];
+        if place as usize >= items.len() {
+            return Err(AllocError);
+        }
+        out.push(items[place as usize])?;
+    }
+    Ok(out)
+}
