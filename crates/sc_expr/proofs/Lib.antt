@@ -1,3 +1,3 @@
 pub mod TypeLemmas
-pub mod PlainLemmas
-pub mod RaiseLemmas
+pub mod OutcomeLemmas
+pub mod ListLemmas

@@ -1,18 +1,31 @@
--- An expression has at most one type.
-use Rattle.std.proofs.Common.{◌≡◌, ◌∙◌, sym}
+-- What the types of expressions in a row give.
+use Rattle.std.proofs.Common.{◌≡◌, ℕ, ◌<◌, List, Some, None, length, drop, get_or, map, refl}
+use Rattle.std.specs.Prelude.{Option, Err}
+use Rattle.sc_base.specs.Answers.{Finds}
+use Rattle.sc_base.specs.declared.refusals.OrMemory.{OrMemory}
+use Rattle.sc_base.specs.declared.refusals.OrMemory.TheVariants as refusals
+use Rattle.sc_base.proofs.Gathering.{gathered, gathered-stopped}
+use Rattle.sc_value.specs.declared.types.Ty.{Ty}
 use Rattle.sc_value.specs.Types.{TypeData}
-use Rattle.sc_expr.specs.ExprData.{int_expr, text_expr, variable_expr, binary_expr}
-use Rattle.sc_expr.specs.declared.exprs.BinaryHead.{BinaryHead}
-use Rattle.sc_expr.specs.declared.exprs.BinaryHead.TheVariants.{Concat}
-use Rattle.sc_expr.specs.Typing.{TypesAreUnique, TakesAndGives}
+use Rattle.sc_value.specs.Views.{type_data_of}
+use Rattle.sc_expr.specs.ExprData.{exprs_of}
+use Rattle.sc_expr.specs.Schemes.{TypeEnvData, type_of_expr, types_of_exprs, with_type}
+use Rattle.sc_expr.specs.Views.{expr_data_of}
+use Rattle.sc_expr.specs.declared.exprs.Expr.{Expr}
+use Rattle.sc_expr.specs.declared.typing.IllTyped.{IllTyped}
 
--- a head gives one type at any types
-gives_one : (h : BinaryHead) (a b c d s t : TypeData)
-    → TakesAndGives h a b s → TakesAndGives h c d t → s ≡ t
-gives_one Concat a b c d s t p q = p.2 ∙ sym q.2
+-- the types of the program's expressions
+abbrev pub types_in : TypeEnvData → List Expr → Option (List TypeData)
+types_in env xs = types_of_exprs env (exprs_of (map expr_data_of xs))
 
-pub one_type_at_most : TypesAreUnique
-one_type_at_most env (int_expr n) s t p q = p ∙ sym q
-one_type_at_most env (text_expr n) s t p q = p ∙ sym q
-one_type_at_most env (variable_expr v) s t p q = cc
-one_type_at_most env (binary_expr h e f) s t p q = gives_one h p.0 p.1 q.0 q.1 s t p.4 q.4
+-- one without a type leaves all without types
+pub types_stopped : {Y : Type 0} (env : TypeEnvData) (views : Y → List TypeData) (xs : List Expr)
+    (i : ℕ) (x : Expr) (vs : List Ty) (all : Option (List TypeData)) (error : OrMemory IllTyped)
+    → i < length xs → x ≡ get_or xs i x
+    → all ≡ gathered with_type Some (map type_data_of vs) (types_in env (drop i xs))
+    → Finds type_data_of (Err error) (type_of_expr env (expr_data_of x))
+    → Finds views (Err error) all
+types_stopped env views xs i x vs all (refusals.Fault f) within at so_far is =
+    gathered-stopped (types_in env) (λ y. type_of_expr env (expr_data_of y)) with_type Some
+    type_data_of (λ y ys. refl) None None xs i x vs all within at so_far is (λ o. refl) (λ d. refl)
+types_stopped env views xs i x vs all refusals.OutOfMemory within at so_far is = tt

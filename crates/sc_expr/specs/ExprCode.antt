@@ -1,89 +1,114 @@
 -- A code of expressions, by which proofs tell two of them apart: words in postfix order, read back
 -- with a stack.
-use Rattle.std.specs.Prelude.{◌≡◌, ℕ, zero, suc, ℤ, pos, List, [], ◌∷◌, ◌⊎◌}
-use Rattle.std.specs.Coded.{Coded, code_by, coded_ℕ, coded_ℤ, coded_list, coded⊎}
+use Rattle.std.specs.Prelude.{◌≡◌, ℕ, zero, suc, ℤ, pos, Bool, List, [], ◌∷◌, ◌⊎◌}
+use Rattle.std.specs.Coded.{Coded, code_by, coded_ℕ, coded_ℤ, coded_bool, coded_list, coded⊎}
 use mathlib.Core.Logic.{inl, inr}
 use mathlib.Core.Path.{refl, ◌∙◌, ap}
-use Rattle.sc_expr.specs.ExprData.{ExprData, int_expr, text_expr, variable_expr, binary_expr}
+use Rattle.sc_expr.specs.ExprData.{ExprData, int_expr, bool_expr, text_expr, variable_expr, call_expr, ExprsData, no_exprs, more_exprs}
 use Rattle.sc_expr.specs.declared.exprs.Variable.{Variable}
-use Rattle.sc_expr.specs.declared.exprs.Variable.TheVariants.{X, A, B}
-use Rattle.sc_expr.specs.declared.exprs.BinaryHead.{BinaryHead}
-use Rattle.sc_expr.specs.declared.exprs.BinaryHead.TheVariants.{Concat}
+use Rattle.sc_expr.specs.declared.exprs.Head.{Head}
+use Rattle.sc_expr.specs.contracts.exprs.Variable.{the_row as variable_type}
+use Rattle.sc_expr.specs.contracts.exprs.Head.{the_row as head_type}
 
--- a literal, or the number of a variable or of a head
-abbrev pub Word : Type 0
-Word = ℤ ⊎ (List ℕ ⊎ (ℕ ⊎ ℕ))
+-- a literal, a variable, a head, or a mark
+abbrev pub CodeWord : Type 0
+CodeWord = ℤ ⊎ (Bool ⊎ (List ℕ ⊎ (Variable ⊎ (Head ⊎ ℕ))))
 
-abbrev pub variable_number : Variable → ℕ
-variable_number X = 0
-variable_number A = 1
-variable_number B = 2
+-- what stands on the stack
+pub data Stacked : Type 0 where
+  one : ExprData → Stacked
+  many : ExprsData → Stacked
 
-abbrev pub variable_from : ℕ → Variable
-variable_from zero = X
-variable_from (suc zero) = A
-variable_from (suc (suc n)) = B
+-- the word of a head
+abbrev pub head_word : Head → CodeWord
+head_word h = inr (inr (inr (inr (inl h))))
 
-abbrev pub head_number : BinaryHead → ℕ
-head_number Concat = 0
+-- the mark of a place in a list of expressions
+abbrev pub mark : ℕ → CodeWord
+mark n = inr (inr (inr (inr (inr n))))
 
-abbrev pub head_from : ℕ → BinaryHead
-head_from n = Concat
+abbrev mutual
+  -- the words of an expression, in front of others
+  pub code_onto : ExprData → List CodeWord → List CodeWord
+  code_onto (int_expr n) k = inl n ∷ k
+  code_onto (bool_expr b) k = inr (inl b) ∷ k
+  code_onto (text_expr t) k = inr (inr (inl t)) ∷ k
+  code_onto (variable_expr v) k = inr (inr (inr (inl v))) ∷ k
+  code_onto (call_expr h es) k = all_code_onto es (head_word h ∷ k)
 
-abbrev pub words_onto : ExprData → List Word → List Word
-words_onto (int_expr n) k = inl n ∷ k
-words_onto (text_expr t) k = inr (inl t) ∷ k
-words_onto (variable_expr v) k = inr (inr (inl (variable_number v))) ∷ k
-words_onto (binary_expr h e f) k = words_onto e (words_onto f (inr (inr (inr (head_number h))) ∷ k))
+  -- the words of expressions, in front of others
+  pub all_code_onto : ExprsData → List CodeWord → List CodeWord
+  all_code_onto no_exprs k = mark 0 ∷ k
+  all_code_onto (more_exprs e es) k = code_onto e (all_code_onto es (mark 1 ∷ k))
 
-abbrev pub with_binary : BinaryHead → List ExprData → List ExprData
-with_binary h (f ∷ e ∷ s) = binary_expr h e f ∷ s
-with_binary h s = s
+-- the stack once a head took the expressions on top
+abbrev pub with_call : Head → List Stacked → List Stacked
+with_call h (many es ∷ s) = one (call_expr h es) ∷ s
+with_call h s = s
 
-abbrev pub after_word : Word → List ExprData → List ExprData
-after_word (inl n) s = int_expr n ∷ s
-after_word (inr (inl t)) s = text_expr t ∷ s
-after_word (inr (inr (inl n))) s = variable_expr (variable_from n) ∷ s
-after_word (inr (inr (inr n))) s = with_binary (head_from n) s
+-- the stack once the expression below those on top is the first of them
+abbrev pub with_more : List Stacked → List Stacked
+with_more (many es ∷ one e ∷ s) = many (more_exprs e es) ∷ s
+with_more s = s
 
-abbrev pub stack_after : List Word → List ExprData → List ExprData
+-- the stack behind a mark
+abbrev pub after_mark : ℕ → List Stacked → List Stacked
+after_mark zero s = many no_exprs ∷ s
+after_mark (suc n) s = with_more s
+
+-- the stack behind a word
+abbrev pub after_word : CodeWord → List Stacked → List Stacked
+after_word (inl n) s = one (int_expr n) ∷ s
+after_word (inr (inl b)) s = one (bool_expr b) ∷ s
+after_word (inr (inr (inl t))) s = one (text_expr t) ∷ s
+after_word (inr (inr (inr (inl v)))) s = one (variable_expr v) ∷ s
+after_word (inr (inr (inr (inr (inl h))))) s = with_call h s
+after_word (inr (inr (inr (inr (inr n))))) s = after_mark n s
+
+-- the stack behind words, one after another
+abbrev pub stack_after : List CodeWord → List Stacked → List Stacked
 stack_after [] s = s
 stack_after (w ∷ ws) s = stack_after ws (after_word w s)
 
-pub variable_from-variable_number : (v : Variable) → variable_from (variable_number v) ≡ v
-variable_from-variable_number X = refl
-variable_from-variable_number A = refl
-variable_from-variable_number B = refl
+mutual
+  -- the words of an expression put it on the stack
+  pub stack_after-code_onto : (e : ExprData) (k : List CodeWord) (s : List Stacked)
+      → stack_after (code_onto e k) s ≡ stack_after k (one e ∷ s)
+  stack_after-code_onto (int_expr n) k s = refl
+  stack_after-code_onto (bool_expr b) k s = refl
+  stack_after-code_onto (text_expr t) k s = refl
+  stack_after-code_onto (variable_expr v) k s = refl
+  stack_after-code_onto (call_expr h es) k s = stack_after-all_code_onto es (head_word h ∷ k) s
 
-pub head_from-head_number : (h : BinaryHead) → head_from (head_number h) ≡ h
-head_from-head_number Concat = refl
+  -- the words of expressions put them on the stack
+  pub stack_after-all_code_onto : (es : ExprsData) (k : List CodeWord) (s : List Stacked)
+      → stack_after (all_code_onto es k) s ≡ stack_after k (many es ∷ s)
+  stack_after-all_code_onto no_exprs k s = refl
+  stack_after-all_code_onto (more_exprs e es) k s =
+      stack_after-code_onto e (all_code_onto es (mark 1 ∷ k)) s
+      ∙ stack_after-all_code_onto es (mark 1 ∷ k) (one e ∷ s)
 
-pub stack_after-words_onto : (e : ExprData) (k : List Word) (s : List ExprData)
-    → stack_after (words_onto e k) s ≡ stack_after k (e ∷ s)
-stack_after-words_onto (int_expr n) k s = refl
-stack_after-words_onto (text_expr t) k s = refl
-stack_after-words_onto (variable_expr v) k s =
-    ap (λ (w : Variable). stack_after k (variable_expr w ∷ s)) (variable_from-variable_number v)
-stack_after-words_onto (binary_expr h e f) k s =
-    stack_after-words_onto e (words_onto f (inr (inr (inr (head_number h))) ∷ k)) s
-    ∙ (stack_after-words_onto f (inr (inr (inr (head_number h))) ∷ k) (e ∷ s)
-    ∙ ap (λ (g : BinaryHead). stack_after k (binary_expr g e f ∷ s)) (head_from-head_number h))
+-- the expression on top of a stack
+abbrev pub top_of : List Stacked → ExprData
+top_of (one e ∷ s) = e
+top_of s = int_expr (pos 0)
 
-abbrev pub top_of : List ExprData → ExprData
-top_of (e ∷ s) = e
-top_of [] = int_expr (pos 0)
+-- the words of an expression
+abbrev pub code_words : ExprData → List CodeWord
+code_words e = code_onto e []
 
-abbrev pub words_of : ExprData → List Word
-words_of e = words_onto e []
-
-abbrev pub expr_from : List Word → ExprData
+-- the expression that words spell
+abbrev pub expr_from : List CodeWord → ExprData
 expr_from ws = top_of (stack_after ws [])
 
-abbrev pub expr_from-words_of : (e : ExprData) → expr_from (words_of e) ≡ e
-expr_from-words_of e = ap top_of (stack_after-words_onto e [] [])
+-- an expression is read back from its words
+abbrev pub expr_from-code_words : (e : ExprData) → expr_from (code_words e) ≡ e
+expr_from-code_words e = ap top_of (stack_after-code_onto e [] [])
 
+-- expressions as words, and back
 abbrev pub expr_code : Coded ExprData
 expr_code =
-    code_by (List Word)
-    (coded_list (coded⊎ coded_ℤ (coded⊎ (coded_list coded_ℕ) (coded⊎ coded_ℕ coded_ℕ))))
-    words_of expr_from expr_from-words_of
+    code_by (List CodeWord)
+    (coded_list (coded⊎ coded_ℤ (coded⊎ coded_bool (coded⊎ (coded_list coded_ℕ)
+    (coded⊎ variable_type.coded (coded⊎ head_type.coded coded_ℕ))))))
+    code_words expr_from expr_from-code_words

@@ -1,6 +1,8 @@
 pub mod ExprData
 pub mod ExprCode
-pub mod Views
+pub mod Heads
+pub mod HeadGroups
 pub mod Meaning
-pub mod Typing
-pub mod Plain
+pub mod Schemes
+pub mod Views
+pub mod BoundViews

@@ -1,15 +1,20 @@
 //! The value of an expression.
 #![tactic(auto)]
 
-ghost use Rattle.std.specs.Prelude.{◌≡◌, ◌++◌, IfOk};
+ghost use Rattle.std.specs.Prelude.{◌≡◌, [], ◌∷◌, map};
+ghost use Rattle.sc_base.specs.Answers.{Answers};
 ghost use Rattle.sc_value.specs.Views.{datum_of};
-ghost use Rattle.sc_expr.specs.Meaning.{IsOutcome, value_of_expr, variable_value, binary_value, text_in as as_text};
-ghost use Rattle.sc_expr.specs.Views.{expr_data_of, env_data_of};
+ghost use Rattle.sc_expr.specs.Heads.{head_value};
+ghost use Rattle.sc_expr.specs.Meaning.{value_of_expr, outcomes_of, all_values, strict_outcome, lazy_outcome, outcome_at, variable_value};
+ghost use Rattle.sc_expr.specs.ExprData.{exprs_of};
+ghost use Rattle.sc_expr.specs.Views.{argument_of, expr_data_of, env_data_of};
 
-use crate::exprs::{BinaryHead, Expr, Raise, Variable};
-use sc_value::{Text, Value, copy};
-use std::alloc::{AllocError, AllocFailed, Global};
-use thiserror::Error;
+use crate::arguments::{Argument, truth_in};
+use crate::exprs::{Expr, Head, Raise, Variable};
+use crate::heads::{apply_all, apply_one, apply_two, is_lazy};
+use sc_base::OrMemory;
+use sc_value::Value;
+use std::alloc::Global;
 
 /// The values of the variables of a place.
 #[derive(Clone, Copy)]
@@ -21,94 +26,153 @@ pub enum Env<'a> {
 }
 
 /// Why an evaluation gave no value.
-#[derive(Debug, Drop, Error)]
-pub enum EvalError {
-    /// The expression has none.
-    #[error("raised {0:?}")]
-    Raise(Raise),
-    /// Memory ran out.
-    #[error("out of memory")]
-    OutOfMemory,
-}
-
-impl From<AllocError> for EvalError {
-    ghost use Rattle.std.specs.Prelude.{◌≡◌};
-    ghost use Rattle.sc_expr.specs.declared.evaluation.EvalError.TheVariants.{OutOfMemory};
-
-    ghost from_gives = { λ _ e. e ≡ OutOfMemory };
-
-    fn from(_: AllocError) -> Self {
-        EvalError::OutOfMemory
-    }
-}
-
-impl<T: Drop> From<AllocFailed<T>> for EvalError {
-    ghost use Rattle.std.specs.Prelude.{◌≡◌};
-    ghost use Rattle.sc_expr.specs.declared.evaluation.EvalError.TheVariants.{OutOfMemory};
-
-    ghost from_gives = { λ _ e. e ≡ OutOfMemory };
-
-    fn from(_: AllocFailed<T>) -> Self {
-        EvalError::OutOfMemory
-    }
-}
+pub type EvalError = OrMemory<Raise>;
 
 /// The value of an expression, or its first raise from the left.
 ///
 /// # Errors
 ///
 /// `Raise` exactly where the expression raises, unless memory runs out.
+#[cycle(evaluating)]
 pub fn eval(alloc: Global, expr: &Expr, env: Env<'_>) -> Result<Value, EvalError>
-    ensures { IsOutcome result (value_of_expr (env_data_of env.entry) (expr_data_of expr.now)) }
+    ensures { Answers datum_of (λ r. r) result
+        (value_of_expr (env_data_of env.entry) (expr_data_of expr.now)) }
 {
     match expr {
         Expr::Int(n) => Ok(Value::Int(*n)),
+        Expr::Bool(b) => Ok(Value::Bool(*b)),
         Expr::Text(t) => Ok(Value::Text(t.copy(alloc)?)),
-        Expr::Variable(v) => Ok(lookup(alloc, env, *v)?),
-        Expr::Binary(head, e, f) => {
-            let first = eval(alloc, e, env)?;
-            let second = eval(alloc, f, env)?;
-            apply(alloc, *head, &first, &second)
+        Expr::Variable(v) => Ok(lookup(env, *v).into_value(alloc)?),
+        Expr::Call(head, args) => {
+            if is_lazy(*head) {
+                eval_lazy(alloc, *head, args, env)
+            } else {
+                eval_strict(alloc, *head, args, env)
+            }
         }
     }
 }
 
-/// A copy of the value of a variable.
-fn lookup(alloc: Global, env: Env<'_>, variable: Variable) -> Result<Value, AllocError>
-    ensures { IfOk result (λ v. datum_of v ≡ variable_value (env_data_of env.entry) variable) }
+/// The value of a head that evaluates all its arguments.
+#[cycle(evaluating)]
+fn eval_strict(
+    alloc: Global,
+    head: Head,
+    args: &Vec<Expr>,
+    env: Env<'_>,
+) -> Result<Value, EvalError>
+    ensures { Answers datum_of (λ r. r) result (strict_outcome (head_value head) (all_values
+        (outcomes_of (env_data_of env.entry) (exprs_of (map expr_data_of args.now.items))))) }
+{
+    match args.as_slice() {
+        [first, second] => {
+            let first = eval_argument(alloc, first, env)?;
+            let second = eval_argument(alloc, second, env)?;
+            apply_two(alloc, head, first, second)
+        }
+        [only] => eval_one(alloc, head, only, env),
+        _ => eval_many(alloc, head, args, env),
+    }
+}
+
+/// The value of a head at one argument.
+#[cycle(evaluating)]
+fn eval_one(alloc: Global, head: Head, only: &Expr, env: Env<'_>) -> Result<Value, EvalError>
+    ensures { Answers datum_of (λ r. r) result (strict_outcome (head_value head) (all_values
+        (value_of_expr (env_data_of env.entry) (expr_data_of only.now) ∷ []))) }
+{
+    let only = eval_argument(alloc, only, env)?;
+    apply_one(alloc, head, only)
+}
+
+/// The value of a head at any number of arguments.
+#[cycle(evaluating)]
+fn eval_many(alloc: Global, head: Head, args: &Vec<Expr>, env: Env<'_>) -> Result<Value, EvalError>
+    ensures { Answers datum_of (λ r. r) result (strict_outcome (head_value head) (all_values
+        (outcomes_of (env_data_of env.entry) (exprs_of (map expr_data_of args.now.items))))) }
+{
+    let values = eval_all(alloc, args, env)?;
+    apply_all(alloc, head, values)
+}
+
+/// The value of a head that doesn't evaluate all its arguments.
+#[cycle(evaluating)]
+fn eval_lazy(alloc: Global, head: Head, args: &Vec<Expr>, env: Env<'_>) -> Result<Value, EvalError>
+    ensures { Answers datum_of (λ r. r) result (lazy_outcome head
+        (outcomes_of (env_data_of env.entry) (exprs_of (map expr_data_of args.now.items)))) }
+{
+    let first = eval_at(alloc, args, 0, env)?;
+    let holds = truth_in(&first);
+    match head {
+        Head::And => {
+            if holds {
+                eval_at(alloc, args, 1, env)
+            } else {
+                Ok(Value::Bool(false))
+            }
+        }
+        Head::Or => {
+            if holds {
+                Ok(Value::Bool(true))
+            } else {
+                eval_at(alloc, args, 1, env)
+            }
+        }
+        _ => {
+            if holds {
+                eval_at(alloc, args, 1, env)
+            } else {
+                eval_at(alloc, args, 2, env)
+            }
+        }
+    }
+}
+
+/// The value of an argument; one that isn't there counts as false.
+#[cycle(evaluating)]
+fn eval_at(alloc: Global, args: &Vec<Expr>, at: usize, env: Env<'_>) -> Result<Value, EvalError>
+    ensures { Answers datum_of (λ r. r) result (outcome_at
+        (outcomes_of (env_data_of env.entry) (exprs_of (map expr_data_of args.now.items))) at) }
+{
+    match args.get(at) {
+        Some(expr) => eval(alloc, expr, env),
+        None => Ok(Value::Bool(false)),
+    }
+}
+
+/// The value of an argument, which a variable lends.
+#[cycle(evaluating)]
+fn eval_argument<'a>(alloc: Global, expr: &Expr, env: Env<'a>) -> Result<Argument<'a>, EvalError>
+    ensures { Answers argument_of (λ r. r) result
+        (value_of_expr (env_data_of env.entry) (expr_data_of expr.now)) }
+{
+    match expr {
+        Expr::Variable(v) => Ok(lookup(env, *v)),
+        _ => Ok(Argument::Own(eval(alloc, expr, env)?)),
+    }
+}
+
+/// The values of expressions, or their first raise from the left.
+#[cycle(evaluating)]
+fn eval_all(alloc: Global, exprs: &Vec<Expr>, env: Env<'_>) -> Result<Vec<Value>, EvalError>
+    ensures { Answers (λ v. map datum_of v.items) (λ r. r) result (all_values
+        (outcomes_of (env_data_of env.entry) (exprs_of (map expr_data_of exprs.now.items)))) }
+{
+    let mut values = Vec::new(alloc);
+    for expr in exprs.iter() {
+        values.push(eval(alloc, expr, env)?)?;
+    }
+    Ok(values)
+}
+
+/// The value of a variable; one that the place doesn't have counts as false.
+fn lookup<'a>(env: Env<'a>, variable: Variable) -> Argument<'a>
+    ensures { argument_of result ≡ variable_value (env_data_of env.entry) variable }
 {
     match (env, variable) {
-        (Env::One(x), Variable::X) => copy(alloc, x),
-        (Env::Two(a, _), Variable::A) => copy(alloc, a),
-        (Env::Two(_, b), Variable::B) => copy(alloc, b),
-        _ => Ok(Value::Bool(false)),
-    }
-}
-
-/// The value of a head at two values.
-fn apply(alloc: Global, head: BinaryHead, a: &Value, b: &Value) -> Result<Value, EvalError>
-    ensures { IsOutcome result (binary_value head (datum_of a.now) (datum_of b.now)) }
-{
-    match head {
-        BinaryHead::Concat => Ok(Value::Text(concat(alloc, text_in(a), text_in(b))?)),
-    }
-}
-
-/// Two texts as one.
-fn concat(alloc: Global, first: &str, second: &str) -> Result<Text, AllocError>
-    ensures { IfOk result (λ t. t ≡ first.now ++ second.now) }
-{
-    let mut joined = String::from_str(alloc, first)?;
-    joined.push_str(second)?;
-    Text::new(alloc, joined.as_str())
-}
-
-/// The text that a value is, or else the empty one.
-fn text_in(value: &Value) -> &str
-    ensures { result.now ≡ as_text (datum_of value.now) }
-{
-    match value {
-        Value::Text(t) => t.as_str(),
-        _ => "",
+        (Env::One(x), Variable::X) => Argument::Lent(x),
+        (Env::Two(a, _), Variable::A) => Argument::Lent(a),
+        (Env::Two(_, b), Variable::B) => Argument::Lent(b),
+        _ => Argument::Own(Value::Bool(false)),
     }
 }

@@ -1,21 +1,31 @@
-//! Expressions: what a script computes from a row.
+//! Expressions: what a script computes from a row, or from two values that are put together.
 //!
-//! An [`Expr`] is a literal, a variable, or a head with its arguments. [`type_of`] finds its type,
-//! [`eval`] its value or its [`Raise`], both by the table of heads that `specs/Typing.antt` and
-//! `specs/Meaning.antt` hold: a further head is one more variant, and one more line in each of
-//! them.
-//! The meaning is over plain data, and gives every expression an outcome, also one with no type.
+//! An [`Expr`] is a literal, a variable, or a [`Head`] with its arguments. [`type_of`] finds its
+//! type or that it has none, [`eval`] its value or its first [`Raise`] from the left, [`apply`] the
+//! value of a head at values. All go by tables: `specs/Schemes.antt` has a line for the types that
+//! each head takes and one for the type that it gives, read by one matcher; `specs/Heads.antt` has
+//! a line for the value of each head. A further head is a variant and these three lines, in the
+//! definitions and in the code, and its place among the groups of `specs/HeadGroups.antt`.
 //!
-//! Expressions that only put texts together are written over a column of texts at once, by
-//! [`is_plain_text`] and [`write_plain_text`], with no value made for a row.
+//! Contracts see expressions as plain data (`ExprData`). The meaning is total: it gives every
+//! expression an outcome, also one with no type, so that nothing above has to carry types.
+//!
+//! It knows one row at a time: rows and columns stand in the crates above, values in `sc_value`.
 #![tactic(auto)]
 
+mod arguments;
+mod comparisons;
 mod evaluation;
 mod exprs;
-mod plain;
+mod heads;
+mod lists;
+mod numbers;
+mod schemes;
+mod texts;
 mod typing;
 
 pub use evaluation::{Env, EvalError, eval};
-pub use exprs::{BinaryHead, Expr, Raise, Variable};
-pub use plain::{is_plain_text, write_plain_text};
-pub use typing::{TypeEnv, TypeError, type_of, types_are_unique};
+pub use exprs::{Expr, Head, Raise, Variable};
+pub use heads::{apply, is_lazy};
+pub use schemes::Pattern;
+pub use typing::{IllTyped, TypeEnv, TypeError, type_of};
