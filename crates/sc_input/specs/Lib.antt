@@ -1,4 +1,5 @@
 pub mod Host
 pub mod Memory
+pub mod Readers
 pub mod Reading
 pub mod Slices

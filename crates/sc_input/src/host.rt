@@ -2,24 +2,27 @@
 #![tactic(auto)]
 
 ghost use Rattle.std.specs.Prelude.{◌≡◌};
-ghost use Rattle.sc_input.specs.Host.{unseen_files};
+ghost use Rattle.sc_base.specs.Outside.{IsLaterSource};
+ghost use Rattle.sc_input.specs.Host.{Refuses, TakesIn, unseen_files};
 
+use crate::readers::CountedReader;
 use crate::source::{ReadAnswer, Source};
-use sc_value::{Name, Octets};
+use crate::whole::read_limited;
+use sc_base::OrMemory;
+use sc_value::Name;
 use std::fs::{self, Files, OpenFile};
 use std::io::{self, Read};
 use std::marker::Model;
 
 /// The most bytes that a file may have: 1 GiB.
-const LIMIT: u64 = 1_073_741_824;
+const LIMIT: usize = 1_073_741_824;
 
-/// Room beside a file's own bytes, so that its end is met before memory grows.
-const SPARE_ROOM: usize = 64;
-
-/// The files of the system, by their paths. It shows none of them to contracts.
+/// The files of the system, by their paths. It shows neither them nor the names that it was asked
+/// for to contracts.
 ///
-/// A file of more than 1 GiB, or one that can't be read to its end, is a fault; a path where there
-/// is no file is a miss. Counts stand still at their type's last value.
+/// A path where there is no file is a miss. A file of more than 1 GiB, one that can't be read to
+/// its end, as a folder can't, and one that can't be opened for another reason are faults. Counts
+/// stand still at their type's last value.
 #[derive(Drop)]
 pub struct HostSource<R: Files + AllocGlobal + Drop> {
     rt: R,
@@ -33,26 +36,26 @@ impl<R: Files + AllocGlobal + Drop> Model for HostSource<R> {
 
     ghost Value = { SourceState };
 
-    ghost view = { λ s. record { shown = None; faults = s.faults; misses = s.misses } };
+    ghost view = { λ s. record {
+      shown = None;
+      asked = None;
+      faults = s.faults;
+      misses = s.misses;
+    } };
 }
 
 impl<R: Files + AllocGlobal + Drop> Source for HostSource<R> {
     ghost state = { λ s. s };
 
     fn read(&mut self, name: &Name) -> ReadAnswer {
-        match read_file(&self.rt, name.as_str()) {
-            Ok(bytes) => ReadAnswer::Bytes(bytes),
-            Err(error) => match error.kind() {
-                io::ErrorKind::OutOfMemory => ReadAnswer::OutOfMemory,
-                io::ErrorKind::NotFound => {
-                    self.misses = self.misses.saturating_add(1);
-                    ReadAnswer::NoFile
-                }
-                _ => {
-                    self.faults = self.faults.saturating_add(1);
-                    ReadAnswer::Failed
-                }
-            },
+        match fs::open(&self.rt, name.as_str()) {
+            Ok(file) => {
+                let awaited = file
+                    .metadata()
+                    .map_or(0, |metadata| metadata.len() as usize);
+                self.take_in(&mut CountedReader::new(file), awaited)
+            }
+            Err(error) => self.refuse(error.kind()),
         }
     }
 }
@@ -68,20 +71,43 @@ impl<R: Files + AllocGlobal + Drop> HostSource<R> {
             misses: 0,
         }
     }
-}
 
-/// Reads a whole file, into memory that is taken at once where the file tells its length.
-fn read_file<R: Files + AllocGlobal>(rt: &R, path: &str) -> io::Result<Octets> {
-    let file = fs::open(rt, path)?;
-    let len = file.metadata().map_or(0, |metadata| metadata.len());
-    if len > LIMIT {
-        return Err(io::Error::from(io::ErrorKind::FileTooLarge));
+    /// Answers with the bytes of a file that was opened, of which so many are awaited.
+    fn take_in<F: Read + Drop>(
+        &mut self,
+        reader: &mut CountedReader<F>,
+        awaited: usize,
+    ) -> ReadAnswer
+        ensures later { IsLaterSource self.old self.new }
+        ensures taken { TakesIn self.old self.new reader.old reader.new result }
+    {
+        match read_limited(self.rt.alloc(), reader, LIMIT, awaited) {
+            Ok(bytes) => ReadAnswer::Bytes(bytes),
+            Err(refusal) => match refusal {
+                OrMemory::Fault(_) => {
+                    self.faults = self.faults.saturating_add(1);
+                    ReadAnswer::Failed
+                }
+                OrMemory::OutOfMemory => ReadAnswer::OutOfMemory,
+            },
+        }
     }
-    let mut bytes = Vec::with_capacity(rt.alloc(), len as usize + SPARE_ROOM)?;
-    let mut limited = file.take(LIMIT + 1);
-    limited.read_to_end(&mut bytes)?;
-    if bytes.len() as u64 > LIMIT {
-        return Err(io::Error::from(io::ErrorKind::FileTooLarge));
+
+    /// Answers for a file that couldn't be opened for an error of this kind.
+    fn refuse(&mut self, kind: io::ErrorKind) -> ReadAnswer
+        ensures later { IsLaterSource self.old self.new }
+        ensures told { Refuses self.old self.new kind result }
+    {
+        match kind {
+            io::ErrorKind::NotFound => {
+                self.misses = self.misses.saturating_add(1);
+                ReadAnswer::NoFile
+            }
+            io::ErrorKind::OutOfMemory => ReadAnswer::OutOfMemory,
+            _ => {
+                self.faults = self.faults.saturating_add(1);
+                ReadAnswer::Failed
+            }
+        }
     }
-    Ok(Octets::new(rt.alloc(), bytes)?)
 }

@@ -1,25 +1,27 @@
 //! A source in memory.
 #![tactic(auto)]
 
-ghost use Rattle.std.specs.Prelude.{◌≡◌, if◌then◌else◌, is_ok};
+ghost use Rattle.std.specs.Prelude.{◌≡◌, Some, if◌then◌else◌, is_ok};
 ghost use Rattle.std.specs.Option.{option_copied};
 ghost use Rattle.sc_base.specs.Lists.{content_of};
 ghost use Rattle.sc_base.specs.Outside.{IsLaterSource};
-ghost use Rattle.sc_input.specs.Memory.{no_files, with_failing_call, with_file};
+ghost use Rattle.sc_input.specs.Memory.{no_files, shown_files, with_failing_call, with_file};
 
 use crate::source::{ReadAnswer, Source};
 use sc_value::{Name, Octets};
 use std::alloc::{AllocError, Global};
 use std::marker::Model;
 
-/// Files in memory, which are all shown to contracts.
+/// Files in memory, which are all shown to contracts, as are the names that were asked for.
 ///
 /// Calls are counted from 1 over all reads, and those that [`MemSource::fail_at`] names fail before
-/// the files are looked at. Counts stand still at their type's last value.
+/// the files are looked at. A call that finds no memory to keep its name leaves all as it was.
+/// Counts stand still at their type's last value.
 #[derive(Drop)]
 pub struct MemSource {
     files: Vec<(Name, Octets)>,
     failing: Vec<u64>,
+    asked: Vec<Name>,
     calls: u64,
     faults: u64,
     misses: u64,
@@ -33,6 +35,7 @@ impl Model for MemSource {
     ghost view = { λ s. record {
       files = s.files.items;
       failing = s.failing.items;
+      asked = s.asked.items;
       calls = s.calls;
       faults = s.faults;
       misses = s.misses;
@@ -42,29 +45,39 @@ impl Model for MemSource {
 impl Source for MemSource {
     ghost use Rattle.sc_base.specs.Outside.{IsLaterSource};
     ghost use Rattle.sc_input.specs.Memory.{ReadsHeldFiles, shown_files};
-    ghost use Rattle.sc_input.specs.Reading.{IsReadCause};
+    ghost use Rattle.sc_input.specs.Reading.{AsksOnce, IsReadCause};
 
     ghost state = { shown_files };
 
     fn read(&mut self, name: &Name) -> ReadAnswer
         ensures later { IsLaterSource (shown_files self.old) (shown_files self.new) }
+        ensures asked { AsksOnce (shown_files self.old) (shown_files self.new) name.now result }
         ensures cause { IsReadCause (shown_files self.old) (shown_files self.new) name.now result }
         ensures planned { ReadsHeldFiles self.old self.new name.now result }
     {
+        if self.asked.reserve(1).is_err() {
+            return ReadAnswer::OutOfMemory;
+        }
+        let Ok(asked) = name.copy(*self.asked.allocator()) else {
+            return ReadAnswer::OutOfMemory;
+        };
         let call = self.calls.saturating_add(1);
         if self.failing.contains(&call) {
+            self.asked.push_reserved(asked);
             self.calls = call;
             self.faults = self.faults.saturating_add(1);
             return ReadAnswer::Failed;
         }
         match find(&self.files, name) {
             None => {
+                self.asked.push_reserved(asked);
                 self.calls = call;
                 self.misses = self.misses.saturating_add(1);
                 ReadAnswer::NoFile
             }
             Some(bytes) => match bytes.share() {
                 Ok(bytes) => {
+                    self.asked.push_reserved(asked);
                     self.calls = call;
                     ReadAnswer::Bytes(bytes)
                 }
@@ -82,6 +95,7 @@ impl MemSource {
         MemSource {
             files: Vec::new(alloc),
             failing: Vec::new(alloc),
+            asked: Vec::new(alloc),
             calls: 0,
             faults: 0,
             misses: 0,
@@ -102,6 +116,13 @@ impl MemSource {
     {
         self.failing.push(call)?;
         Ok(())
+    }
+
+    /// The names that were asked for, by the calls that were answered, in order.
+    pub fn asked(&self) -> &[Name]
+        ensures { (shown_files self.now).asked ≡ Some result.now }
+    {
+        &self.asked
     }
 }
 

@@ -2,7 +2,7 @@
 #![tactic(auto)]
 
 ghost use Rattle.std.specs.Prelude.{◌≡◌, ◌+◌, ◌<◌, ◌≤◌};
-ghost use Rattle.sc_input.specs.Slices.{slice_start};
+ghost use Rattle.sc_input.specs.Slices.{AreEvenSlices, slice_start};
 
 /// Where slice `i` of `n` slices of a list of this length begins, and where it ends.
 ///
@@ -16,6 +16,13 @@ pub fn slice(len: u64, n: u64, i: u64) -> (u64, u64)
 {
     (start_of(len, n, i), start_of(len, n, i + 1))
 }
+
+/// The slices of a list are the whole list, one behind the other, and their lengths differ by one
+/// at most.
+pub fn slices_cover<T>(items: &[T], n: u64)
+    requires { 0 < n }
+    ensures { AreEvenSlices items.now n }
+{}
 
 /// Where slice `i` begins; the end of the last slice for `n` itself. The product needs 128 bits.
 fn start_of(len: u64, n: u64, i: u64) -> u64

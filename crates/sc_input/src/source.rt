@@ -2,7 +2,7 @@
 #![tactic(auto)]
 
 ghost use Rattle.sc_base.specs.Outside.{SourceState, IsLaterSource};
-ghost use Rattle.sc_input.specs.Reading.{IsReadCause};
+ghost use Rattle.sc_input.specs.Reading.{AsksOnce, IsReadCause};
 
 use sc_value::{Name, Octets};
 
@@ -21,17 +21,20 @@ pub enum ReadAnswer {
 
 /// Where scripts and their inputs are read from.
 ///
-/// A source may show its files to contracts, as [`MemSource`](crate::MemSource) does; one that
-/// reads from the system shows none, and then only its counts tell why a read gave no bytes.
+/// A source may show its files and the names that it was asked for, as
+/// [`MemSource`](crate::MemSource) does; one that reads from the system shows neither, and then
+/// only its counts tell why a read gave no bytes.
 pub trait Source {
-    /// The files, where the source shows them, and how often reads failed or missed.
+    /// The files and the names that were asked for, where the source shows them, and how often
+    /// reads failed or missed.
     ghost state: { Self → SourceState };
 
     /// Reads a file whole.
     ///
-    /// `NoFile` and `Failed` come only where their count rose in this call, and where the files are
-    /// shown a name that is there gives its bytes.
+    /// `NoFile` and `Failed` come exactly where their count rose in this call, and no call raises
+    /// both. Where the files are shown, a name that is there gives its bytes.
     fn read(&mut self, name: &Name) -> ReadAnswer
         ensures later { IsLaterSource (state self.old) (state self.new) }
+        ensures asked { AsksOnce (state self.old) (state self.new) name.now result }
         ensures cause { IsReadCause (state self.old) (state self.new) name.now result };
 }

@@ -1,3 +1,5 @@
 pub mod Host
 pub mod Memory
+pub mod Pieces
+pub mod Writers
 pub mod Writing

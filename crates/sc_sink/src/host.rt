@@ -1,10 +1,12 @@
 //! The standard output.
 #![tactic(auto)]
 
-ghost use Rattle.std.specs.Prelude.{◌≡◌};
-ghost use Rattle.sc_sink.specs.Host.{unseen_bytes};
+ghost use Rattle.std.specs.Prelude.{◌≡◌, ◌≤◌};
+ghost use Rattle.sc_sink.specs.Host.{PutsOut, unseen_pieces};
 
 use crate::sink::{Sink, SinkAnswer};
+use crate::whole::write_whole;
+use crate::writers::CountedWriter;
 use std::io::{self, Print, Write};
 use std::marker::Model;
 
@@ -24,7 +26,7 @@ impl<R: Print + Drop> Model for StdSink<R> {
 
     ghost Value = { SinkState };
 
-    ghost view = { λ s. record { shown = None; faults = s.faults } };
+    ghost view = { λ s. record { pieces = None; faults = s.faults } };
 }
 
 impl<R: Print + Drop> Sink for StdSink<R> {
@@ -38,20 +40,34 @@ impl<R: Print + Drop> Sink for StdSink<R> {
         ensures cause { IsWriteCause self.old self.new bytes.now result }
         ensures needs_no_memory { result ≢ SinkAnswer.OutOfMemory }
     {
-        let mut out = io::writer(&self.rt);
-        if out.write_all(bytes).is_err() || out.flush().is_err() {
-            self.faults = self.faults.saturating_add(1);
-            return SinkAnswer::Failed;
-        }
-        SinkAnswer::Written
+        let mut writer = CountedWriter::new(io::writer(&self.rt));
+        put_out(&mut writer, bytes, &mut self.faults)
     }
 }
 
 impl<R: Print + Drop> StdSink<R> {
     /// The output that this handle reaches, and no fault counted.
     pub fn new(rt: R) -> Self
-        ensures { result ≡ unseen_bytes }
+        ensures { result ≡ unseen_pieces }
     {
         StdSink { rt, faults: 0 }
+    }
+}
+
+/// Puts some bytes out through a writer, and counts where it failed.
+fn put_out<W: Write + Drop>(
+    writer: &mut CountedWriter<W>,
+    bytes: &[u8],
+    faults: &mut u64,
+) -> SinkAnswer
+    ensures later { faults.old ≤ faults.new }
+    ensures put { PutsOut faults.old faults.new writer.old writer.new bytes.now result }
+{
+    match write_whole(writer, bytes) {
+        Ok(()) => SinkAnswer::Written,
+        Err(_) => {
+            *faults = faults.saturating_add(1);
+            SinkAnswer::Failed
+        }
     }
 }

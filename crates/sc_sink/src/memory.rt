@@ -1,63 +1,67 @@
 //! A sink in memory.
 #![tactic(auto)]
 
-ghost use Rattle.std.specs.Prelude.{◌≡◌, Some, if◌then◌else◌, is_ok};
-ghost use Rattle.sc_sink.specs.Memory.{failing_after, no_bytes, shown_bytes, with_failing_call};
+ghost use Rattle.std.specs.Prelude.{◌≡◌, Some, if◌then◌else◌, is_ok, IfOk, map};
+ghost use Rattle.sc_base.specs.Outside.{bytes_taken};
+ghost use Rattle.sc_sink.specs.Memory.{failing_after, no_pieces, shown_pieces, with_failing_call, with_piece};
 
 use crate::sink::{Sink, SinkAnswer};
 use std::alloc::{AllocError, Global};
 use std::marker::Model;
 
-/// Bytes in memory, which are all shown to contracts.
+/// Pieces in memory, one for each write, which are all shown to contracts.
 ///
 /// Calls are counted from 1, and those that [`MemSink::fail_at`] names fail after some of their
 /// bytes. Counts stand still at their type's last value.
 #[derive(Drop)]
 pub struct MemSink {
     bytes: Vec<u8>,
+    lens: Vec<usize>,
     failing: Vec<(u64, usize)>,
     calls: u64,
     faults: u64,
 }
 
 impl Model for MemSink {
-    ghost use Rattle.sc_sink.specs.Memory.{HeldBytes};
+    ghost use Rattle.sc_sink.specs.Memory.{HeldPieces};
+    ghost use Rattle.sc_sink.specs.Pieces.{pieces_of, AreLengths};
 
-    ghost Value = { HeldBytes };
+    ghost Value = { HeldPieces };
 
     ghost view = { λ s. record {
-      bytes = s.bytes.items;
+      pieces = pieces_of s.lens.items s.bytes.items;
       failing = s.failing.items;
       calls = s.calls;
       faults = s.faults;
     } };
+
+    ghost invariant = { λ s. AreLengths s.lens.items s.bytes.items };
 }
 
 impl Sink for MemSink {
     ghost use Rattle.std.specs.Prelude.{◌≤◌};
-    ghost use Rattle.sc_sink.specs.Memory.{WritesHeldBytes, shown_bytes};
+    ghost use Rattle.sc_sink.specs.Memory.{WritesHeldPieces, shown_pieces};
     ghost use Rattle.sc_sink.specs.Writing.{IsWriteCause};
 
-    ghost state = { shown_bytes };
+    ghost state = { shown_pieces };
 
     fn write(&mut self, bytes: &[u8]) -> SinkAnswer
         ensures faults { self.old.faults ≤ self.new.faults }
         ensures cause { IsWriteCause
-            (shown_bytes self.old) (shown_bytes self.new) bytes.now result }
-        ensures planned { WritesHeldBytes self.old self.new bytes.now result }
+            (shown_pieces self.old) (shown_pieces self.new) bytes.now result }
+        ensures planned { WritesHeldPieces self.old self.new bytes.now result }
     {
         let call = self.calls.saturating_add(1);
         match find(&self.failing, call) {
             None => {
-                if self.bytes.extend_from_slice(bytes).is_err() {
+                if self.keep(bytes).is_err() {
                     return SinkAnswer::OutOfMemory;
                 }
                 self.calls = call;
                 SinkAnswer::Written
             }
             Some(count) => {
-                let prefix = &bytes[..count.min(bytes.len())];
-                if self.bytes.extend_from_slice(prefix).is_err() {
+                if self.keep(&bytes[..count.min(bytes.len())]).is_err() {
                     return SinkAnswer::OutOfMemory;
                 }
                 self.calls = call;
@@ -69,12 +73,13 @@ impl Sink for MemSink {
 }
 
 impl MemSink {
-    /// No bytes, and no calls that fail.
+    /// No pieces, and no calls that fail.
     pub fn new(alloc: Global) -> Self
-        ensures { result ≡ no_bytes }
+        ensures { result ≡ no_pieces }
     {
         MemSink {
             bytes: Vec::new(alloc),
+            lens: Vec::new(alloc),
             failing: Vec::new(alloc),
             calls: 0,
             faults: 0,
@@ -93,9 +98,33 @@ impl MemSink {
 
     /// The bytes that were taken so far.
     pub fn bytes(&self) -> &[u8]
-        ensures { (shown_bytes self.now).shown ≡ Some result.now }
+        ensures { bytes_taken (shown_pieces self.now) ≡ Some result.now }
     {
         &self.bytes
+    }
+
+    /// The pieces that were taken so far, one for each write.
+    pub fn pieces(&self, alloc: Global) -> Result<Vec<&[u8]>, AllocError>
+        ensures { IfOk result (λ v. map (λ piece. piece.now) v.items ≡ self.now.pieces) }
+    {
+        let mut pieces = Vec::with_capacity(alloc, self.lens.len())?;
+        let mut rest = self.bytes.as_slice();
+        for len in &self.lens {
+            let (piece, after) = rest.split_at(*len);
+            pieces.push(piece)?;
+            rest = after;
+        }
+        Ok(pieces)
+    }
+
+    /// Keeps one more piece.
+    fn keep(&mut self, piece: &[u8]) -> Result<(), AllocError>
+        ensures { self.new ≡ (if is_ok result then with_piece self.old piece.now else self.old) }
+    {
+        self.lens.reserve(1)?;
+        self.bytes.extend_from_slice(piece)?;
+        self.lens.push_reserved(piece.len());
+        Ok(())
     }
 }
 

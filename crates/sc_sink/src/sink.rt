@@ -18,10 +18,11 @@ pub enum SinkAnswer {
 
 /// Where the text of a run goes.
 pub trait Sink {
-    /// The bytes taken so far, where the sink shows them, and how often it failed.
+    /// What was taken of each write, where the sink shows it, and how often it failed.
     ghost state: { Self → SinkState };
 
-    /// Writes all bytes, or a prefix of them with a risen count, or nothing for want of memory.
+    /// Writes all bytes as one piece, or a prefix of them with a risen count, or nothing for want
+    /// of memory. `Failed` comes exactly where the count rose in this call.
     fn write(&mut self, bytes: &[u8]) -> SinkAnswer
         ensures faults { (state self.old).faults ≤ (state self.new).faults }
         ensures cause { IsWriteCause (state self.old) (state self.new) bytes.now result };
