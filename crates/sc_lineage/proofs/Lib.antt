@@ -1,5 +1,9 @@
-pub mod MeaningLemmas
-pub mod NodeLemmas
 pub mod PlaceLemmas
-pub mod RaiseLemmas
+pub mod ByNodesLemmas
+pub mod ReadLemmas
+pub mod MeaningLemmas
+pub mod FoundLemmas
+pub mod NameLemmas
+pub mod NodeLemmas
 pub mod SoundLemmas
+pub mod WholeLemmas

@@ -1,215 +1,193 @@
--- Laws of the meaning: what the nodes behind a node leave as it is, and what each kind of node gives.
-use Rattle.std.proofs.Common.{◌≡◌, ◌∙◌, ℕ, zero, suc, ◌+◌, ◌<◌, ◌≤◌, List, [], ◌∷◌, ◌++◌, Some, None, length, map, take, refl, ap, sym, subst, arith}
-use Rattle.std.proofs.lemmas.List.{length-append, length-map, map-append, take_all}
-use Rattle.std.proofs.lemmas.List.Elements.{All-nil, All-cons}
-use Rattle.std.specs.List.{slice_get, All}
+-- What the meaning gives, by the numbers of nodes and of partitions.
+use Rattle.std.proofs.Common.{◌≡◌, ◌∙◌, ℕ, zero, suc, ◌+◌, ◌<◌, ◌≤◌, List, [], ◌∷◌, ◌++◌, Some, None, length, map, take, All, Contains, refl, ap, sym, subst, arith}
+use Rattle.std.proofs.lemmas.List.{length-map, take_all}
+use Rattle.std.proofs.lemmas.List.Elements.{All-weaker, All-get_or, All-contains, All-head, All-tail, All-same}
+use Rattle.std.specs.List.{slice_get}
 use Rattle.sc_base.specs.Lists.{at_or, numbers_below}
-use Rattle.sc_base.specs.Outside.{Files}
-use Rattle.sc_expr.specs.ExprData.{ExprData}
-use Rattle.sc_lineage.specs.ScriptData.{NodeData, text_node, map_node, ScriptData, WorkData, parents_of, partition_limit, ReadsBefore, NamesCount, AreWellPlaced, IsSoundScript}
-use Rattle.sc_lineage.specs.Streams.{ended_stream, map_stream}
 use Rattle.sc_lineage.specs.declared.streams.Stream.{Stream}
-use Rattle.sc_lineage.specs.Meaning.{at_row, text_stream, streams_of_node, streams_behind, meanings, node_streams, partition_stream, count_of_node, counts_behind, part_count}
-use Rattle.sc_lineage.proofs.PlaceLemmas.{at_or-append, at_or-behind, at_or-map_any, at_or-numbers_below, length-numbers_below, take-at_or}
+use Rattle.sc_lineage.specs.Dependencies.{PlaceData, parents_of, reads_of}
+use Rattle.sc_lineage.specs.Laws.{PartitionsAreNarrow}
+use Rattle.sc_lineage.specs.Meaning.{stream_at, stream_count, streams_read, streams_step, meanings, node_streams, part_count, partition_stream}
+use Rattle.sc_lineage.specs.Narrow.{narrow_stream}
+use Rattle.sc_lineage.specs.NodeData.{NodeData}
+use Rattle.sc_lineage.specs.ScriptData.{ScriptData, WorkData, count_step, declared_counts, declared_count, partition_limit, ReadsBefore, AreWellPlaced, IsCount, IsSoundScript}
+use Rattle.sc_lineage.specs.Streams.{ended_stream}
+use Rattle.sc_lineage.proofs.PlaceLemmas.{at_or-take, at_or-map_any, at_or-get_or, at_or-numbers_below, length-numbers_below, take-at_or}
+use Rattle.sc_lineage.proofs.ByNodesLemmas.{fold_laws, by_nodes-map}
+use Rattle.sc_lineage.proofs.ReadLemmas.{reads_by_parents, reads_at_parents, reads_within, counts_by_parents}
 
--- what each node keeps
-pub well_placed : (limit first : ℕ) (nodes : List NodeData) (r : ℕ) (node : NodeData) → AreWellPlaced limit first nodes
-    → slice_get nodes r ≡ Some node → ReadsBefore (first + r) node × NamesCount limit node
-well_placed limit first [] r node placed is = cc
-well_placed limit first (n ∷ nodes) zero node placed is =
+-- a node reads only nodes before it
+well_placed : (first : ℕ) (nodes : List NodeData) (i k : ℕ) (node : NodeData)
+    → AreWellPlaced first nodes → slice_get nodes i ≡ Some node → k ≡ first + i → ReadsBefore k node
+well_placed first [] i k node placed is at = cc
+well_placed first (n ∷ nodes) zero k node placed is at =
     let same : n ≡ node = cc in
-    let number : first ≡ first + 0 = omega arith in
-    let P : ℕ → Type 0 = λ k. ReadsBefore k n × NamesCount limit n in
-    let Q : NodeData → Type 0 = λ m. ReadsBefore (first + 0) m × NamesCount limit m in
-    subst Q same (subst P number (placed.0, placed.1))
-well_placed limit first (n ∷ nodes) (suc r) node placed is =
-    let number : (1 + first) + r ≡ first + suc r = omega arith in
-    let P : ℕ → Type 0 = λ k. ReadsBefore k node × NamesCount limit node in
-    subst P number (well_placed limit (1 + first) nodes r node placed.2 is)
+    let number : first ≡ k = omega arith in
+    let P : ℕ → Type 0 = λ j. ReadsBefore j node in
+    let Q : NodeData → Type 0 = λ m. ReadsBefore first m in
+    subst P number (subst Q same placed.0)
+well_placed first (n ∷ nodes) (suc i) k node placed is at =
+    well_placed (1 + first) nodes i k node placed.1 is (omega arith)
 
-pub reads_before : (script : ScriptData) (r : ℕ) (node : NodeData) → IsSoundScript script
-    → slice_get script.nodes r ≡ Some node → ReadsBefore r node
-reads_before script r node sound is =
-    let number : 0 + r ≡ r = omega arith in
-    let P : ℕ → Type 0 = λ k. ReadsBefore k node in
-    subst P number (well_placed (partition_limit script) 0 script.nodes r node sound.nodes is).0
+pub reads_before : (script : ScriptData) (k : ℕ) (node : NodeData) → IsSoundScript script
+    → slice_get script.nodes k ≡ Some node → ReadsBefore k node
+reads_before script k node sound is =
+    well_placed 0 script.nodes k k node sound.nodes is (omega arith)
 
-pub names_count : (script : ScriptData) (r : ℕ) (node : NodeData) → IsSoundScript script
-    → slice_get script.nodes r ≡ Some node → NamesCount (partition_limit script) node
-names_count script r node sound is = (well_placed (partition_limit script) 0 script.nodes r node sound.nodes is).1
+-- The streams of the nodes before one serve it as those of all nodes do.
+module _ (all : List (List Stream)) (k : ℕ) where
+  same_streams : (places : List PlaceData) → All (λ at. at.node < k) places
+      → map (stream_at (take k all)) places ≡ map (stream_at all) places
+  same_streams [] below = refl
+  same_streams (at ∷ places) below =
+      ap (λ (ss : List Stream). at_or ss at.partition (ended_stream None)
+      ∷ map (stream_at (take k all)) places)
+      (at_or-take all k at.node [] (All-head (λ x. x.node < k) at places below))
+      ∙ ap (λ (rest : List Stream). stream_at all at ∷ rest)
+      (same_streams places (All-tail (λ x. x.node < k) at places below))
 
--- the parents of a node are before it
-pub parents_before : (r : ℕ) (node : NodeData) → ReadsBefore r node → All (λ q. q < r) (parents_of node)
-parents_before r (text_node name count) before = All-nil (λ q. q < r)
-parents_before r (map_node parent e) before = All-cons (λ q. q < r) parent [] before (All-nil (λ q. q < r))
+  streams_read-same : (node : NodeData) (p : ℕ) → ReadsBefore k node
+      → streams_read (take k all) node p ≡ streams_read all node p
+  streams_read-same node p before =
+      ap (map (stream_at (take k all)))
+      (reads_by_parents (stream_count (take k all)) (stream_count all) node p
+      (All-weaker (λ q. q < k) (λ q. stream_count (take k all) q ≡ stream_count all q)
+      (λ q below. ap length (at_or-take all k q [] below)) (parents_of node) before))
+      ∙ same_streams (reads_of (stream_count all) node p)
+      (reads_at_parents (stream_count all) (λ q. q < k) node p before)
 
--- the streams that are there already stay as they are
-pub streams_behind-kept : (inputs : Files) (before : List (List Stream)) (nodes : List NodeData) (k : ℕ) → k < length before
-    → at_or (streams_behind inputs before nodes) k [] ≡ at_or before k []
-streams_behind-kept inputs before [] k within = refl
-streams_behind-kept inputs before (node ∷ nodes) k within =
-    let one = streams_of_node inputs before node in
-    streams_behind-kept inputs (before ++ one ∷ []) nodes k (omega (arith, length-append before (one ∷ [])))
-    ∙ at_or-append before (one ∷ []) k [] within
+-- the streams of a node, by those of the nodes before it
+node_streams-is : (work : WorkData) (k : ℕ) (node : NodeData)
+    → slice_get work.script.nodes k ≡ Some node
+    → node_streams work k ≡ streams_step work.inputs (take k (meanings work)) node
+node_streams-is work k node is =
+    (fold_laws (streams_step work.inputs)).steps work.script.nodes k node [] is
 
--- a node looks at nothing but the nodes before it
-pub streams_of_node-same : (inputs : Files) (before after : List (List Stream)) (r : ℕ) (node : NodeData) → ReadsBefore r node
-    → ((k : ℕ) → k < r → at_or before k [] ≡ at_or after k []) → streams_of_node inputs before node ≡ streams_of_node inputs after node
-streams_of_node-same inputs before after r (text_node name count) reads same = refl
-streams_of_node-same inputs before after r (map_node parent e) reads same = ap (map (map_stream (at_row e))) (same parent reads)
+-- a partition's stream is that of its node, over the streams of the partitions that it reads
+pub partition_is_narrow : PartitionsAreNarrow
+partition_is_narrow work k p node sound is within =
+    let before = take k (meanings work) in
+    let count : ℕ = count_step (map length before) node in
+    let f : ℕ → Stream = λ i. narrow_stream work.inputs node i (streams_read before node i) in
+    let len : part_count work k ≡ count =
+    ap length (node_streams-is work k node is)
+    ∙ length-map (numbers_below count) f ∙ length-numbers_below count in
+    ap (λ (ss : List Stream). at_or ss p (ended_stream None)) (node_streams-is work k node is)
+    ∙ at_or-numbers_below f count p (ended_stream None) (omega (arith, len))
+    ∙ ap (narrow_stream work.inputs node p)
+    (streams_read-same (meanings work) k node p (reads_before work.script k node sound is))
 
--- the streams of a node, by those of all nodes
-pub streams_behind-at : (inputs : Files) (before : List (List Stream)) (nodes : List NodeData) (limit first r : ℕ) (node : NodeData)
-    → first ≡ length before → AreWellPlaced limit first nodes → slice_get nodes r ≡ Some node
-    → at_or (streams_behind inputs before nodes) (first + r) [] ≡ streams_of_node inputs (streams_behind inputs before nodes) node
-streams_behind-at inputs before [] limit first r node len placed is = cc
-streams_behind-at inputs before (n ∷ nodes) limit first zero node len placed is =
-    let same : n ≡ node = cc in
-    let one = streams_of_node inputs before n in
-    let all = streams_behind inputs before (n ∷ nodes) in
-    streams_behind-kept inputs (before ++ one ∷ []) nodes (first + 0) (omega (arith, length-append before (one ∷ [])))
-    ∙ at_or-behind before [] one (first + 0) [] (omega arith)
-    ∙ streams_of_node-same inputs before all first n placed.0
-    (λ k below. sym (streams_behind-kept inputs before (n ∷ nodes) k (omega arith)))
-    ∙ ap (streams_of_node inputs all) same
-streams_behind-at inputs before (n ∷ nodes) limit first (suc r) node len placed is =
-    let one = streams_of_node inputs before n in
-    let number : first + suc r ≡ (1 + first) + r = omega arith in
-    ap (λ k. at_or (streams_behind inputs (before ++ one ∷ []) nodes) k []) number
-    ∙ streams_behind-at inputs (before ++ one ∷ []) nodes limit (1 + first) r node
-    (omega (arith, length-append before (one ∷ []))) placed.2 is
+-- the numbers of streams are the numbers that the grammar counts
+pub lengths_are_counts : (work : WorkData)
+    → map length (meanings work) ≡ declared_counts work.script.nodes
+lengths_are_counts work =
+    by_nodes-map length (streams_step work.inputs) count_step
+    (λ before node.
+    let count : ℕ = count_step (map length before) node in
+    length-map (numbers_below count)
+    (λ p. narrow_stream work.inputs node p (streams_read before node p))
+    ∙ length-numbers_below count)
+    work.script.nodes
 
--- the streams of a node, of whatever kind
-pub node_streams-is : (work : WorkData) (r : ℕ) (node : NodeData) → IsSoundScript work.script
-    → slice_get work.script.nodes r ≡ Some node → node_streams work r ≡ streams_of_node work.inputs (meanings work) node
-node_streams-is work r node sound is =
-    let number : r ≡ 0 + r = omega arith in
-    ap (node_streams work) number
-    ∙ streams_behind-at work.inputs [] work.script.nodes (partition_limit work.script) 0 r node refl sound.nodes is
+pub count_is_declared : (work : WorkData) (k : ℕ) → part_count work k ≡ declared_count work.script k
+count_is_declared work k =
+    sym (at_or-map_any length (meanings work) k [])
+    ∙ ap (λ (counts : List ℕ). at_or counts k 0) (lengths_are_counts work)
 
-pub node_streams-text : (work : WorkData) (r : ℕ) (name : List ℕ) (n : ℕ) → IsSoundScript work.script
-    → slice_get work.script.nodes r ≡ Some (text_node name n)
-    → node_streams work r ≡ map (text_stream work.inputs name n) (numbers_below n)
-node_streams-text work r name n sound is = node_streams-is work r (text_node name n) sound is
+-- as many partitions as the grammar counts at the most, and one at least
+pub part_count_within : (work : WorkData) (k : ℕ) → IsSoundScript work.script
+    → part_count work k ≤ partition_limit work.script
+part_count_within work k sound =
+    limited (declared_counts work.script.nodes) k sound.counts (count_is_declared work k)
+  where
+    limited : (counts : List ℕ) (i : ℕ) → All (IsCount (partition_limit work.script)) counts
+        → part_count work k ≡ at_or counts i 0 → part_count work k ≤ partition_limit work.script
+    limited [] i all is = omega arith
+    limited (n ∷ counts) zero all is =
+        let first = All-head (IsCount (partition_limit work.script)) n counts all in
+        omega (arith, first.within)
+    limited (n ∷ counts) (suc i) all is =
+        limited counts i (All-tail (IsCount (partition_limit work.script)) n counts all) is
 
-pub node_streams-map : (work : WorkData) (r q : ℕ) (e : ExprData) → IsSoundScript work.script
-    → slice_get work.script.nodes r ≡ Some (map_node q e)
-    → node_streams work r ≡ map (map_stream (at_row e)) (node_streams work q)
-node_streams-map work r q e sound is = node_streams-is work r (map_node q e) sound is
+pub part_count_some : (work : WorkData) (k : ℕ) → IsSoundScript work.script
+    → k < length work.script.nodes → 1 ≤ part_count work k
+part_count_some work k sound known =
+    let counts = declared_counts work.script.nodes in
+    let len = (fold_laws count_step).lengths work.script.nodes in
+    let one =
+    All-get_or (IsCount (partition_limit work.script)) counts k 0 (omega arith) sound.counts in
+    omega (arith, one.some, count_is_declared work k, at_or-get_or counts k 0)
 
-pub map_reads_before : (script : ScriptData) (r q : ℕ) (e : ExprData) → IsSoundScript script
-    → slice_get script.nodes r ≡ Some (map_node q e) → q < r
-map_reads_before script r q e sound is = reads_before script r (map_node q e) sound is
+-- what a partition reads, by the counts of the script
+pub reads_by_declared : (work : WorkData) (node : NodeData) (p : ℕ)
+    → reads_of (stream_count (meanings work)) node p ≡ reads_of (declared_count work.script) node p
+reads_by_declared work node p =
+    ap (λ (counts : ℕ → ℕ). reads_of counts node p) (λ i. λ q. count_is_declared work q i)
 
--- nodes behind others: their streams are put behind those of the others
-pub streams_behind-append : (inputs : Files) (before : List (List Stream)) (nodes more : List NodeData)
-    → streams_behind inputs before (nodes ++ more) ≡ streams_behind inputs (streams_behind inputs before nodes) more
-streams_behind-append inputs before [] more = refl
-streams_behind-append inputs before (node ∷ nodes) more =
-    streams_behind-append inputs (before ++ streams_of_node inputs before node ∷ []) nodes more
+-- the number of partitions of a node, by those of its parents
+pub part_count-step : (work : WorkData) (k : ℕ) (node : NodeData) → IsSoundScript work.script
+    → slice_get work.script.nodes k ≡ Some node
+    → part_count work k ≡ count_step (declared_counts work.script.nodes) node
+part_count-step work k node sound is =
+    let counts = declared_counts work.script.nodes in
+    count_is_declared work k
+    ∙ (fold_laws count_step).steps work.script.nodes k node 0 is
+    ∙ counts_by_parents (take k counts) counts node
+    (All-weaker (λ q. q < k) (λ q. at_or (take k counts) q 0 ≡ at_or counts q 0)
+    (λ q below. at_or-take counts k q 0 below) (parents_of node)
+    (reads_before work.script k node sound is))
 
-pub length-streams_behind : (inputs : Files) (before : List (List Stream)) (nodes : List NodeData)
-    → length (streams_behind inputs before nodes) ≡ length before + length nodes
-length-streams_behind inputs before [] = omega arith
-length-streams_behind inputs before (node ∷ nodes) =
-    let one = streams_of_node inputs before node in
-    let rest = length-streams_behind inputs (before ++ one ∷ []) nodes in
-    omega (arith, rest, length-append before (one ∷ []))
-
--- the nodes behind a node, and the actions, don't change its streams
-pub node_streams-prefix : (work longer : WorkData) (more : List NodeData) (r : ℕ) → longer.inputs ≡ work.inputs
-    → longer.script.nodes ≡ work.script.nodes ++ more → r < length work.script.nodes
-    → node_streams longer r ≡ node_streams work r
-node_streams-prefix work longer more r inputs nodes within =
-    ap (λ i. at_or (streams_behind i [] longer.script.nodes) r []) inputs
-    ∙ ap (λ ns. at_or (streams_behind work.inputs [] ns) r []) nodes
-    ∙ ap (λ ss. at_or ss r []) (streams_behind-append work.inputs [] work.script.nodes more)
-    ∙ streams_behind-kept work.inputs (meanings work) more r
-    (omega (arith, length-streams_behind work.inputs [] work.script.nodes))
-
--- the numbers of partitions are the numbers of streams
-length-streams_of_node : (inputs : Files) (before : List (List Stream)) (node : NodeData)
-    → length (streams_of_node inputs before node) ≡ count_of_node (map length before) node
-length-streams_of_node inputs before (text_node name count) =
-    length-map (numbers_below count) (text_stream inputs name count) ∙ length-numbers_below count
-length-streams_of_node inputs before (map_node parent e) =
-    length-map (at_or before parent []) (map_stream (at_row e)) ∙ sym (at_or-map_any length before parent [])
-
-lengths-streams_behind : (inputs : Files) (before : List (List Stream)) (nodes : List NodeData)
-    → map length (streams_behind inputs before nodes) ≡ counts_behind (map length before) nodes
-lengths-streams_behind inputs before [] = refl
-lengths-streams_behind inputs before (node ∷ nodes) =
-    let one = streams_of_node inputs before node in
-    lengths-streams_behind inputs (before ++ one ∷ []) nodes
-    ∙ ap (λ counts. counts_behind counts nodes)
-    (map-append length before (one ∷ [])
-    ∙ ap (λ n. map length before ++ n ∷ []) (length-streams_of_node inputs before node))
-
-pub length-node_streams : (work : WorkData) (r : ℕ) → length (node_streams work r) ≡ part_count work.script r
-length-node_streams work r =
-    sym (at_or-map_any length (meanings work) r [])
-    ∙ ap (λ counts. at_or counts r 0) (lengths-streams_behind work.inputs [] work.script.nodes)
-
-pub part_count-text : (script : ScriptData) (r : ℕ) (name : List ℕ) (n : ℕ) → IsSoundScript script
-    → slice_get script.nodes r ≡ Some (text_node name n) → part_count script r ≡ n
-part_count-text script r name n sound is =
-    let work : WorkData = record { script = script; inputs = [] } in
-    sym (length-node_streams work r) ∙ ap length (node_streams-text work r name n sound is)
-    ∙ length-map (numbers_below n) (text_stream [] name n) ∙ length-numbers_below n
-
-pub part_count-map : (script : ScriptData) (r q : ℕ) (e : ExprData) → IsSoundScript script
-    → slice_get script.nodes r ≡ Some (map_node q e) → part_count script r ≡ part_count script q
-part_count-map script r q e sound is =
-    let work : WorkData = record { script = script; inputs = [] } in
-    sym (length-node_streams work r) ∙ ap length (node_streams-map work r q e sound is)
-    ∙ length-map (node_streams work q) (map_stream (at_row e)) ∙ length-node_streams work q
-
--- no number of partitions is past the limit
-count-pushed : (limit : ℕ) (counts : List ℕ) (count : ℕ) → ((k : ℕ) → at_or counts k 0 ≤ limit) → count ≤ limit
-    → (k : ℕ) → at_or (counts ++ count ∷ []) k 0 ≤ limit
-count-pushed limit [] count all one zero = one
-count-pushed limit [] count all one (suc k) = omega arith
-count-pushed limit (c ∷ counts) count all one zero = all 0
-count-pushed limit (c ∷ counts) count all one (suc k) = count-pushed limit counts count (λ j. all (suc j)) one k
-
-count_of_node-limit : (limit : ℕ) (before : List ℕ) (node : NodeData) → ((k : ℕ) → at_or before k 0 ≤ limit) → NamesCount limit node
-    → count_of_node before node ≤ limit
-count_of_node-limit limit before (text_node name count) all names = names.1
-count_of_node-limit limit before (map_node parent e) all names = all parent
-
-counts_behind-limit : (limit first : ℕ) (before : List ℕ) (nodes : List NodeData) → ((k : ℕ) → at_or before k 0 ≤ limit)
-    → AreWellPlaced limit first nodes → (k : ℕ) → at_or (counts_behind before nodes) k 0 ≤ limit
-counts_behind-limit limit first before [] all placed k = all k
-counts_behind-limit limit first before (node ∷ nodes) all placed k =
-    let count = count_of_node before node in
-    counts_behind-limit limit (1 + first) (before ++ count ∷ []) nodes
-    (count-pushed limit before count all (count_of_node-limit limit before node all placed.1)) placed.2 k
-
-pub part_count-limit : (script : ScriptData) (r : ℕ) → IsSoundScript script → part_count script r ≤ partition_limit script
-part_count-limit script r sound = counts_behind-limit (partition_limit script) 0 [] script.nodes (λ k. omega arith) sound.nodes r
-
--- the stream of a partition, by the kind of its node
-pub partition_stream-text : (work : WorkData) (r : ℕ) (name : List ℕ) (n p : ℕ) → IsSoundScript work.script
-    → slice_get work.script.nodes r ≡ Some (text_node name n) → p < part_count work.script r
-    → partition_stream work r p ≡ text_stream work.inputs name n p
-partition_stream-text work r name n p sound is within =
-    ap (λ ss. at_or ss p (ended_stream None)) (node_streams-text work r name n sound is)
-    ∙ at_or-numbers_below (text_stream work.inputs name n) n p (ended_stream None)
-    (omega (arith, part_count-text work.script r name n sound is))
-
-pub partition_stream-map : (work : WorkData) (r q : ℕ) (e : ExprData) (p : ℕ) → IsSoundScript work.script
-    → slice_get work.script.nodes r ≡ Some (map_node q e)
-    → partition_stream work r p ≡ map_stream (at_row e) (partition_stream work q p)
-partition_stream-map work r q e p sound is =
-    ap (λ ss. at_or ss p (ended_stream None)) (node_streams-map work r q e sound is)
-    ∙ at_or-map_any (map_stream (at_row e)) (node_streams work q) p (ended_stream None)
+-- the streams that are read at some places, as those of a node's partition
+pub stream_from_reads : (work : WorkData) (k p : ℕ) (node : NodeData) (places : List PlaceData)
+    (streams : List Stream) → IsSoundScript work.script
+    → slice_get work.script.nodes k ≡ Some node → p < part_count work k
+    → places ≡ reads_of (stream_count (meanings work)) node p
+    → streams ≡ map (stream_at (meanings work)) places
+    → narrow_stream work.inputs node p streams ≡ partition_stream work k p
+stream_from_reads work k p node places streams sound is within read are =
+    ap (narrow_stream work.inputs node p) (are ∙ ap (map (stream_at (meanings work))) read)
+    ∙ sym (partition_is_narrow work k p node sound is within)
 
 -- one more stream of a node
-pub node_streams-more : (work : WorkData) (r p : ℕ) → p < part_count work.script r
-    → take (p + 1) (node_streams work r) ≡ take p (node_streams work r) ++ partition_stream work r p ∷ []
-node_streams-more work r p within =
-    take-at_or (node_streams work r) p (ended_stream None) (omega (arith, length-node_streams work r))
+pub node_streams-more : (work : WorkData) (k p : ℕ) → p < part_count work k
+    → take (p + 1) (node_streams work k)
+    ≡ take p (node_streams work k) ++ partition_stream work k p ∷ []
+node_streams-more work k p within = take-at_or (node_streams work k) p (ended_stream None) within
 
 -- the streams of all partitions of a node
-pub node_streams-all : (work : WorkData) (r n : ℕ) → part_count work.script r ≤ n → take n (node_streams work r) ≡ node_streams work r
-node_streams-all work r n all = take_all n (node_streams work r) (omega (arith, length-node_streams work r))
+pub node_streams-all : (work : WorkData) (k n : ℕ) → part_count work k ≤ n
+    → take n (node_streams work k) ≡ node_streams work k
+node_streams-all work k n all = take_all n (node_streams work k) all
+
+-- The places that a partition of a node reads.
+module _ (work : WorkData) (k p : ℕ) (node : NodeData) (sound : IsSoundScript work.script)
+    (is : slice_get work.script.nodes k ≡ Some node) where
+  abbrev places : List PlaceData
+  places = reads_of (stream_count (meanings work)) node p
+
+  -- they are of nodes before it
+  pub places_before : All (λ at. at.node < k) places
+  places_before =
+      reads_at_parents (stream_count (meanings work)) (λ q. q < k) node p
+      (reads_before work.script k node sound is)
+
+  pub place_before : (at : PlaceData) → Contains places at → at.node < k
+  place_before at = All-contains (λ x. x.node < k) places at places_before
+
+  -- they are partitions of those nodes
+  pub places_within : p < part_count work k
+      → All (λ at. at.partition < part_count work at.node) places
+  places_within within =
+      let counts = declared_counts work.script.nodes in
+      let declared = reads_of (declared_count work.script) node p in
+      All-same (λ at. at.partition < part_count work at.node) places declared
+      (reads_by_declared work node p)
+      (All-weaker (λ at. at.partition < at_or counts at.node 0)
+      (λ at. at.partition < part_count work at.node)
+      (λ at below. omega (arith, count_is_declared work at.node)) declared
+      (reads_within counts node p (omega (arith, part_count-step work k node sound is))))
+
+  pub place_within : p < part_count work k → (at : PlaceData) → Contains places at
+      → at.partition < part_count work at.node
+  place_within within at =
+      All-contains (λ x. x.partition < part_count work x.node) places at (places_within within)

@@ -1,6 +1,13 @@
+pub mod NodeData
+pub mod ByNodes
+pub mod Dependencies
 pub mod ScriptData
 pub mod ScriptCode
 pub mod Views
 pub mod Streams
+pub mod Narrow
 pub mod Meaning
+pub mod Actions
+pub mod Targets
+pub mod RowTypes
 pub mod Laws

@@ -4,43 +4,79 @@ use Rattle.std.specs.Coded.{Coded, code_by, coded_ℕ, coded_list, coded⊎, cod
 use mathlib.Core.Logic.{inl, inr}
 use mathlib.Core.Path.{refl}
 use Rattle.sc_base.specs.Outside.{Files}
+use Rattle.sc_value.specs.Datum.{Datum}
+use Rattle.sc_value.specs.DatumCode.{datum_code}
 use Rattle.sc_expr.specs.ExprData.{ExprData}
 use Rattle.sc_expr.specs.ExprCode.{expr_code}
-use Rattle.sc_lineage.specs.declared.nodes.Action.{Action}
-use Rattle.sc_lineage.specs.declared.nodes.Action.TheVariants.{Collect}
-use Rattle.sc_lineage.specs.ScriptData.{NodeData, text_node, map_node, ScriptData, WorkData, node_of_action}
+use Rattle.sc_lineage.specs.declared.nodes.Elementwise.{Elementwise}
+use Rattle.sc_lineage.specs.contracts.nodes.Elementwise.{the_row as elementwise}
+use Rattle.sc_lineage.specs.NodeData.{NodeData, text_node, parallelize_node, each_node, union_node, coalesce_node, cache_node}
+use Rattle.sc_lineage.specs.ScriptData.{ActionData, collect_action, count_action, reduce_action, ScriptData, WorkData}
 
--- the arguments of a node
-abbrev pub node_parts : NodeData → (List ℕ × ℕ) ⊎ (ℕ × ExprData)
-node_parts (text_node name count) = inl (name, count)
-node_parts (map_node parent e) = inr (parent, e)
+-- the arguments of a node: of a source, of an operation row by row, or of one that only reads
+abbrev pub NodeParts : Type 0
+NodeParts =
+    ((List ℕ × ℕ) ⊎ (List Datum × ℕ))
+    ⊎ ((Elementwise × (ℕ × ExprData)) ⊎ ((ℕ × ℕ) ⊎ ((ℕ × ℕ) ⊎ ℕ)))
 
-abbrev pub node_from : (List ℕ × ℕ) ⊎ (ℕ × ExprData) → NodeData
-node_from (inl p) = text_node p.0 p.1
-node_from (inr p) = map_node p.0 p.1
+abbrev pub node_parts : NodeData → NodeParts
+node_parts (text_node name n) = inl (inl (name, n))
+node_parts (parallelize_node rows n) = inl (inr (rows, n))
+node_parts (each_node kind parent e) = inr (inl (kind, (parent, e)))
+node_parts (union_node left right) = inr (inr (inl (left, right)))
+node_parts (coalesce_node parent n) = inr (inr (inr (inl (parent, n))))
+node_parts (cache_node parent) = inr (inr (inr (inr parent)))
+
+abbrev pub node_from : NodeParts → NodeData
+node_from (inl (inl p)) = text_node p.0 p.1
+node_from (inl (inr p)) = parallelize_node p.0 p.1
+node_from (inr (inl p)) = each_node p.0 p.1.0 p.1.1
+node_from (inr (inr (inl p))) = union_node p.0 p.1
+node_from (inr (inr (inr (inl p)))) = coalesce_node p.0 p.1
+node_from (inr (inr (inr (inr parent)))) = cache_node parent
 
 pub node_from-node_parts : (node : NodeData) → node_from (node_parts node) ≡ node
-node_from-node_parts (text_node name count) = refl
-node_from-node_parts (map_node parent e) = refl
+node_from-node_parts (text_node name n) = refl
+node_from-node_parts (parallelize_node rows n) = refl
+node_from-node_parts (each_node kind parent e) = refl
+node_from-node_parts (union_node left right) = refl
+node_from-node_parts (coalesce_node parent n) = refl
+node_from-node_parts (cache_node parent) = refl
 
 abbrev pub node_code : Coded NodeData
 node_code =
-    code_by ((List ℕ × ℕ) ⊎ (ℕ × ExprData))
-    (coded⊎ (coded× (coded_list coded_ℕ) coded_ℕ) (coded× coded_ℕ expr_code))
+    code_by NodeParts
+    (coded⊎
+    (coded⊎ (coded× (coded_list coded_ℕ) coded_ℕ) (coded× (coded_list datum_code) coded_ℕ))
+    (coded⊎ (coded× elementwise.coded (coded× coded_ℕ expr_code))
+    (coded⊎ (coded× coded_ℕ coded_ℕ) (coded⊎ (coded× coded_ℕ coded_ℕ) coded_ℕ))))
     node_parts node_from node_from-node_parts
 
-abbrev pub action_from : ℕ → Action
-action_from node = Collect node
+-- the arguments of an action
+abbrev pub action_parts : ActionData → ℕ ⊎ (ℕ ⊎ (ℕ × ExprData))
+action_parts (collect_action node) = inl node
+action_parts (count_action node) = inr (inl node)
+action_parts (reduce_action node e) = inr (inr (node, e))
 
-pub action_from-node_of_action : (action : Action) → action_from (node_of_action action) ≡ action
-action_from-node_of_action (Collect node) = refl
+abbrev pub action_from : ℕ ⊎ (ℕ ⊎ (ℕ × ExprData)) → ActionData
+action_from (inl node) = collect_action node
+action_from (inr (inl node)) = count_action node
+action_from (inr (inr p)) = reduce_action p.0 p.1
 
-abbrev pub action_code : Coded Action
-action_code = code_by ℕ coded_ℕ node_of_action action_from action_from-node_of_action
+pub action_from-action_parts : (action : ActionData) → action_from (action_parts action) ≡ action
+action_from-action_parts (collect_action node) = refl
+action_from-action_parts (count_action node) = refl
+action_from-action_parts (reduce_action node e) = refl
+
+abbrev pub action_code : Coded ActionData
+action_code =
+    code_by (ℕ ⊎ (ℕ ⊎ (ℕ × ExprData))) (coded⊎ coded_ℕ (coded⊎ coded_ℕ (coded× coded_ℕ expr_code)))
+    action_parts action_from action_from-action_parts
 
 abbrev pub script_code : Coded ScriptData
 script_code =
-    code_by (List NodeData × List Action) (coded× (coded_list node_code) (coded_list action_code))
+    code_by (List NodeData × List ActionData)
+    (coded× (coded_list node_code) (coded_list action_code))
     (λ s. (s.nodes, s.actions)) (λ p. record { nodes = p.0; actions = p.1 }) (λ _. refl)
 
 abbrev pub files_code : Coded Files

@@ -1,79 +1,92 @@
 -- Checked scripts, and a script with the inputs that it names, as plain data.
-use Rattle.std.specs.Prelude.{ℕ, ◌+◌, ◌≤◌, ◌<◌, ◌≡◌, List, [], ◌∷◌, ◌++◌, length, map, if◌then◌else◌}
-use Rattle.std.specs.List.{list_any}
-use Rattle.std.specs.Str.{bytes_eq, IsUtf8}
+use Rattle.std.specs.Prelude.{ℕ, ◌+◌, ◌≤◌, ◌<◌, ◌≡◌, List, [], ◌∷◌, length, map, min}
+use Rattle.std.specs.List.{All, flat_map}
+use Rattle.std.specs.Str.{IsUtf8}
+use Rattle.sc_base.specs.Lists.{at_or, firsts}
 use Rattle.sc_base.specs.Outside.{Files}
 use Rattle.sc_expr.specs.ExprData.{ExprData}
-use Rattle.sc_lineage.specs.declared.nodes.Action.{Action}
-use Rattle.sc_lineage.specs.declared.nodes.Action.TheVariants.{Collect}
+use Rattle.sc_lineage.specs.ByNodes.{by_nodes}
+use Rattle.sc_lineage.specs.NodeData.{NodeData, text_node, parallelize_node, each_node, union_node, coalesce_node, cache_node}
+use Rattle.sc_lineage.specs.Dependencies.{parents_of}
 
--- a node: the lines of an input in slices, or an expression over each row of another node
-pub data NodeData : Type 0 where
-  text_node : List ℕ → ℕ → NodeData
-  map_node : ℕ → ExprData → NodeData
+-- what is done with a node
+pub data ActionData : Type 0 where
+  collect_action : ℕ → ActionData
+  count_action : ℕ → ActionData
+  reduce_action : ℕ → ExprData → ActionData
 
 -- nodes in the order of their definition, and what is done with them
 pub record ScriptData : Type 0 where
   pub nodes : List NodeData
-  pub actions : List Action
+  pub actions : List ActionData
 
 -- a script and what its inputs hold, by their names
 pub record WorkData : Type 0 where
   pub script : ScriptData
   pub inputs : Files
 
--- the most partitions that a definition may name
+-- the most partitions that a definition may have
 abbrev pub partition_limit : ScriptData → ℕ
 partition_limit script = 1024
 
--- the nodes that a node reads
-abbrev pub parents_of : NodeData → List ℕ
-parents_of (text_node name count) = []
-parents_of (map_node parent e) = parent ∷ []
+-- the number of partitions of a node as the grammar counts it, from those of the nodes before it
+abbrev pub count_step : List ℕ → NodeData → ℕ
+count_step before (text_node name n) = n
+count_step before (parallelize_node rows n) = n
+count_step before (each_node kind parent e) = at_or before parent 0
+count_step before (union_node left right) = at_or before left 0 + at_or before right 0
+count_step before (coalesce_node parent n) = min n (at_or before parent 0)
+count_step before (cache_node parent) = at_or before parent 0
+
+-- the numbers of partitions of nodes, as the grammar counts them
+abbrev pub declared_counts : List NodeData → List ℕ
+declared_counts = by_nodes count_step
+
+-- the number of partitions of a node, as the grammar counts it
+abbrev pub declared_count : ScriptData → ℕ → ℕ
+declared_count script node = at_or (declared_counts script.nodes) node 0
 
 -- a node of this number reads only nodes before it
 abbrev pub ReadsBefore : ℕ → NodeData → Type 0
-ReadsBefore number (text_node name count) = Unit {0}
-ReadsBefore number (map_node parent e) = parent < number
+ReadsBefore number node = All (λ parent. parent < number) (parents_of node)
 
--- a count of partitions that a node names is in its range
-abbrev pub NamesCount : ℕ → NodeData → Type 0
-NamesCount limit (text_node name count) = (1 ≤ count) × (count ≤ limit)
-NamesCount limit (map_node parent e) = Unit {0}
+-- each node, numbered from `first` on, reads only nodes before it
+abbrev pub AreWellPlaced : ℕ → List NodeData → Type 0
+AreWellPlaced first [] = Unit {0}
+AreWellPlaced first (node ∷ nodes) = ReadsBefore first node × AreWellPlaced (1 + first) nodes
 
--- each node, numbered from `first` on, reads only nodes before it and names a count in its range
-abbrev pub AreWellPlaced : ℕ → ℕ → List NodeData → Type 0
-AreWellPlaced limit first [] = Unit {0}
-AreWellPlaced limit first (node ∷ nodes) =
-    ReadsBefore first node × NamesCount limit node × AreWellPlaced limit (1 + first) nodes
+-- a number of partitions is in its range
+pub record IsCount (limit count : ℕ) : Type 0 where
+  pub some : 1 ≤ count
+  pub within : count ≤ limit
 
 -- the node of an action
-abbrev pub node_of_action : Action → ℕ
-node_of_action (Collect node) = node
-
--- each action names a node that there is
-abbrev pub NameNodes : ℕ → List Action → Type 0
-NameNodes count [] = Unit {0}
-NameNodes count (action ∷ actions) = (node_of_action action < count) × NameNodes count actions
+abbrev pub node_of_action : ActionData → ℕ
+node_of_action (collect_action node) = node
+node_of_action (count_action node) = node
+node_of_action (reduce_action node e) = node
 
 -- what every checked script keeps
 pub record IsSoundScript (script : ScriptData) : Type 0 where
-  pub nodes : AreWellPlaced (partition_limit script) 0 script.nodes
-  pub actions : NameNodes (length script.nodes) script.actions
+  -- nodes read only nodes before them
+  pub nodes : AreWellPlaced 0 script.nodes
+  -- each node has as many partitions as a definition may have
+  pub counts : All (IsCount (partition_limit script)) (declared_counts script.nodes)
+  -- actions name nodes that are there
+  pub actions : All (λ action. node_of_action action < length script.nodes) script.actions
 
--- names, and one more where it isn't among them
-abbrev pub with_name : List (List ℕ) → List ℕ → List (List ℕ)
-with_name names name = if list_any (bytes_eq name) names then names else names ++ name ∷ []
-
--- the inputs that nodes name, behind these names, each once and in order of first naming
-abbrev pub names_behind : List (List ℕ) → List NodeData → List (List ℕ)
-names_behind names [] = names
-names_behind names (text_node name count ∷ nodes) = names_behind (with_name names name) nodes
-names_behind names (map_node parent e ∷ nodes) = names_behind names nodes
+-- the input that a node names
+abbrev pub names_of_node : NodeData → List (List ℕ)
+names_of_node (text_node name n) = name ∷ []
+names_of_node (parallelize_node rows n) = []
+names_of_node (each_node kind parent e) = []
+names_of_node (union_node left right) = []
+names_of_node (coalesce_node parent n) = []
+names_of_node (cache_node parent) = []
 
 -- the inputs that a script names, each once and in order of first naming
 abbrev pub input_names : ScriptData → List (List ℕ)
-input_names script = names_behind [] script.nodes
+input_names script = firsts (flat_map names_of_node script.nodes)
 
 -- the name of an input
 abbrev pub name_of_input : List ℕ × List ℕ → List ℕ

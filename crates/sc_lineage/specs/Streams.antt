@@ -1,7 +1,7 @@
 -- Streams: the content of a partition.
-use Rattle.std.specs.Prelude.{List, [], ◌∷◌, Option, Some, None}
+use Rattle.std.specs.Prelude.{Bool, List, [], ◌∷◌, ◌++◌, Option, Some, None, Ok, Err, is_some}
 use Rattle.sc_value.specs.Datum.{Datum}
-use Rattle.sc_expr.specs.Meaning.{Outcome, value, raise}
+use Rattle.sc_expr.specs.Heads.{Outcome}
 use Rattle.sc_expr.specs.declared.exprs.Raise.{Raise}
 use Rattle.sc_lineage.specs.declared.streams.Stream.{Stream}
 
@@ -13,20 +13,37 @@ whole_stream rows = record { rows = rows; raise = None }
 abbrev pub ended_stream : Option Raise → Stream
 ended_stream end = record { rows = []; raise = end }
 
--- a row in front of a stream
-abbrev pub with_row : Datum → Stream → Stream
-with_row d s = record { rows = d ∷ s.rows; raise = s.raise }
+-- whether a stream ends in a raise
+abbrev pub raises : Stream → Bool
+raises s = is_some s.raise
 
--- what an outcome puts in front of a stream: its value, or its raise in place of the whole rest
-abbrev pub with_outcome : Outcome → Stream → Stream
-with_outcome (value d) rest = with_row d rest
-with_outcome (raise r) rest = ended_stream (Some r)
+-- rows in front of a stream
+abbrev pub with_rows : List Datum → Stream → Stream
+with_rows ds s = record { rows = ds ++ s.rows; raise = s.raise }
 
--- element by element up to the first raise, whether it is one of these or the one at the end
+-- what an outcome puts in front of a stream: rows that its value gives, or its raise in place of
+-- the whole rest
+abbrev pub with_outcome : (Datum → List Datum) → Outcome → Stream → Stream
+with_outcome given (Ok d) rest = with_rows (given d) rest
+with_outcome given (Err r) rest = ended_stream (Some r)
+
+-- What rows give one after another, up to the first raise, whether it is one of theirs or the one
+-- at the end: from each row and the value of its outcome some rows.
+abbrev pub each_gives :
+    (Datum → Datum → List Datum) → (Datum → Outcome) → List Datum → Option Raise → Stream
+each_gives given f [] end = ended_stream end
+each_gives given f (d ∷ ds) end = with_outcome (given d) (f d) (each_gives given f ds end)
+
+-- the value of each row, up to the first raise
 abbrev pub each_until_raise : (Datum → Outcome) → List Datum → Option Raise → Stream
-each_until_raise f [] end = ended_stream end
-each_until_raise f (d ∷ ds) end = with_outcome (f d) (each_until_raise f ds end)
+each_until_raise f ds end = each_gives (λ d v. v ∷ []) f ds end
 
--- an operation on each row of a stream
-abbrev pub map_stream : (Datum → Outcome) → Stream → Stream
-map_stream f s = each_until_raise f s.rows s.raise
+-- a stream behind rows and what ended them: a raise ends the whole
+abbrev pub unless_raised : List Datum → Option Raise → Stream → Stream
+unless_raised rows None rest = with_rows rows rest
+unless_raised rows (Some r) rest = record { rows = rows; raise = Some r }
+
+-- streams one behind another, up to the first raise
+abbrev pub joined_streams : List Stream → Stream
+joined_streams [] = ended_stream None
+joined_streams (s ∷ ss) = unless_raised s.rows s.raise (joined_streams ss)

@@ -2,10 +2,12 @@
 #![tactic(auto)]
 
 ghost use Rattle.std.specs.Prelude.{◌≡◌, Err, IfOk};
+ghost use Rattle.sc_base.specs.declared.refusals.OrMemory.TheVariants.{Fault};
 ghost use Rattle.std.specs.Str.{IsUtf8};
-ghost use Rattle.sc_value.specs.Lines.{text_lines};
+ghost use Rattle.sc_value.specs.Lines.{not_text, text_lines};
 
-use sc_value::{LinesError, Name, Octets, Texts, lines};
+use sc_base::OrMemory;
+use sc_value::{Name, NotText, Octets, Texts, lines};
 use std::alloc::Global;
 use std::marker::Model;
 
@@ -37,10 +39,10 @@ impl Input {
     /// # Errors
     ///
     /// `NotText` exactly where the bytes aren't UTF-8, unless memory runs out.
-    pub fn new(alloc: Global, name: Name, bytes: Octets) -> Result<Input, LinesError>
+    pub fn new(alloc: Global, name: Name, bytes: Octets) -> Result<Input, OrMemory<NotText>>
         ensures input { IfOk result (λ i. i ≡ (name, bytes)) }
         ensures text { IfOk result (λ i. IsUtf8 bytes) }
-        ensures not_text { result ≡ Err LinesError.NotText → ¬ (IsUtf8 bytes) }
+        ensures not_text { result ≡ Err (Fault not_text) → ¬ (IsUtf8 bytes) }
     {
         let lines = lines(alloc, &bytes)?;
         Ok(Input { name, bytes, lines })

@@ -1,9 +1,12 @@
-//! Laws of the meaning, each on a function that does nothing.
+//! The laws of the meaning, on a function that does nothing.
 #![tactic(auto)]
 
-ghost use Rattle.sc_lineage.specs.Laws.{NothingRaises};
+ghost use Rattle.sc_lineage.specs.Laws.{MeaningIsLawful};
 
-/// The law that no action of any work raises: each gives a text.
-pub fn nothing_raises()
-    ensures { NothingRaises }
+/// The laws of the meaning: its folds are folds, a partition's stream is that of its node over what
+/// it reads, the partitions of a node together read each partition of its parents once, a node has
+/// as many partitions as the grammar counts, and the inputs are those named, each once and in the
+/// order of first naming.
+pub fn meaning_is_lawful()
+    ensures { MeaningIsLawful }
 {}

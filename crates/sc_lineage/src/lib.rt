@@ -2,24 +2,33 @@
 //!
 //! A [`Script`] is a list of [`Node`]s, each of which reads only nodes before it, and of
 //! [`Action`]s. A [`Work`] is a script with the inputs that it names; by its type each of them is
-//! there and is text. `specs/Meaning.antt` gives the sequential meaning: the [`Stream`] of each
-//! partition by one fold over the list of nodes, and the text of each action. What runs a script,
-//! by whatever threads and attempts, is held to that. A further kind of node is one more variant, one
-//! more case of the definitions, and one more law beside them.
+//! there and is text. What a node depends on is data (`specs/Dependencies.antt`), and
+//! [`Work::places_read`] gives the partitions that a partition reads, each of an earlier node.
+//! `specs/Meaning.antt` gives the sequential meaning: the [`Stream`] of each partition by one fold
+//! over the list of nodes, where `narrow_stream` of `specs/Narrow.antt` says what a node makes of
+//! the streams that it reads. `specs/Actions.antt` says what an action gives, `specs/RowTypes.antt`
+//! which type rows have, and [`meaning_is_lawful`] which laws hold of all that.
 //!
-//! After Zaharia et al., "Resilient Distributed Datasets" (NSDI 2012), section 2.
+//! What runs a script, by whatever threads and attempts, is held to that; nothing here runs.
+//!
+//! After Zaharia et al., "Resilient Distributed Datasets" (NSDI 2012), section 2, and Spark's RDD
+//! programming guide.
 #![tactic(auto)]
 
+mod dependencies;
 mod inputs;
 mod laws;
 mod nodes;
 mod scripts;
 mod streams;
+mod types;
 mod works;
 
+pub use dependencies::{Place, reads};
 pub use inputs::Input;
-pub use laws::nothing_raises;
-pub use nodes::{Action, Node, NodeId};
+pub use laws::meaning_is_lawful;
+pub use nodes::{Action, DriverFault, Elementwise, Node, NodeId};
 pub use scripts::{PARTITION_LIMIT, Script};
 pub use streams::Stream;
+pub use types::{action_type, row_type};
 pub use works::Work;

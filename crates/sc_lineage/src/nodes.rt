@@ -1,43 +1,103 @@
 //! Nodes and actions.
 #![tactic(auto)]
 
-ghost use Rattle.std.specs.Prelude.{◌≡◌, IfOk};
-ghost use Rattle.sc_lineage.specs.ScriptData.{parents_of};
-ghost use Rattle.sc_lineage.specs.Views.{node_data_of};
-
-use sc_expr::Expr;
+use sc_columns::Rows;
+use sc_expr::{Expr, Raise};
 use sc_value::Name;
-use std::alloc::{AllocError, Global};
 
 /// The number of a node, counted from 0 in the order of the definitions.
 pub type NodeId = u32;
 
-/// A node of the lineage.
+/// What an operation does with each row of its parent, by an expression: Spark's narrow
+/// transformations of one RDD.
+#[derive(Clone, Copy, Debug, PartialEq, Eq)]
+pub enum Elementwise {
+    /// The value of the expression at the row.
+    Map,
+    /// The row, where the expression holds there.
+    Filter,
+    /// The items of the list that the expression gives at the row.
+    FlatMap,
+    /// The row's key with the value of the expression at the row's value.
+    MapValues,
+    /// The row's key with each item of the list that the expression gives at the row's value.
+    FlatMapValues,
+}
+
+/// A node of the lineage: an RDD with what it is made of.
 #[derive(Drop)]
 pub enum Node {
     /// The lines of an input, in so many even slices.
-    Text(Name, u32),
-    /// An expression over each row of another node.
-    Map(NodeId, Expr),
-}
-
-impl Node {
-    /// The nodes that it reads, in order.
-    pub fn parents(&self, alloc: Global) -> Result<Vec<NodeId>, AllocError>
-        ensures { IfOk result (λ v. v.items ≡ parents_of (node_data_of self.now)) }
-    {
-        let mut parents = Vec::new(alloc);
-        match self {
-            Node::Text(_, _) => {}
-            Node::Map(parent, _) => parents.push(*parent)?,
-        }
-        Ok(parents)
-    }
+    Text {
+        /// The name of the input.
+        input: Name,
+        /// The number of slices.
+        slices: u32,
+    },
+    /// Literals, in so many even slices.
+    Parallelize {
+        /// The literals, all of them numbers or all of them texts.
+        literals: Rows,
+        /// The number of slices.
+        slices: u32,
+    },
+    /// An operation with an expression, row by row of a parent.
+    Each {
+        /// What it does with a row.
+        kind: Elementwise,
+        /// The node whose rows it takes.
+        parent: NodeId,
+        /// The expression.
+        expr: Expr,
+    },
+    /// The partitions of one node, and then those of another.
+    Union {
+        /// The node whose partitions stand first.
+        left: NodeId,
+        /// The node whose partitions stand behind them.
+        right: NodeId,
+    },
+    /// The partitions of a parent, put together in runs.
+    Coalesce {
+        /// The node whose partitions they are.
+        parent: NodeId,
+        /// The number of runs, or the parent's partitions where these are fewer.
+        partitions: u32,
+    },
+    /// The partitions of a parent, which are worth keeping.
+    Cache {
+        /// The node whose partitions they are.
+        parent: NodeId,
+    },
 }
 
 /// What is done with a node.
-#[derive(Clone, Copy, Debug, PartialEq, Eq)]
+#[derive(Drop)]
 pub enum Action {
     /// Prints its rows in the order of the partitions, each on a line of its own.
-    Collect(NodeId),
+    Collect {
+        /// The node.
+        node: NodeId,
+    },
+    /// Prints how many rows it has.
+    Count {
+        /// The node.
+        node: NodeId,
+    },
+    /// Puts its rows together from the left, each partition and then the results.
+    Reduce {
+        /// The node.
+        node: NodeId,
+        /// The expression over two values.
+        expr: Expr,
+    },
+}
+
+/// Why the results of an action have no value, though no partition raises.
+#[derive(Clone, Copy, Debug, PartialEq, Eq)]
+pub enum DriverFault {
+    /// There is no row to reduce.
+    EmptyCollection,
+    /// The fold of the results raises.
+    Raised(Raise),
 }

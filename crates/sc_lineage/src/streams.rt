@@ -1,8 +1,8 @@
 //! Streams.
 #![tactic(auto)]
 
+use sc_columns::Rows;
 use sc_expr::Raise;
-use sc_value::Rows;
 
 /// The content of a partition: rows, and at their end a raise or none.
 #[derive(Drop)]

@@ -1,12 +1,15 @@
-use Rattle.std.proofs.Common.{ℕ, length, subst, sym, ap}
-use Rattle.sc_lineage.specs.ScriptData.{ScriptData, ReadsBefore}
-use Rattle.sc_lineage.specs.Views.{node_data_of}
+use Rattle.std.proofs.Common.{◌∙◌, [], ◌∷◌, ◌++◌, map, ap}
+use Rattle.sc_lineage.specs.Views.{action_data_of}
 use Rattle.sc_lineage.proofs.SoundLemmas.{defined}
 use Rattle.sc_lineage.proofs.scripts.Script.define.Goals as goal
 
 pub invariant_of-self-2 : goal.invariant_of-self-2
 invariant_of-self-2 c =
-    let P : ℕ → Type 0 = λ n. ReadsBefore n (node_data_of c.args.node) in
-    defined c.self.inside.nodes.items c.push.new.self.items c.args.node c.self.inside.actions.items
-    c.self.invariant c.in_ok-push.ensures.items
-    (subst P (sym (ap (λ (s : ScriptData). length s.nodes) c.self.view_is)) c.requires.before) c.requires.count
+    let before = c.self.inside in
+    let count = c.count_of-count.result in
+    defined c.args.self.now before.nodes.items c.push.new.self.items
+    (map action_data_of before.actions.items) c.args.node before.counts.items
+    c.push_reserved.new.self.items count c.self.view_is c.self.invariant
+    c.in_ok-push.ensures.items
+    (c.push_reserved.ensures.items ∙ ap (λ ns. ns ++ count ∷ []) c.in_ok-reserve.ensures.items)
+    c.requires.before c.requires.count c.count_of-count.ensures
