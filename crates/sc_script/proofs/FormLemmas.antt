@@ -7,8 +7,9 @@ use Rattle.sc_script.specs.Trees.{ArgData, int_arg, text_arg, word_arg, list_arg
 use Rattle.sc_script.specs.Views.{args_of}
 use Rattle.sc_script.specs.FormReading.{args_from, first_word, begins_with_equals, action_from, operation_from, definition_from, form_behind, form_from}
 use Rattle.std.specs.Prelude.{Result, Ok, Err, if◌then◌else◌}
-use Rattle.sc_script.specs.declared.faults.LineError.{LineError}
-use Rattle.sc_script.specs.declared.faults.LineError.TheVariants.{Fault, OutOfMemory}
+use Rattle.sc_script.specs.declared.faults.FaultKind.{FaultKind}
+use Rattle.sc_base.specs.declared.refusals.OrMemory.{OrMemory}
+use Rattle.sc_base.specs.declared.refusals.OrMemory.TheVariants.{Fault, OutOfMemory}
 use Rattle.sc_script.specs.declared.trees.Form.{Form}
 use Rattle.sc_script.specs.Parsing.{IsFormOf}
 use Rattle.sc_script.specs.Views.{form_data_of}
@@ -132,7 +133,7 @@ pub form_exists : (ts : List TokenData)
 form_exists ts = told ts (form_from ts) refl
 
 -- an answer that reading gives is right
-pub form_from_reading : (ts : List TokenData) (answer : Result Form LineError)
+pub form_from_reading : (ts : List TokenData) (answer : Result Form (OrMemory FaultKind))
     → Reads form_data_of answer (form_from ts) → IsFormOf ts answer
 form_from_reading ts (Ok form) is = form_from-so ts (form_data_of form) is
 form_from_reading ts (Err (Fault kind)) is = (is.0, form_from-none ts is.1)

@@ -6,8 +6,8 @@ use Rattle.sc_script.specs.TokenReading.{token_at, piece_at, piece_of, after_pie
 use Rattle.sc_script.specs.Views.{token_data_of}
 use Rattle.sc_script.specs.declared.faults.FaultKind.{FaultKind}
 use Rattle.sc_script.specs.declared.faults.FaultKind.TheVariants.{NotText, Limit, Syntax, UnknownName, Twice, IllTyped}
-use Rattle.sc_script.specs.declared.faults.LineError.{LineError}
-use Rattle.sc_script.specs.declared.faults.LineError.TheVariants as line_errors
+use Rattle.sc_base.specs.declared.refusals.OrMemory.{OrMemory}
+use Rattle.sc_base.specs.declared.refusals.OrMemory.TheVariants.{Fault, OutOfMemory}
 use Rattle.sc_script.specs.declared.tokens.Token.{Token}
 
 -- behind a quote a text is looked for, and without it a piece
@@ -64,11 +64,11 @@ fault_with_rest UnknownName back found fault = fault
 fault_with_rest Twice back found fault = fault
 fault_with_rest IllTyped back found fault = fault
 
-pub piece_refused : (error : LineError) (line front back : List ℕ) → piece_of line ≡ front
+pub piece_refused : (error : OrMemory FaultKind) (line front back : List ℕ) → piece_of line ≡ front
     → after_piece line ≡ back
     → Finds {X = Token} token_data_of IsShort (Err error) (token_of_piece front back)
     → Finds {X = Token × Bor (List ℕ)} front_of IsShortFront (Err error) (piece_at line)
-piece_refused (line_errors.Fault kind) line front back is behind fault =
+piece_refused (Fault kind) line front back is behind fault =
     subst (IsFaultOf IsShortFront kind) (sym (piece_at-cut line front back is behind))
     (fault_with_rest kind back (token_of_piece front back) fault)
-piece_refused line_errors.OutOfMemory line front back is behind fault = tt
+piece_refused OutOfMemory line front back is behind fault = tt

@@ -4,14 +4,16 @@ use Rattle.std.proofs.lemmas.Bool.{and_parts, and_from, or_parts, or_left, cond-
 use Rattle.std.proofs.lemmas.Bool.Decides.{nat_tests}
 use Rattle.std.proofs.lemmas.Option.{none-some, some_pair_parts, cond_some}
 use Rattle.std.specs.List.{list_all}
-use Rattle.sc_script.proofs.TokenNumbers.{spelled_number, number_piece}
+use Rattle.sc_script.proofs.TokenNumbers.{number_piece}
+use Rattle.sc_value.proofs.NumberLemmas.{spelled_number}
 use Rattle.sc_script.proofs.TokenPieces.{pieces, after_piece_ends, has_no_end, piece_of-append, after_piece-append, word_has_no_end}
 use Rattle.sc_script.proofs.TokenReading.{piece_is_word, piece_is_number, piece_is_sign, piece_is_equals, ends_after_equals, word_passes, piece_spells}
 use Rattle.sc_script.proofs.TokenSigns.{Decides-is_sign, is_piece, sign_piece}
 use Rattle.sc_script.proofs.TokenTexts.{text_at_spelled, text_spelled}
 use Rattle.sc_script.proofs.TokenTools.{chosen, list_all-cons}
 use Rattle.sc_script.specs.Tokens.{TokenData, opening, closing, equals, int_token, text_token, word_token, sign_token, is_blank, is_word_start, is_word_byte, SpellsToken, StandsBefore, ends_token, BeginsWith}
-use Rattle.sc_script.specs.TokenReading.{is_token_end, piece_of, after_piece, is_word, is_number, token_of_piece, piece_at, text_at, text_token_of, token_at}
+use Rattle.sc_value.specs.Numbers.{is_number}
+use Rattle.sc_script.specs.TokenReading.{is_token_end, piece_of, after_piece, is_word, token_of_piece, piece_at, text_at, text_token_of, token_at}
 
 -- a piece of the line, behind the tests for parentheses and quotes
 pub piece_at-read : (line piece after : List ℕ) (token : TokenData) → piece_of line ≡ piece

@@ -5,6 +5,7 @@ use Rattle.std.specs.Int.Signed.{mag}
 use Rattle.std.proofs.lemmas.Bool.{both_ways, cases_lt}
 use Rattle.std.proofs.lemmas.Option.{none-some, some_pair_parts}
 use Rattle.sc_script.proofs.TokenFronts.{token_at_begun, begun_by_read, token_at-blank, BeginsWith-shorter}
+use Rattle.sc_script.specs.Limits.{depth_limit, line_limit, word_limit}
 use Rattle.sc_script.specs.Tokens.{TokenData, opening, closing, equals, int_token, text_token, word_token, sign_token, is_blank, BeginsWith, HasTokens, at_end, at_no_token, behind_blank, behind_token, depth_of, IsShort, AreShort, IsWithinLimits}
 use Rattle.sc_script.specs.TokenReading.{token_at}
 
@@ -113,7 +114,10 @@ is_short (int_token n) =
     ]
 is_short (text_token t) = inl tt
 is_short (word_token w) =
-    elim (cases_lt 64 (length w)) [ inl long ↦ inr (λ short. omega arith) | inr short ↦ inl short ]
+    elim (cases_lt word_limit (length w)) [
+      | inl long ↦ inr (λ short. omega arith)
+      | inr short ↦ inl short
+    ]
 is_short (sign_token s) = inl tt
 
 pub are_short : (tokens : List TokenData) → AreShort tokens ⊎ (AreShort tokens → ⊥)
@@ -129,9 +133,9 @@ are_short (t ∷ ts) =
 pub within_limits : (line : List ℕ) (ts : List TokenData) → IsWithinLimits line ts
     ⊎ (IsWithinLimits line ts → ⊥)
 within_limits line ts =
-    elim (cases_lt 4096 (length line)) [
+    elim (cases_lt line_limit (length line)) [
       | inl long ↦ inr (λ within. omega (arith, within.bytes))
-      | inr bytes ↦ elim (cases_lt 32 (depth_of 0 ts)) [
+      | inr bytes ↦ elim (cases_lt depth_limit (depth_of 0 ts)) [
         | inl deep ↦ inr (λ within. omega (arith, within.nested))
         | inr nested ↦ elim (are_short ts) [
           | inr long ↦ inr (λ within. long within.short)

@@ -4,15 +4,16 @@ use Rattle.std.proofs.lemmas.Bool.{false≢true, eqb-true}
 use Rattle.std.proofs.lemmas.Option.{none-some}
 use Rattle.sc_script.proofs.TokenFronts.{token_at_begun, begun_by_read, BeginsWith-shorter}
 use Rattle.sc_script.proofs.TokenLemmas.{HasTokens-unique, tokens_exist}
-use Rattle.sc_script.specs.Lines.{IsKept}
+use Rattle.sc_script.specs.Lines.{KeepsLimits}
 use Rattle.sc_script.specs.Parsing.{EndsEarly, IsTokensFault, AreTokensOf}
+use Rattle.sc_script.specs.Limits.{depth_limit, line_limit, word_limit}
 use Rattle.sc_script.specs.Tokens.{TokenData, opening, closing, equals, int_token, text_token, word_token, sign_token, is_blank, HasTokens, at_end, at_no_token, behind_blank, behind_token, depth_of, IsShort, AreShort, IsWithinLimits}
 use Rattle.sc_script.specs.TokenReading.{token_at, without_blanks, begins_with_blank, depth_after, IsShortFront, IsFaultOf, Finds, front_of}
 use Rattle.sc_script.specs.declared.tokens.Token.{Token}
 use Rattle.sc_script.specs.declared.faults.FaultKind.{FaultKind}
 use Rattle.sc_script.specs.declared.faults.FaultKind.TheVariants.{NotText, Limit, Syntax, UnknownName, Twice, IllTyped}
-use Rattle.sc_script.specs.declared.faults.LineError.{LineError}
-use Rattle.sc_script.specs.declared.faults.LineError.TheVariants as line_errors
+use Rattle.sc_base.specs.declared.refusals.OrMemory.{OrMemory}
+use Rattle.sc_base.specs.declared.refusals.OrMemory.TheVariants.{Fault, OutOfMemory}
 
 -- blanks before tokens
 has_behind_blanks : (line rest : List ℕ) (tokens : List TokenData)
@@ -74,14 +75,14 @@ pub record IsReadTo (line : List ℕ) (tokens : List TokenData) (inside : ℕ) (
     pub has : (more : List TokenData) (rest : List ℕ) → HasTokens left more rest
         → HasTokens line (tokens ++ more) rest
     pub reaches : (more : List TokenData) → depth_of inside more ≤ depth_of 0 (tokens ++ more)
-    pub nested : (more : List TokenData) → depth_of inside more ≤ 32
-        → depth_of 0 (tokens ++ more) ≤ 32
-    pub shallow : inside ≤ 32
+    pub nested : (more : List TokenData) → depth_of inside more ≤ depth_limit
+        → depth_of 0 (tokens ++ more) ≤ depth_limit
+    pub shallow : inside ≤ depth_limit
     pub short : AreShort tokens
-    pub bytes : length line ≤ 4096
+    pub bytes : length line ≤ line_limit
     pub starts : begins_with_blank left ≡ false
 
-pub read_nothing_yet : (line left : List ℕ) → left ≡ without_blanks line → length line ≤ 4096
+pub read_nothing_yet : (line left : List ℕ) → left ≡ without_blanks line → length line ≤ line_limit
     → IsReadTo line [] 0 left
 read_nothing_yet line left is bytes = record {
   has = λ more rest has. has_behind_blanks line rest more
@@ -97,7 +98,8 @@ read_nothing_yet line left is bytes = record {
 pub read_token : (line : List ℕ) (tokens : List TokenData) (inside : ℕ) (left : List ℕ)
     (token : TokenData) (after next : List ℕ) (deeper : ℕ) → IsReadTo line tokens inside left
     → token_at left ≡ Some (token, after)
-    → IsShort token → deeper ≡ depth_after inside token → deeper ≤ 32 → next ≡ without_blanks after
+    → IsShort token → deeper ≡ depth_after inside token → deeper ≤ depth_limit
+    → next ≡ without_blanks after
     → IsReadTo line (tokens ++ token ∷ []) deeper next
 read_token line tokens inside left token after next deeper before read short deeper_is within
     next_is = record {
@@ -115,7 +117,8 @@ read_token line tokens inside left token after next deeper before read short dee
           (let cons = depth_of-cons inside token more in
           let whole = ap (depth_of 0) (append_assoc tokens (token ∷ []) more) in
           let same = ap (λ d. depth_of d more) deeper_is in
-          let later : depth_of inside (token ∷ more) ≤ 32 = omega (arith, cons, same, before.shallow) in
+          let later : depth_of inside (token ∷ more) ≤ depth_limit =
+          omega (arith, cons, same, before.shallow) in
           omega (arith, whole, before.nested (token ∷ more) later));
       shallow = within;
       short = AreShort-append tokens (token ∷ []) before.short (short, tt);
@@ -141,7 +144,7 @@ read_all line tokens inside left before is =
 -- a line with a token next keeps the limits only where its tokens do, that one among them
 kept_tokens : (line : List ℕ) (tokens : List TokenData) (inside : ℕ) (left : List ℕ)
     (token : TokenData) (after : List ℕ)
-    → IsReadTo line tokens inside left → token_at left ≡ Some (token, after) → IsKept line
+    → IsReadTo line tokens inside left → token_at left ≡ Some (token, after) → KeepsLimits line
     → (more : List TokenData) × IsWithinLimits line (tokens ++ token ∷ more)
 kept_tokens line tokens inside left token after before read kept =
     let later = tokens_exist after in
@@ -149,14 +152,14 @@ kept_tokens line tokens inside left token after before read kept =
     (behind_token left after later.1 token later.0 (begun_by_read left token after read) later.2) in
     (later.0, subst (IsWithinLimits line) (HasTokens-unique kept.has has).0 kept.within)
 
-pub too_long : (line : List ℕ) → 4096 < length line → IsKept line → ⊥
+pub too_long : (line : List ℕ) → line_limit < length line → KeepsLimits line → ⊥
 too_long line long kept = omega (arith, kept.within.bytes)
 
 pub too_deep : (line : List ℕ) (tokens : List TokenData) (inside : ℕ) (left : List ℕ)
     (token : TokenData) (after : List ℕ) (deeper : ℕ)
     → IsReadTo line tokens inside left → token_at left ≡ Some (token, after)
-    → deeper ≡ depth_after inside token → 32 < deeper
-    → IsKept line → ⊥
+    → deeper ≡ depth_after inside token → depth_limit < deeper
+    → KeepsLimits line → ⊥
 too_deep line tokens inside left token after deeper before read deeper_is deep kept =
     let all = kept_tokens line tokens inside left token after before read kept in
     let cons = depth_of-cons inside token all.0 in
@@ -173,7 +176,7 @@ too_deep line tokens inside left token after deeper before read deeper_is deep k
 not_short : (line : List ℕ) (tokens : List TokenData) (inside : ℕ) (left : List ℕ)
     (token : TokenData) (after : List ℕ)
     → IsReadTo line tokens inside left → token_at left ≡ Some (token, after) → (IsShort token → ⊥)
-    → IsKept line → ⊥
+    → KeepsLimits line → ⊥
 not_short line tokens inside left token after before read long kept =
     let all = kept_tokens line tokens inside left token after before read kept in
     long (short_behind tokens (token ∷ all.0) all.1.short).0
@@ -212,14 +215,14 @@ refused line tokens inside left UnknownName before some fault = fault
 refused line tokens inside left Twice before some fault = fault
 refused line tokens inside left IllTyped before some fault = fault
 
-pub refused_by : (error : LineError) (line : List ℕ) (tokens : List TokenData) (inside : ℕ)
+pub refused_by : (error : OrMemory FaultKind) (line : List ℕ) (tokens : List TokenData) (inside : ℕ)
     (left : List ℕ)
     → IsReadTo line tokens inside left → left ≢ []
     → Finds {X = Token × Bor (List ℕ)} front_of IsShortFront (Err error) (token_at left)
     → AreTokensOf line (Err error)
-refused_by (line_errors.Fault kind) line tokens inside left before some fault =
+refused_by (Fault kind) line tokens inside left before some fault =
     refused line tokens inside left kind before some fault
-refused_by line_errors.OutOfMemory line tokens inside left before some fault = tt
+refused_by OutOfMemory line tokens inside left before some fault = tt
 
 -- whether bytes are left
 pub none_left : (left : List ℕ) → eqb (length left) 0 ≡ true → left ≡ []

@@ -6,11 +6,12 @@ use Rattle.std.specs.Cmp.Lexicographic.{bytes_decides}
 use Rattle.std.specs.List.{list_all}
 use Rattle.std.specs.Str.{bytes_eq}
 use Rattle.std.specs.Str.Parse.{signed_digits_value}
-use Rattle.sc_script.proofs.TokenNumbers.{number_spells}
+use Rattle.sc_value.proofs.NumberLemmas.{number_spells}
 use Rattle.sc_script.proofs.TokenSigns.{Decides-is_sign}
 use Rattle.sc_script.proofs.TokenTools.{chosen}
 use Rattle.sc_script.specs.Tokens.{TokenData, equals, int_token, word_token, sign_token, is_blank, is_word_start, is_word_byte, IsWord, SpellsToken, StandsBefore, ends_token, ends_equals}
-use Rattle.sc_script.specs.TokenReading.{is_word, is_number, is_sign, is_equals, token_of_piece}
+use Rattle.sc_script.specs.TokenReading.{is_word, is_sign, is_equals, token_of_piece}
+use Rattle.sc_value.specs.Numbers.{is_number}
 
 -- where `=` may end, a token may
 pub ends_after_equals : (after : List ℕ) → ends_equals after ≡ true → ends_token after ≡ true

@@ -9,7 +9,8 @@ use Rattle.std.specs.List.{list_all, list_any}
 use Rattle.std.specs.Str.{bytes_eq}
 use Rattle.sc_script.proofs.TokenPieces.{has_no_end}
 use Rattle.sc_script.specs.Tokens.{signs}
-use Rattle.sc_script.specs.TokenReading.{is_sign, is_word, is_number}
+use Rattle.sc_script.specs.TokenReading.{is_sign, is_word}
+use Rattle.sc_value.specs.Numbers.{is_number}
 
 -- the test for signs finds just those that are listed
 pub Decides-is_sign : (spelling : List ℕ) → Decides (is_sign spelling) (Contains signs spelling)

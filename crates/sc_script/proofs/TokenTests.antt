@@ -1,17 +1,10 @@
 -- Tests of bytes as the code makes them.
-use Rattle.std.proofs.Common.{◌≡◌, ℕ, ◌-◌, ◌≤◌, Bool, true, false, cond, not, eqb, ltb, ◌&&◌, List, [], ◌∷◌, length, take, drop, get_or, Option, Some, None, unwrap_or, ◌⊎◌, inl, inr, refl, ap, sym, ◌∙◌, arith, take_all}
-use Rattle.std.proofs.lemmas.Bool.{cases_Bool, ltb-false, cond-false, cond-true, true≢false}
+use Rattle.std.proofs.Common.{◌≡◌, ℕ, ◌-◌, ◌≤◌, Bool, true, false, cond, not, ltb, ◌&&◌, List, [], ◌∷◌, length, take, drop, get_or, Option, Some, None, unwrap_or, ◌⊎◌, inl, inr, ap, sym, ◌∙◌, arith, take_all}
+use Rattle.std.proofs.lemmas.Bool.{cases_Bool, ltb-false, cond-false, cond-true}
 use Rattle.std.proofs.lemmas.List.Sums.{prefix_len-le-length}
-use Rattle.std.specs.Char.{is_ascii_digit}
 use Rattle.std.specs.List.{list_all, position_or_len}
 use Rattle.sc_script.specs.Tokens.{is_word_start, is_word_byte}
-use Rattle.sc_script.specs.TokenReading.{is_digits, is_word}
-
--- where there is a byte, digits are told by all bytes
-pub is_digits_of_some : (bytes : List ℕ) → eqb (length bytes) 0 ≡ false
-    → list_all is_ascii_digit bytes ≡ is_digits bytes
-is_digits_of_some [] some = absurd (true≢false some)
-is_digits_of_some (c ∷ cs) some = refl
+use Rattle.sc_script.specs.TokenReading.{is_word}
 
 -- behind a byte that begins a word, a word is told by the bytes that follow
 pub is_word_of_some : (bytes rest : List ℕ) → 1 ≤ length bytes

@@ -23,7 +23,8 @@ tokens_awaiting false = []
 -- the tokens that were read
 abbrev pub tokens_so_far : ReadingData → List TokenData
 tokens_so_far r =
-    tokens_of_open r.open_lists ++ (tokens_of_args (args_of r.args) ++ tokens_awaiting r.awaits_head)
+    tokens_of_open r.open_lists
+    ++ (tokens_of_args (args_of r.args) ++ tokens_awaiting r.awaits_head)
 
 tokens_of_args-push : (args : List ArgData) (a : ArgData)
     → tokens_of_args (args_of (args ++ a ∷ [])) ≡ tokens_of_args (args_of args) ++ tokens_of_arg a
@@ -161,7 +162,8 @@ head_read_again (word_head w) os before ts = refl
 head_read_again (sign_head s) os before ts = refl
 
 mutual
-  arg_read_again : (a : ArgData) (os : List OpenData) (before : List ArgData) (rest : List TokenData)
+  arg_read_again : (a : ArgData) (os : List OpenData) (before : List ArgData)
+      (rest : List TokenData)
       → tokens_read (reading_args os before) (tokens_of_arg a ++ rest)
       ≡ tokens_read (reading_args os (before ++ a ∷ [])) rest
   arg_read_again (int_arg n) os before rest = refl

@@ -1,9 +1,10 @@
 -- How the form of a line is read from its tokens, one token after another.
 use Rattle.std.specs.Prelude.{ℕ, ◌≡◌, Bool, true, false, List, [], ◌∷◌, ◌++◌, Option, Some, None, Result, Ok, Err, if◌then◌else◌, map, reverse, drop}
 use Rattle.std.specs.Option.{option_map, option_and_then}
+use Rattle.sc_script.specs.declared.faults.FaultKind.{FaultKind}
 use Rattle.sc_script.specs.declared.faults.FaultKind.TheVariants.{Syntax}
-use Rattle.sc_script.specs.declared.faults.LineError.{LineError}
-use Rattle.sc_script.specs.declared.faults.LineError.TheVariants as line_errors
+use Rattle.sc_base.specs.declared.refusals.OrMemory.{OrMemory}
+use Rattle.sc_base.specs.declared.refusals.OrMemory.TheVariants.{Fault, OutOfMemory}
 use Rattle.sc_script.specs.declared.trees.OpenList.{OpenList}
 use Rattle.sc_script.specs.declared.trees.ArgsReader.{ArgsReader}
 use Rattle.sc_script.specs.Tokens.{TokenData, opening, closing, equals, int_token, text_token, word_token, sign_token}
@@ -162,7 +163,7 @@ reading_of r = record {
 }
 
 -- a step answers what reading gives, unless memory ran out
-abbrev pub Reads : {X Y : Type 0} → (X → Y) → Result X LineError → Option Y → Type 0
+abbrev pub Reads : {X Y : Type 0} → (X → Y) → Result X (OrMemory FaultKind) → Option Y → Type 0
 Reads view (Ok x) read = read ≡ Some (view x)
-Reads view (Err (line_errors.Fault kind)) read = (kind ≡ Syntax) × (read ≡ None)
-Reads view (Err line_errors.OutOfMemory) read = Unit {0}
+Reads view (Err (Fault kind)) read = (kind ≡ Syntax) × (read ≡ None)
+Reads view (Err OutOfMemory) read = Unit {0}

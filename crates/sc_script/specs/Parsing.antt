@@ -3,20 +3,19 @@ use Rattle.std.specs.Prelude.{ℕ, ◌≡◌, ◌≢◌, List, [], map, Result, 
 use Rattle.std.specs.declared.alloc.Global.{Global}
 use Rattle.sc_script.specs.declared.faults.FaultKind.{FaultKind}
 use Rattle.sc_script.specs.declared.faults.FaultKind.TheVariants.{NotText, Limit, Syntax, UnknownName, Twice, IllTyped}
-use Rattle.sc_script.specs.declared.faults.LineError.{LineError}
-use Rattle.sc_script.specs.declared.faults.LineError.TheVariants as line_errors
-use Rattle.sc_script.specs.declared.faults.ParseError.{ParseError}
-use Rattle.sc_script.specs.declared.faults.ParseError.TheVariants.{Fault, OutOfMemory}
+use Rattle.sc_base.specs.declared.refusals.OrMemory.{OrMemory}
+use Rattle.sc_base.specs.declared.refusals.OrMemory.TheVariants.{Fault, OutOfMemory}
+use Rattle.sc_script.specs.declared.faults.ScriptFault.{ScriptFault}
 use Rattle.sc_script.specs.declared.tokens.Token.{Token}
 use Rattle.sc_script.specs.declared.trees.Form.{Form}
 use Rattle.sc_script.specs.Tokens.{TokenData, HasTokens, IsWithinLimits}
 use Rattle.sc_script.specs.Trees.{LineData, tokens_of_line}
-use Rattle.sc_script.specs.Lines.{IsKept}
+use Rattle.sc_script.specs.Lines.{KeepsLimits}
 use Rattle.sc_script.specs.Scripts.{FaultsScript, HasOneReading}
 use Rattle.sc_script.specs.Views.{token_data_of, form_data_of}
 
 -- why the bytes gave no script: their fault, or want of memory
-abbrev pub IsParseCause : List ℕ → ParseError → Type 0
+abbrev pub IsParseCause : List ℕ → OrMemory ScriptFault → Type 0
 IsParseCause bytes (Fault fault) = FaultsScript bytes fault
 IsParseCause bytes OutOfMemory = Unit {0}
 
@@ -35,23 +34,23 @@ pub record EndsEarly (line : List ℕ) : Type 0 where
 -- why a line isn't all tokens, or passes a limit
 abbrev pub IsTokensFault : List ℕ → FaultKind → Type 0
 IsTokensFault line NotText = ⊥
-IsTokensFault line Limit = IsKept line → ⊥
+IsTokensFault line Limit = KeepsLimits line → ⊥
 IsTokensFault line Syntax = EndsEarly line
 IsTokensFault line UnknownName = ⊥
 IsTokensFault line Twice = ⊥
 IsTokensFault line IllTyped = ⊥
 
 -- the tokens of a line that keeps the limits, or why there are none
-abbrev pub AreTokensOf : List ℕ → Result (Vec Token Global) LineError → Type 0
+abbrev pub AreTokensOf : List ℕ → Result (Vec Token Global) (OrMemory FaultKind) → Type 0
 AreTokensOf line (Ok tokens) =
     HasTokens line (map token_data_of tokens.items) []
     × IsWithinLimits line (map token_data_of tokens.items)
-AreTokensOf line (Err (line_errors.Fault kind)) = IsTokensFault line kind
-AreTokensOf line (Err line_errors.OutOfMemory) = Unit {0}
+AreTokensOf line (Err (Fault kind)) = IsTokensFault line kind
+AreTokensOf line (Err OutOfMemory) = Unit {0}
 
 -- the form that has these tokens, or that there is none
-abbrev pub IsFormOf : List TokenData → Result Form LineError → Type 0
+abbrev pub IsFormOf : List TokenData → Result Form (OrMemory FaultKind) → Type 0
 IsFormOf tokens (Ok form) = tokens ≡ tokens_of_line (form_data_of form)
-IsFormOf tokens (Err (line_errors.Fault kind)) =
+IsFormOf tokens (Err (Fault kind)) =
     (kind ≡ Syntax) × ((form : LineData) → tokens ≡ tokens_of_line form → ⊥)
-IsFormOf tokens (Err line_errors.OutOfMemory) = Unit {0}
+IsFormOf tokens (Err OutOfMemory) = Unit {0}

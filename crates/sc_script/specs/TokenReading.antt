@@ -1,10 +1,10 @@
 -- The tokens of a line as they are read from the left: functions on lists, which the laws on tokens
 -- tie to what a line's tokens are.
 use Rattle.std.specs.Prelude.{ℕ, ◌+◌, ◌-◌, ◌≡◌, Bool, true, false, ◌==◌, ◌&&◌, ◌||◌, List, [], ◌∷◌, ◌++◌, Option, Some, None, option_map, if◌then◌else◌, Result, Ok, Err}
-use Rattle.std.specs.Char.{is_ascii_digit}
 use Rattle.std.specs.List.{list_all, list_any}
 use Rattle.std.specs.Str.{bytes_eq}
 use Rattle.std.specs.Str.Parse.{signed_digits_value}
+use Rattle.sc_value.specs.Numbers.{is_number}
 use Rattle.sc_script.specs.Tokens.{TokenData, opening, closing, equals, int_token, text_token, word_token, sign_token, is_blank, is_word_start, is_word_byte, signs, escaped_byte, ends_token, ends_equals, IsShort}
 use Rattle.sc_script.specs.declared.faults.FaultKind.{FaultKind}
 use Rattle.sc_script.specs.declared.faults.FaultKind.TheVariants.{NotText, Limit, Syntax, UnknownName, Twice, IllTyped}
@@ -13,8 +13,8 @@ use Rattle.sc_script.specs.Views.{token_data_of}
 use Rattle.sc_script.specs.declared.tokens.Token.{Token}
 use Rattle.sc_script.specs.declared.literals.Mark.{Mark}
 use Rattle.sc_script.specs.declared.literals.Mark.TheVariants.{Quote, Escape}
-use Rattle.sc_script.specs.declared.faults.LineError.{LineError}
-use Rattle.sc_script.specs.declared.faults.LineError.TheVariants as line_errors
+use Rattle.sc_base.specs.declared.refusals.OrMemory.{OrMemory}
+use Rattle.sc_base.specs.declared.refusals.OrMemory.TheVariants.{Fault, OutOfMemory}
 
 -- a blank or a parenthesis, before which a token may end
 abbrev pub is_token_end : ℕ → Bool
@@ -44,20 +44,6 @@ after_piece (c ∷ cs) = if is_token_end c then c ∷ cs else after_piece cs
 abbrev pub is_word : List ℕ → Bool
 is_word [] = false
 is_word (c ∷ cs) = is_word_start c && list_all is_word_byte cs
-
--- whether bytes are digits, one or more
-abbrev pub is_digits : List ℕ → Bool
-is_digits [] = false
-is_digits (c ∷ cs) = is_ascii_digit c && list_all is_ascii_digit cs
-
--- the bytes without a minus before them
-abbrev pub without_minus : List ℕ → List ℕ
-without_minus [] = []
-without_minus (c ∷ cs) = if c == 45 then cs else c ∷ cs
-
--- whether bytes are digits, or a minus and digits
-abbrev pub is_number : List ℕ → Bool
-is_number spelling = is_digits (without_minus spelling)
 
 -- whether bytes are a sign
 abbrev pub is_sign : List ℕ → Bool
@@ -136,10 +122,11 @@ IsFaultOf {Y} Keeps Twice found = ⊥
 IsFaultOf {Y} Keeps IllTyped found = ⊥
 
 -- what a function returned is what was looked for, as long as that keeps the limits
-abbrev pub Finds : {X Y : Type 0} → (X → Y) → (Y → Type 0) → Result X LineError → Option Y → Type 0
+abbrev pub Finds : {X Y : Type 0}
+    → (X → Y) → (Y → Type 0) → Result X (OrMemory FaultKind) → Option Y → Type 0
 Finds view Keeps (Ok x) found = (found ≡ Some (view x)) × Keeps (view x)
-Finds view Keeps (Err (line_errors.Fault kind)) found = IsFaultOf Keeps kind found
-Finds view Keeps (Err line_errors.OutOfMemory) found = Unit {0}
+Finds view Keeps (Err (Fault kind)) found = IsFaultOf Keeps kind found
+Finds view Keeps (Err OutOfMemory) found = Unit {0}
 
 -- a token and what follows it, without where they lie in memory
 abbrev pub front_of : Token × Bor (List ℕ) → TokenData × List ℕ

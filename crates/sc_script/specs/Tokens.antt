@@ -1,8 +1,9 @@
 -- Which bytes of a line are tokens.
-use Rattle.std.specs.Prelude.{ℕ, ◌+◌, ◌-◌, ◌<◌, ◌≤◌, ◌≡◌, ◌≢◌, ◌^◌, ℤ, pos, neg_ℤ, ◌≤ℤ◌, Bool, true, false, ◌==◌, ◌&&◌, ◌||◌, nat_le, List, [], ◌∷◌, ◌++◌, length, max, codes, IsTrue, Contains, Option, Some, None, if◌then◌else◌, ◌⊎◌, FitsSigned}
+use Rattle.std.specs.Prelude.{ℕ, ◌+◌, ◌-◌, ◌≤◌, ◌≡◌, ◌≢◌, ℤ, Bool, true, false, ◌==◌, ◌&&◌, ◌||◌, nat_le, List, [], ◌∷◌, ◌++◌, length, max, codes, IsTrue, Contains, Option, Some, None, if◌then◌else◌, FitsSigned}
 use Rattle.std.specs.Int.{w64}
 use Rattle.std.specs.List.{list_all}
-use Rattle.std.specs.Str.Parse.{IsNumeral, digits_value}
+use Rattle.sc_value.specs.Numbers.{SpellsInt}
+use Rattle.sc_script.specs.Limits.{depth_limit, line_limit, word_limit}
 
 -- a token, with nothing of how it was written
 pub data TokenData : Type 0 where
@@ -36,13 +37,6 @@ abbrev pub signs : List (List ℕ)
 signs =
     codes "+" ∷ codes "-" ∷ codes "*" ∷ codes "/" ∷ codes "%"
     ∷ codes "==" ∷ codes "<" ∷ codes "<=" ∷ []
-
--- digits, or a minus and digits, write a number
-abbrev pub SpellsInt : List ℕ → ℤ → Type 0
-SpellsInt spelling n =
-    (IsNumeral 10 spelling × (n ≡ pos (digits_value 10 spelling)))
-    ⊎ ((digits : List ℕ) × (spelling ≡ 45 ∷ digits) × IsNumeral 10 digits
-    × (n ≡ neg_ℤ (pos (digits_value 10 digits))))
 
 -- what a backslash and this byte stand for
 abbrev pub escaped_byte : ℕ → Option ℕ
@@ -120,14 +114,14 @@ depth_of inside (text_token t ∷ ts) = depth_of inside ts
 depth_of inside (word_token w ∷ ts) = depth_of inside ts
 depth_of inside (sign_token s ∷ ts) = depth_of inside ts
 
--- a word has at most 64 characters, and a number fits 64 bits
+-- a word isn't too long, and a number fits 64 bits
 abbrev pub IsShort : TokenData → Type 0
 IsShort opening = Unit {0}
 IsShort closing = Unit {0}
 IsShort equals = Unit {0}
 IsShort (int_token n) = FitsSigned w64 n
 IsShort (text_token t) = Unit {0}
-IsShort (word_token w) = length w ≤ 64
+IsShort (word_token w) = length w ≤ word_limit
 IsShort (sign_token s) = Unit {0}
 
 -- each token is short
@@ -137,6 +131,6 @@ AreShort (t ∷ ts) = IsShort t × AreShort ts
 
 -- the tokens of a line keep the limits, and so does its length
 pub record IsWithinLimits (line : List ℕ) (tokens : List TokenData) : Type 0 where
-  pub bytes : length line ≤ 4096
-  pub nested : depth_of 0 tokens ≤ 32
+  pub bytes : length line ≤ line_limit
+  pub nested : depth_of 0 tokens ≤ depth_limit
   pub short : AreShort tokens

@@ -11,6 +11,9 @@ use Rattle.sc_script.specs.declared.trees.Arg.TheOpen.{Arg-F}
 use Rattle.sc_script.specs.declared.trees.Form.{Form}
 use Rattle.sc_script.specs.declared.trees.Form.TheVariants as forms
 use Rattle.std.specs.Prelude.{map}
+use Rattle.std.specs.Vec.Iter.{into_iter_items}
+use Rattle.std.specs.declared.alloc.Global.{Global}
+use Rattle.std.specs.declared.vec.IntoIter.{IntoIter}
 
 -- what a token stands for
 abbrev pub token_data_of : Token → TokenData
@@ -42,6 +45,10 @@ arg_step (Arg-F.List h v) = list_arg (head_data_of h) (args_of v.items)
 -- what an argument stands for
 abbrev pub arg_data_of : Arg → ArgData
 arg_data_of = fold-Arg ArgData arg_step
+
+-- the arguments that are still to be taken
+abbrev pub args_left : IntoIter Arg Global → ArgsData
+args_left args = args_of (map arg_data_of (into_iter_items args))
 
 -- what the form of a line stands for
 abbrev pub form_data_of : Form → LineData

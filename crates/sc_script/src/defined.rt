@@ -1,37 +1,45 @@
-//! What the lines so far have defined, and how an item is added to it.
+//! What the lines so far have defined, and what it leaves room for.
 #![tactic(auto)]
 
-ghost use Rattle.std.specs.Prelude.{◌≡◌, OnOk, length};
-ghost use Rattle.sc_value.specs.Views.{type_data_of};
-ghost use Rattle.sc_expr.specs.Views.{expr_data_of};
-ghost use Rattle.sc_lineage.specs.ScriptData.{ReadsBefore, NamesCount, partition_limit};
-ghost use Rattle.sc_lineage.specs.Views.{node_data_of};
-ghost use Rattle.sc_script.specs.Lines.{node_item, nothing_so_far, with_item};
-ghost use Rattle.sc_script.specs.Defining.{so_far_of, item_data_of, IsEven, IsPlaced, IsNoFault, IsTypeOf, AreElementsOf, IsAdded};
+ghost use Rattle.std.specs.Prelude.{◌≡◌, ◌≤◌, length};
+ghost use Rattle.sc_script.specs.Limits.{node_limit};
 
-use crate::faults::{FaultKind, LineError};
-use crate::naming::Item;
-use sc_expr::{Expr, TypeEnv, TypeError, type_of};
-use sc_lineage::{Node, Script};
+use crate::counts::counts_fit;
+use crate::faults::{FaultKind, LineError, or_fault};
+use crate::limits::{NODE_LIMIT, TYPE_LIMIT};
+use crate::tables::{Operation, operation_takes};
+use crate::trees::Arg;
+use sc_lineage::{Action, Node, NodeId, Script, action_type, row_type};
 use sc_value::{Text, Ty};
-use std::alloc::Global;
+use std::alloc::{AllocError, Global};
 
-/// The most constructors that the type of a node's elements is written with.
-const TYPE_SIZE_LIMIT: u64 = 256;
-
-/// What the lines so far have defined: the nodes' names, the types of their elements, and the
-/// script with the nodes and the actions.
+/// What the lines so far have defined: the nodes' names, the types of their rows, and the script.
+/// Each node has a name, and there are at most [`NODE_LIMIT`].
 #[derive(Drop)]
 pub(crate) struct Defined {
     pub(crate) names: Vec<Text>,
     pub(crate) types: Vec<Ty>,
     pub(crate) script: Script,
+    ghost named: { length script.nodes ≡ length names.items },
+    ghost few: { length names.items ≤ node_limit },
 }
 
 impl Defined {
+    ghost use Rattle.std.specs.Prelude.{◌≡◌, ◌<◌, ◌≤◌, IfOk, IfSome, Some, length, map};
+    ghost use Rattle.sc_base.specs.Answers.{Answers};
+    ghost use Rattle.sc_base.specs.Lists.{at_or};
+    ghost use Rattle.sc_lineage.specs.ScriptData.{IsCount, ReadsBefore, count_step, declared_count, declared_counts, node_of_action, partition_limit};
+    ghost use Rattle.sc_lineage.specs.Views.{action_data_of, node_data_of};
+    ghost use Rattle.sc_script.specs.Defining.{defined_data_of};
+    ghost use Rattle.sc_script.specs.Items.{node_in as node_named, number_of};
+    ghost use Rattle.sc_script.specs.Lines.{definition_fits, known_action, known_node, nothing_defined, sum_fits, union_fits, with_action, with_node};
+    ghost use Rattle.sc_script.specs.Views.{arg_data_of, args_of};
+    ghost use Rattle.sc_value.specs.Views.{type_data_of};
+    ghost use Rattle.sc_script.specs.Limits.{node_limit};
+
     /// Nothing yet.
     pub(crate) fn new(alloc: Global) -> Defined
-        ensures { so_far_of result ≡ nothing_so_far }
+        ensures { defined_data_of result ≡ nothing_defined }
     {
         Defined {
             names: Vec::new(alloc),
@@ -39,68 +47,175 @@ impl Defined {
             script: Script::new(alloc),
         }
     }
-}
 
-/// Adds an item.
-///
-/// # Errors
-///
-/// `IllTyped` where the elements of a node have no type, `Limit` where their type is too large.
-pub(crate) fn add_item(alloc: Global, defined: &mut Defined, item: Item) -> Result<(), LineError>
-    requires even { IsEven (so_far_of defined.old) }
-    requires placed { IsPlaced (so_far_of defined.old) (item_data_of item) }
-    ensures { IsAdded (so_far_of defined.old) (item_data_of item) (so_far_of defined.new) result }
-{
-    match item {
-        Item::Node(name, node) => {
-            let elements = element_type(alloc, defined, &node)?;
-            if elements.is_larger_than(TYPE_SIZE_LIMIT) {
-                return Err(LineError::Fault(FaultKind::Limit));
+    /// The number of the first node of a name.
+    pub(crate) fn number_of(&self, name: &Text) -> Option<usize>
+        ensures number { result ≡ number_of self.now.names.items name.now }
+        ensures within { IfSome result (λ i. i < length self.now.names.items) }
+    {
+        for (i, one) in self.names.iter().enumerate() {
+            if one == name {
+                return Some(i);
             }
-            define(defined, name, node, elements)
         }
-        Item::Action(action) => {
-            defined.script.act(action)?;
-            Ok(())
+        None
+    }
+
+    /// The number of the node that an argument names.
+    pub(crate) fn node_in(&self, arg: &Arg) -> Option<NodeId>
+        ensures node { result ≡ node_named self.now.names.items (arg_data_of arg.now) }
+        ensures before { IfSome result (λ n. n < length self.now.script.nodes) }
+        ensures count { IfSome result (λ n. IsCount (partition_limit self.now.script)
+            (declared_count self.now.script n)) }
+    {
+        self.script.is_sound();
+        match arg {
+            Arg::Word(word) => match self.number_of(word) {
+                Some(number) => Some(number as NodeId),
+                None => None,
+            },
+            Arg::Int(_) | Arg::Text(_) | Arg::List(_, _) => None,
         }
     }
-}
 
-/// Adds a node under a name.
-fn define(defined: &mut Defined, name: Text, node: Node, elements: Ty) -> Result<(), LineError>
-    requires before { ReadsBefore (length defined.old.script.nodes) (node_data_of node) }
-    requires count { NamesCount (partition_limit defined.old.script) (node_data_of node) }
-    ensures added { OnOk result (so_far_of defined.new ≡ with_item (so_far_of defined.old)
-        (node_item name (node_data_of node)) (type_data_of elements)) }
-    ensures no_fault { IsNoFault result }
-{
-    defined.names.push(name)?;
-    defined.types.push(elements)?;
-    defined.script.define(node)?;
-    Ok(())
-}
-
-/// The type of the elements of a node.
-fn element_type(alloc: Global, defined: &Defined, node: &Node) -> Result<Ty, LineError>
-    requires even { IsEven (so_far_of defined.now) }
-    requires before { ReadsBefore (length defined.now.script.nodes) (node_data_of node.now) }
-    ensures { AreElementsOf (so_far_of defined.now) (node_data_of node.now) result }
-{
-    match node {
-        Node::Text(_, _) => Ok(Ty::Text),
-        Node::Map(parent, expr) => type_over(alloc, &defined.types[*parent as usize], expr),
+    /// Whether a definition keeps the limits of counts, and there is room for it.
+    pub(crate) fn fits(&self, operation: Operation, args: &[Arg]) -> bool
+        ensures { result ≡ definition_fits (defined_data_of self.now) operation
+            (args_of (map arg_data_of args.now)) }
+    {
+        counts_fit(
+            self.script.partition_limit(),
+            operation_takes(operation),
+            args,
+        ) && self.union_fits(operation, args)
+            && self.script.nodes().len() < NODE_LIMIT
     }
-}
 
-/// The type of an expression over rows of a type.
-fn type_over(alloc: Global, x: &Ty, expr: &Expr) -> Result<Ty, LineError>
-    ensures { IsTypeOf (type_data_of x.now) (expr_data_of expr.now) result }
-{
-    match type_of(alloc, expr, TypeEnv::One(x)) {
-        Ok(t) => Ok(t),
-        Err(error) => match error {
-            TypeError::IllTyped => Err(LineError::Fault(FaultKind::IllTyped)),
-            TypeError::OutOfMemory => Err(LineError::OutOfMemory),
-        },
+    /// Whether a union has no more partitions than a definition may have.
+    fn union_fits(&self, operation: Operation, args: &[Arg]) -> bool
+        ensures { result ≡ union_fits (defined_data_of self.now) operation
+            (args_of (map arg_data_of args.now)) }
+    {
+        match operation {
+            Operation::Union => match args {
+                [left, right, ..] => self.sum_fits(self.node_in(left), self.node_in(right)),
+                [left] => self.sum_fits(self.node_in(left), None),
+                [] => true,
+            },
+            _ => true,
+        }
+    }
+
+    /// Whether the partitions that two nodes have together are within the limit, where both are
+    /// there.
+    fn sum_fits(&self, left: Option<NodeId>, right: Option<NodeId>) -> bool
+        ensures { result ≡ sum_fits self.now.script left right }
+    {
+        let Some(left) = left else {
+            return true;
+        };
+        let Some(right) = right else {
+            return true;
+        };
+        let sum = u64::from(self.count_of(left)) + u64::from(self.count_of(right));
+        sum <= u64::from(self.script.partition_limit())
+    }
+
+    /// How many partitions a node has, as the grammar counts them.
+    fn count_of(&self, node: NodeId) -> u32
+        ensures { result ≡ declared_count self.now.script node }
+    {
+        match self.script.counts().get(node as usize) {
+            Some(count) => *count,
+            None => 0,
+        }
+    }
+
+    /// The same with one more node, under a name.
+    ///
+    /// # Errors
+    ///
+    /// `IllTyped` where the node's rows have no type, `Limit` where their type is too large.
+    pub(crate) fn with_node(
+        self,
+        alloc: Global,
+        name: Text,
+        node: Node,
+    ) -> Result<Defined, LineError>
+        requires before { ReadsBefore (length self.script.nodes) (node_data_of node) }
+        requires count { IsCount (partition_limit self.script)
+            (count_step (declared_counts self.script.nodes) (node_data_of node)) }
+        requires room { length self.script.nodes < node_limit }
+        ensures { Answers defined_data_of (λ kind. kind) result
+            (known_node (defined_data_of self) name (Some (node_data_of node))) }
+    {
+        match row_type(alloc, &self.types, &node) {
+            Ok(rows) => {
+                if rows.is_larger_than(TYPE_LIMIT) {
+                    return Err(LineError::Fault(FaultKind::Limit));
+                }
+                Ok(self.with_typed_node(name, node, rows)?)
+            }
+            Err(error) => Err(or_fault(FaultKind::IllTyped, error)),
+        }
+    }
+
+    /// The same with one more node, under a name, with rows of a type.
+    fn with_typed_node(self, name: Text, node: Node, rows: Ty) -> Result<Defined, AllocError>
+        requires before { ReadsBefore (length self.script.nodes) (node_data_of node) }
+        requires count { IsCount (partition_limit self.script)
+            (count_step (declared_counts self.script.nodes) (node_data_of node)) }
+        requires room { length self.script.nodes < node_limit }
+        ensures { IfOk result (λ d. defined_data_of d ≡
+            with_node (defined_data_of self) name (node_data_of node) (type_data_of rows)) }
+    {
+        let Defined {
+            mut names,
+            mut types,
+            mut script,
+        } = self;
+        names.push(name)?;
+        types.push(rows)?;
+        script.define(node)?;
+        Ok(Defined {
+            names,
+            types,
+            script,
+        })
+    }
+
+    /// The same with one more action.
+    ///
+    /// # Errors
+    ///
+    /// `IllTyped` where it may not be done with the rows of its node.
+    pub(crate) fn with_action(self, alloc: Global, action: Action) -> Result<Defined, LineError>
+        requires { node_of_action (action_data_of action) < length self.script.nodes }
+        ensures { Answers defined_data_of (λ kind. kind) result
+            (known_action (defined_data_of self) (Some (action_data_of action))) }
+    {
+        match action_type(alloc, &self.types, &action) {
+            Ok(_) => Ok(self.with_typed_action(action)?),
+            Err(error) => Err(or_fault(FaultKind::IllTyped, error)),
+        }
+    }
+
+    /// The same with one more action that has a type.
+    fn with_typed_action(self, action: Action) -> Result<Defined, AllocError>
+        requires { node_of_action (action_data_of action) < length self.script.nodes }
+        ensures { IfOk result (λ d. defined_data_of d ≡
+            with_action (defined_data_of self) (action_data_of action)) }
+    {
+        let Defined {
+            names,
+            types,
+            mut script,
+        } = self;
+        script.act(action)?;
+        Ok(Defined {
+            names,
+            types,
+            script,
+        })
     }
 }

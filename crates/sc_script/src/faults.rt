@@ -1,8 +1,10 @@
 //! Why bytes are no script.
 #![tactic(auto)]
 
-use std::alloc::{AllocError, AllocFailed};
-use thiserror::Error;
+ghost use Rattle.std.specs.Prelude.{◌≡◌};
+ghost use Rattle.sc_script.specs.Faults.{or_fault as other_fault};
+
+use sc_base::OrMemory;
 
 /// What is wrong with a line.
 #[derive(Clone, Copy, Debug, PartialEq, Eq)]
@@ -17,7 +19,7 @@ pub enum FaultKind {
     UnknownName,
     /// A name that is defined already.
     Twice,
-    /// An expression that has no type.
+    /// A node or an action whose rows have no type.
     IllTyped,
 }
 
@@ -32,67 +34,17 @@ pub struct ScriptFault {
 }
 
 /// Why a line was refused.
-#[derive(Debug, Drop, Error)]
-pub enum LineError {
-    /// The line has a fault.
-    #[error("{0:?}")]
-    Fault(FaultKind),
-    /// Memory ran out.
-    #[error("out of memory")]
-    OutOfMemory,
-}
-
-impl From<AllocError> for LineError {
-    ghost use Rattle.std.specs.Prelude.{◌≡◌};
-    ghost use Rattle.sc_script.specs.declared.faults.LineError.TheVariants.{OutOfMemory};
-
-    ghost from_gives = { λ _ e. e ≡ OutOfMemory };
-
-    fn from(_: AllocError) -> Self {
-        LineError::OutOfMemory
-    }
-}
-
-impl<T: Drop> From<AllocFailed<T>> for LineError {
-    ghost use Rattle.std.specs.Prelude.{◌≡◌};
-    ghost use Rattle.sc_script.specs.declared.faults.LineError.TheVariants.{OutOfMemory};
-
-    ghost from_gives = { λ _ e. e ≡ OutOfMemory };
-
-    fn from(_: AllocFailed<T>) -> Self {
-        LineError::OutOfMemory
-    }
-}
+pub type LineError = OrMemory<FaultKind>;
 
 /// Why no script was read.
-#[derive(Debug, Drop, Error)]
-pub enum ParseError {
-    /// The bytes are no script.
-    #[error("line {}: {:?}", .0.line, .0.kind)]
-    Fault(ScriptFault),
-    /// Memory ran out.
-    #[error("out of memory")]
-    OutOfMemory,
-}
+pub type ParseError = OrMemory<ScriptFault>;
 
-impl From<AllocError> for ParseError {
-    ghost use Rattle.std.specs.Prelude.{◌≡◌};
-    ghost use Rattle.sc_script.specs.declared.faults.ParseError.TheVariants.{OutOfMemory};
-
-    ghost from_gives = { λ _ e. e ≡ OutOfMemory };
-
-    fn from(_: AllocError) -> Self {
-        ParseError::OutOfMemory
-    }
-}
-
-impl<T: Drop> From<AllocFailed<T>> for ParseError {
-    ghost use Rattle.std.specs.Prelude.{◌≡◌};
-    ghost use Rattle.sc_script.specs.declared.faults.ParseError.TheVariants.{OutOfMemory};
-
-    ghost from_gives = { λ _ e. e ≡ OutOfMemory };
-
-    fn from(_: AllocFailed<T>) -> Self {
-        ParseError::OutOfMemory
+/// The fault of a line, for another one.
+pub(crate) fn or_fault<F: Copy>(kind: FaultKind, error: OrMemory<F>) -> LineError
+    ensures { result ≡ other_fault kind error }
+{
+    match error {
+        OrMemory::Fault(_) => LineError::Fault(kind),
+        OrMemory::OutOfMemory => LineError::OutOfMemory,
     }
 }

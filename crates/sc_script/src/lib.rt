@@ -2,23 +2,30 @@
 //! has one.
 //!
 //! [`parse`] reads a script as `specs/` says: `Tokens.antt` which bytes of a line are tokens,
-//! `Trees.antt` which tokens have the form of a line, `Statements.antt` the tables of operations,
-//! actions and heads with the shape of their arguments, `Lines.antt` the nine tests of a line in
-//! their order, and `Scripts.antt` which bytes are which script and which have which fault. A
-//! further operation is one more word in a table, one more statement, and one more case of each
-//! definition.
+//! `Trees.antt` which tokens have the form of a line, `Tables.antt` how operations, actions and
+//! heads are written and what each takes, `Fitting.antt` the one checker of arguments,
+//! `Items.antt` the node or the action that arguments make, `Lines.antt` the nine tests of a line
+//! as one chain, and `Scripts.antt` which bytes are which script and which have which fault.
+//!
+//! A further operation is a line in the table of words, a line of what it takes, and a line of
+//! `node_from`, in the definitions and in the code. Scripts have the limits of `Limits.antt`.
+//! What a script means is the lineage's; nothing here runs.
 #![tactic(auto)]
 
+mod counts;
 mod defined;
 mod faults;
+mod fitting;
+mod items;
+mod laws;
+mod limits;
 mod lines;
 mod literals;
-mod naming;
 mod parsing;
-mod shapes;
 mod tables;
 mod tokens;
 mod trees;
 
 pub use faults::{FaultKind, ParseError, ScriptFault};
-pub use parsing::{parse, scripts_have_one_reading};
+pub use laws::{scripts_have_one_reading, tables_are_exact};
+pub use parsing::parse;

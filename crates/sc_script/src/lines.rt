@@ -1,30 +1,36 @@
-//! One line of a script.
+//! One line of a script, test by test.
 #![tactic(auto)]
 
-ghost use Rattle.std.specs.Prelude.{◌≡◌};
-ghost use Rattle.sc_script.specs.Lines.{is_skipped as is_skipped_line};
-ghost use Rattle.sc_script.specs.Shaping.{statement_data_of};
-ghost use Rattle.sc_script.specs.Defining.{so_far_of, IsEven, IsStated, IsLineAdded, IsLineRead};
+ghost use Rattle.std.specs.Prelude.{◌≡◌, map};
+ghost use Rattle.sc_base.specs.Answers.{Answers};
+ghost use Rattle.sc_script.specs.Defining.{defined_data_of};
+ghost use Rattle.sc_script.specs.Faults.{IsAnswer};
+ghost use Rattle.sc_script.specs.Lines.{HasForm, ReadsLine, ReadsNext, added_by, checked_action, checked_definition, is_skipped as is_skipped_line};
+ghost use Rattle.sc_script.specs.Views.{arg_data_of, args_of, form_data_of};
 
-use crate::defined::{Defined, add_item};
-use crate::faults::LineError;
-use crate::naming::item_of;
-use crate::shapes::{Statement, statement_of};
+use crate::defined::Defined;
+use crate::faults::{FaultKind, LineError, or_fault};
+use crate::fitting::{fits, knows_heads};
+use crate::items::{action_of, node_of};
+use crate::limits::ACTION_LIMIT;
+use crate::tables::{
+    ActionName, Operation, action_named, action_takes, operation_named, operation_takes,
+};
 use crate::tokens::tokens_of;
-use crate::trees::form_of;
+use crate::trees::{Arg, Form, form_of};
+use sc_value::Text;
 use std::alloc::Global;
 
 /// Reads a line: skips it, or adds what it states.
 ///
 /// # Errors
 ///
-/// The fault of the line. Nothing is said then of what is defined.
-pub(crate) fn read_line(alloc: Global, defined: &mut Defined, line: &str) -> Result<(), LineError>
-    requires { IsEven (so_far_of defined.old) }
-    ensures { IsLineRead (so_far_of defined.old) line.now (so_far_of defined.new) result }
+/// The fault of the first test that the line fails.
+pub(crate) fn read_line(alloc: Global, defined: Defined, line: &str) -> Result<Defined, LineError>
+    ensures { IsAnswer defined_data_of (ReadsNext (defined_data_of defined) line.now) result }
 {
     if is_skipped(line.as_bytes()) {
-        Ok(())
+        Ok(defined)
     } else {
         add_line(alloc, defined, line)
     }
@@ -43,20 +49,92 @@ fn is_skipped(line: &[u8]) -> bool
 }
 
 /// Adds what a line states.
-fn add_line(alloc: Global, defined: &mut Defined, line: &str) -> Result<(), LineError>
-    requires { IsEven (so_far_of defined.old) }
-    ensures { IsLineAdded (so_far_of defined.old) line.now (so_far_of defined.new) result }
+fn add_line(alloc: Global, defined: Defined, line: &str) -> Result<Defined, LineError>
+    ensures { IsAnswer defined_data_of (ReadsLine (defined_data_of defined) line.now) result }
 {
-    let statement = statement_in(alloc, line)?;
-    let item = item_of(alloc, defined, &statement)?;
-    add_item(alloc, defined, item)
+    let form = form_in(alloc, line)?;
+    add_form(alloc, defined, form)
 }
 
-/// What a line states.
-fn statement_in(alloc: Global, line: &str) -> Result<Statement, LineError>
-    ensures { IsStated line.now result }
+/// The form of a line.
+///
+/// # Errors
+///
+/// `Limit` where the line passes a limit, else `Syntax` where it has no form.
+fn form_in(alloc: Global, line: &str) -> Result<Form, LineError>
+    ensures { IsAnswer form_data_of (HasForm line.now) result }
 {
     let tokens = tokens_of(alloc, line)?;
-    let form = form_of(alloc, tokens)?;
-    statement_of(alloc, &form)
+    form_of(alloc, tokens)
+}
+
+/// Adds what a line of this form states.
+fn add_form(alloc: Global, defined: Defined, form: Form) -> Result<Defined, LineError>
+    ensures { Answers defined_data_of (λ kind. kind) result
+        (added_by (defined_data_of defined) (form_data_of form)) }
+{
+    match form {
+        Form::Definition(name, word, args) => match operation_named(word.as_str()) {
+            Some(operation) => add_definition(alloc, defined, name, operation, args),
+            None => Err(LineError::Fault(FaultKind::UnknownName)),
+        },
+        Form::Action(word, args) => match action_named(word.as_str()) {
+            Some(action) => add_action(alloc, defined, action, args),
+            None => Err(LineError::Fault(FaultKind::UnknownName)),
+        },
+    }
+}
+
+/// Adds a definition, where it passes the tests from that of heads on.
+fn add_definition(
+    alloc: Global,
+    defined: Defined,
+    name: Text,
+    operation: Operation,
+    args: Vec<Arg>,
+) -> Result<Defined, LineError>
+    ensures { Answers defined_data_of (λ kind. kind) result (checked_definition
+        (defined_data_of defined) name operation (args_of (map arg_data_of args.items))) }
+{
+    if !knows_heads(&args) {
+        return Err(LineError::Fault(FaultKind::UnknownName));
+    }
+    if !fits(operation_takes(operation), &args) {
+        return Err(LineError::Fault(FaultKind::Syntax));
+    }
+    if !defined.fits(operation, &args) {
+        return Err(LineError::Fault(FaultKind::Limit));
+    }
+    if defined.number_of(&name).is_some() {
+        return Err(LineError::Fault(FaultKind::Twice));
+    }
+    match node_of(alloc, &defined, operation, args) {
+        Ok(node) => defined.with_node(alloc, name, node),
+        Err(error) => Err(or_fault(FaultKind::UnknownName, error)),
+    }
+}
+
+/// Adds an action, where it passes the tests from that of heads on.
+fn add_action(
+    alloc: Global,
+    defined: Defined,
+    action: ActionName,
+    args: Vec<Arg>,
+) -> Result<Defined, LineError>
+    ensures { Answers defined_data_of (λ kind. kind) result (checked_action
+        (defined_data_of defined) action (args_of (map arg_data_of args.items))) }
+{
+    if !knows_heads(&args) {
+        return Err(LineError::Fault(FaultKind::UnknownName));
+    }
+    if !fits(action_takes(action), &args) {
+        return Err(LineError::Fault(FaultKind::Syntax));
+    }
+    if defined.script.actions().len() >= ACTION_LIMIT {
+        return Err(LineError::Fault(FaultKind::Limit));
+    }
+    match action_of(alloc, &defined, action, args) {
+        Ok(action) => defined.with_action(alloc, action),
+        Err(error) => Err(or_fault(FaultKind::UnknownName, error)),
+    }
 }

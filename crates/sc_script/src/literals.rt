@@ -6,7 +6,8 @@ ghost use Rattle.std.specs.Int.{w64};
 ghost use Rattle.std.specs.List.{position_or_len};
 ghost use Rattle.std.specs.Str.Parse.{signed_digits_value};
 ghost use Rattle.sc_script.specs.TokenReading.{Finds, is_mark, mark_at, text_at};
-ghost use Rattle.sc_script.specs.TokenReading.{is_digits, is_number, is_word, is_sign};
+ghost use Rattle.sc_script.specs.TokenReading.{is_word, is_sign};
+ghost use Rattle.sc_value.specs.Numbers.{is_number};
 ghost use Rattle.sc_script.specs.Tokens.{escaped_byte, is_word_start, is_word_byte, is_blank};
 
 use crate::faults::{FaultKind, LineError};
@@ -41,23 +42,6 @@ pub fn is_word(piece: &[u8]) -> bool
     match piece {
         [first, rest @ ..] => is_word_start(*first) && rest.iter().all(|b| is_word_byte(*b)),
         [] => false,
-    }
-}
-
-/// Whether bytes are decimal digits, one or more.
-fn is_digits(bytes: &[u8]) -> bool
-    ensures { result ≡ is_digits bytes.now }
-{
-    !bytes.is_empty() && bytes.iter().all(|b| b.is_ascii_digit())
-}
-
-/// Whether a piece is a number: digits, or a minus and digits.
-pub fn is_number(piece: &[u8]) -> bool
-    ensures { result ≡ is_number piece.now }
-{
-    match piece {
-        [b'-', digits @ ..] => is_digits(digits),
-        _ => is_digits(piece),
     }
 }
 
@@ -143,7 +127,7 @@ pub fn quoted(alloc: Global, line: &str) -> Result<(Text, &str), LineError>
         let (plain, marked) = rest.split_at(plain_len(rest.as_bytes()));
         text.push_str(plain)?;
         match mark_at(marked.as_bytes()) {
-            Some(Mark::Quote) => return Ok((Text::new(alloc, text.as_str())?, &marked[1..])),
+            Some(Mark::Quote) => return Ok((Text::of_string(text), &marked[1..])),
             Some(Mark::Escape(c)) => {
                 text.push(c)?;
                 rest = &marked[2..];

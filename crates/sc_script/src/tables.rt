@@ -1,87 +1,186 @@
-//! The tables of operations, actions and heads: a further one is one more line in its `match`.
+//! The tables of operations, actions and heads: a further one is one more line in each `match`.
 #![tactic(auto)]
 
-ghost use Rattle.std.specs.Prelude.{◌≡◌, map};
-ghost use Rattle.sc_script.specs.TableReading.{named_operation, named_action, named_head, all_heads_known, words_known};
-ghost use Rattle.sc_script.specs.Views.{head_data_of, args_of, arg_data_of, form_data_of};
+ghost use Rattle.std.specs.Prelude.{◌≡◌};
+ghost use Rattle.sc_script.specs.Tables.{action_kinds, actions, found_in, head_kinds, named_head, operation_kinds, operations, signs, words};
+ghost use Rattle.sc_script.specs.Views.{head_data_of};
 
-use crate::trees::{Arg, Form, Head};
-use sc_expr::BinaryHead;
+use crate::trees;
+use sc_expr::Head;
+use sc_lineage::Elementwise;
 
 /// What a definition may be by.
-#[derive(Clone, Copy)]
+#[derive(Clone, Copy, Debug, PartialEq, Eq)]
 pub enum Operation {
     /// The lines of an input.
     Text,
-    /// An expression over rows.
-    Map,
+    /// Literals.
+    Parallelize,
+    /// An expression over each row.
+    Each(Elementwise),
+    /// The partitions of two nodes.
+    Union,
+    /// The partitions of a node, put together.
+    Coalesce,
+    /// The partitions of a node, worth keeping.
+    Cache,
 }
 
 /// What an action may be.
-#[derive(Clone, Copy)]
+#[derive(Clone, Copy, Debug, PartialEq, Eq)]
 pub enum ActionName {
     /// The rows of a node, printed.
     Collect,
+    /// The number of its rows, printed.
+    Count,
+    /// Its rows, put together by an expression.
+    Reduce,
+}
+
+/// What may stand at a place among arguments.
+#[derive(Clone, Copy, Debug, PartialEq, Eq)]
+pub enum ArgKind {
+    /// The name of an input.
+    Input,
+    /// A number of partitions.
+    Count,
+    /// Literals of one kind to the end, one or more.
+    Literals,
+    /// Numbers to the end.
+    Ints,
+    /// Texts to the end.
+    Texts,
+    /// The name of a node.
+    Node,
+    /// An expression.
+    Expr,
+    /// Expressions to the end.
+    Exprs,
+    /// A text of one character.
+    Character,
 }
 
 /// The operation of this name.
 pub fn operation_named(word: &str) -> Option<Operation>
-    ensures { result ≡ named_operation word.now }
+    ensures { result ≡ found_in operations word.now }
 {
     match word {
         "text" => Some(Operation::Text),
-        "map" => Some(Operation::Map),
+        "parallelize" => Some(Operation::Parallelize),
+        "map" => Some(Operation::Each(Elementwise::Map)),
+        "filter" => Some(Operation::Each(Elementwise::Filter)),
+        "flatMap" => Some(Operation::Each(Elementwise::FlatMap)),
+        "mapValues" => Some(Operation::Each(Elementwise::MapValues)),
+        "flatMapValues" => Some(Operation::Each(Elementwise::FlatMapValues)),
+        "union" => Some(Operation::Union),
+        "coalesce" => Some(Operation::Coalesce),
+        "cache" => Some(Operation::Cache),
         _ => None,
     }
 }
 
 /// The action of this name.
 pub fn action_named(word: &str) -> Option<ActionName>
-    ensures { result ≡ named_action word.now }
+    ensures { result ≡ found_in actions word.now }
 {
     match word {
         "collect" => Some(ActionName::Collect),
+        "count" => Some(ActionName::Count),
+        "reduce" => Some(ActionName::Reduce),
         _ => None,
     }
 }
 
 /// The head that is written so.
-pub fn head_named(head: &Head) -> Option<BinaryHead>
+pub fn head_named(head: &trees::Head) -> Option<Head>
     ensures { result ≡ named_head (head_data_of head.now) }
 {
     match head {
-        Head::Word(word) => match word.as_str() {
-            "concat" => Some(BinaryHead::Concat),
-            _ => None,
-        },
-        Head::Sign(_) => None,
+        trees::Head::Word(word) => head_of_word(word.as_str()),
+        trees::Head::Sign(sign) => head_of_sign(sign.as_str()),
     }
 }
 
-/// Whether each head in the arguments is known.
-fn knows_all_heads(args: &[Arg]) -> bool
-    ensures { result ≡ all_heads_known (args_of (map arg_data_of args.now)) }
+fn head_of_word(word: &str) -> Option<Head>
+    ensures { result ≡ found_in words word.now }
 {
-    for arg in args {
-        if let Arg::List(head, inner) = arg {
-            if head_named(head).is_none() || !knows_all_heads(inner) {
-                return false;
-            }
-        }
+    match word {
+        "and" => Some(Head::And),
+        "or" => Some(Head::Or),
+        "not" => Some(Head::Not),
+        "if" => Some(Head::If),
+        "pair" => Some(Head::Pair),
+        "fst" => Some(Head::Fst),
+        "snd" => Some(Head::Snd),
+        "list" => Some(Head::List),
+        "len" => Some(Head::Len),
+        "nth" => Some(Head::Nth),
+        "sum" => Some(Head::Sum),
+        "words" => Some(Head::Words),
+        "cut" => Some(Head::Cut),
+        "int" => Some(Head::Int),
+        "text" => Some(Head::Text),
+        "concat" => Some(Head::Concat),
+        _ => None,
     }
-    true
 }
 
-/// Whether the operation or the action, and each head, is known.
-pub fn knows_words(form: &Form) -> bool
-    ensures { result ≡ words_known (form_data_of form.now) }
+fn head_of_sign(sign: &str) -> Option<Head>
+    ensures { result ≡ found_in signs sign.now }
 {
-    match form {
-        Form::Definition(_, operation, args) => {
-            operation_named(operation.as_str()).is_some() && knows_all_heads(args)
-        }
-        Form::Action(action, args) => {
-            action_named(action.as_str()).is_some() && knows_all_heads(args)
-        }
+    match sign {
+        "+" => Some(Head::Add),
+        "-" => Some(Head::Sub),
+        "*" => Some(Head::Mul),
+        "/" => Some(Head::Div),
+        "%" => Some(Head::Rem),
+        "==" => Some(Head::Eq),
+        "<" => Some(Head::Lt),
+        "<=" => Some(Head::Le),
+        _ => None,
+    }
+}
+
+/// What an operation takes.
+pub fn operation_takes(operation: Operation) -> &'static [ArgKind]
+    ensures { result.now ≡ operation_kinds operation }
+{
+    match operation {
+        Operation::Text => &[ArgKind::Input, ArgKind::Count],
+        Operation::Parallelize => &[ArgKind::Count, ArgKind::Literals],
+        Operation::Each(_) => &[ArgKind::Node, ArgKind::Expr],
+        Operation::Union => &[ArgKind::Node, ArgKind::Node],
+        Operation::Coalesce => &[ArgKind::Node, ArgKind::Count],
+        Operation::Cache => &[ArgKind::Node],
+    }
+}
+
+/// What an action takes.
+pub fn action_takes(action: ActionName) -> &'static [ArgKind]
+    ensures { result.now ≡ action_kinds action }
+{
+    match action {
+        ActionName::Collect | ActionName::Count => &[ArgKind::Node],
+        ActionName::Reduce => &[ArgKind::Node, ArgKind::Expr],
+    }
+}
+
+/// What a head takes.
+pub fn head_takes(head: Head) -> &'static [ArgKind]
+    ensures { result.now ≡ head_kinds head }
+{
+    match head {
+        Head::Not
+        | Head::Fst
+        | Head::Snd
+        | Head::Len
+        | Head::Sum
+        | Head::Words
+        | Head::Int
+        | Head::Text => &[ArgKind::Expr],
+        Head::If => &[ArgKind::Expr, ArgKind::Expr, ArgKind::Expr],
+        Head::List => &[ArgKind::Expr, ArgKind::Exprs],
+        Head::Cut => &[ArgKind::Expr, ArgKind::Character],
+        _ => &[ArgKind::Expr, ArgKind::Expr],
     }
 }

@@ -3,6 +3,7 @@
 
 ghost use Rattle.std.specs.Prelude.{◌≡◌, ◌≤◌, map, not, false};
 ghost use Rattle.std.specs.List.{position_or_len};
+ghost use Rattle.sc_script.specs.Limits.{depth_limit};
 ghost use Rattle.sc_script.specs.Tokens.{ends_token, ends_equals, is_blank, IsShort};
 ghost use Rattle.sc_script.specs.TokenReading.{Finds, IsShortFront, front_of, depth_after};
 ghost use Rattle.sc_script.specs.TokenReading.{is_token_end, piece_at, text_at, text_token_of};
@@ -11,18 +12,10 @@ ghost use Rattle.sc_script.specs.Views.{token_data_of};
 ghost use Rattle.sc_script.specs.Parsing.{AreTokensOf};
 
 use crate::faults::{FaultKind, LineError};
-use crate::literals::{int_of, is_blank, is_number, is_sign, is_word, quoted};
-use sc_value::Text;
+use crate::limits::{DEPTH_LIMIT, LINE_LIMIT, WORD_LIMIT};
+use crate::literals::{int_of, is_blank, is_sign, is_word, quoted};
+use sc_value::{Text, is_number};
 use std::alloc::Global;
-
-/// How many bytes a line may have.
-const MAX_LINE_BYTES: usize = 4096;
-
-/// How many bytes a word may have.
-const MAX_WORD_BYTES: usize = 64;
-
-/// How deep parentheses may be nested.
-const MAX_DEPTH: usize = 32;
 
 /// A token of a line.
 #[derive(Drop)]
@@ -105,7 +98,7 @@ fn token_of_piece(alloc: Global, piece: &str, after: &str) -> Result<Token, Line
     ensures { Finds token_data_of IsShort result (token_of_piece piece.now after.now) }
 {
     if is_word(piece.as_bytes()) {
-        if piece.len() > MAX_WORD_BYTES {
+        if piece.len() > WORD_LIMIT {
             return Err(LineError::Fault(FaultKind::Limit));
         }
         return Ok(Token::Word(Text::new(alloc, piece)?));
@@ -172,7 +165,7 @@ fn token_at(alloc: Global, line: &str) -> Result<(Token, &str), LineError>
 /// How many parentheses are open behind a token, where so many are open before it. One too many
 /// closes nothing.
 fn depth_after(inside: usize, token: &Token) -> usize
-    requires { inside ≤ 32 }
+    requires { inside ≤ depth_limit }
     ensures { result ≡ depth_after inside (token_data_of token.now) }
 {
     match token {
@@ -191,7 +184,7 @@ fn depth_after(inside: usize, token: &Token) -> usize
 pub fn tokens_of(alloc: Global, line: &str) -> Result<Vec<Token>, LineError>
     ensures { AreTokensOf line.now result }
 {
-    if line.len() > MAX_LINE_BYTES {
+    if line.len() > LINE_LIMIT {
         return Err(LineError::Fault(FaultKind::Limit));
     }
     let mut tokens = Vec::new(alloc);
@@ -200,7 +193,7 @@ pub fn tokens_of(alloc: Global, line: &str) -> Result<Vec<Token>, LineError>
     while !rest.is_empty() {
         let (token, after) = token_at(alloc, rest)?;
         inside = depth_after(inside, &token);
-        if inside > MAX_DEPTH {
+        if inside > DEPTH_LIMIT {
             return Err(LineError::Fault(FaultKind::Limit));
         }
         tokens.push(token)?;

@@ -1,6 +1,6 @@
 use Rattle.std.proofs.Common.{refl}
 use Rattle.std.specs.Str.Parse.{signed_digits_value}
-use Rattle.sc_script.proofs.TokenNumbers.{numeral_behind_sign}
+use Rattle.sc_value.proofs.NumberLemmas.{numeral_behind_sign}
 use Rattle.sc_script.proofs.literals.int_of.Goals as goal
 
 pub returns-in-Err : goal.returns-in-Err

@@ -47,7 +47,7 @@ returns-in-Some-Quote c =
     let ends : EndsText marked =
     subst (Begins marked) (c.in-Some-Quote.is ∙ ap Some c.in-Some-Quote.field-0-is)
     found.begins in
-    let text = c.in_ok-new-in-Some-Quote.ensures ∙ c.as_str.ensures.value in (
+    let text = c.of_string.ensures in (
       rw (text, c.range_from.ensures.value) (read_quote c.args.line.now _ marked found.read ends),
       tt,
     )
@@ -64,7 +64,8 @@ loop-text-preserved c =
     subst (Begins marked) (c.in-Some-Escape.is ∙ ap Some c.in-Some-Escape.field-0-is)
     found.begins in
     let text = c.in_ok-push-in-Some-Escape.ensures.bytes
-    ∙ ap (λ bytes. string_bytes c.push_str.new.self ++ bytes) (c.push.ensures.ascii escape.meant) in (
+    ∙ ap (λ bytes. string_bytes c.push_str.new.self ++ bytes)
+    (c.push.ensures.ascii escape.meant) in (
       c.range_from-rest.utf8,
       rw (text, c.range_from-rest.ensures.value)
           (read_escape c.args.line.now _ marked _ found.read escape),

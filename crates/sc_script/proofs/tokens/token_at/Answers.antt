@@ -18,7 +18,8 @@ returns-in-Some-strip_prefix c =
     let line = c.args.line.now in
     let after = c.in-Some-strip_prefix.after in (
       token_at-closing line _
-          (strip_prefix_char 41 line (Some after) c.in-Some-strip_prefix.ensures.cases (omega arith)),
+          (strip_prefix_char 41 line (Some after) c.in-Some-strip_prefix.ensures.cases
+          (omega arith)),
       tt,
     )
 

@@ -10,7 +10,7 @@ loop-rest-init c = (
   c.skip_blanks-rest.utf8,
   rw c.new-tokens.ensures.items
       (read_nothing_yet c.args.line.now _ c.skip_blanks-rest.ensures
-      c.if-line-gt-MAX_LINE_BYTES.false),
+      c.if-line-gt-LINE_LIMIT.false),
 )
 
 pub returns-in_err-token : goal.returns-in_err-token
@@ -22,12 +22,12 @@ returns-in_err-token c =
     (refused_by c.in_err-token.field-0.0 c.args.line.now _ c.loop-rest.inside left
     c.loop-rest.invariant.1 some c.in_err-token.ensures)
 
-pub returns-then-inside-gt-MAX_DEPTH : goal.returns-then-inside-gt-MAX_DEPTH
-returns-then-inside-gt-MAX_DEPTH c =
+pub returns-then-inside-gt-DEPTH_LIMIT : goal.returns-then-inside-gt-DEPTH_LIMIT
+returns-then-inside-gt-DEPTH_LIMIT c =
     let left = c.loop-rest.rest.now in
     let read = c.in_ok-token.ensures in
     too_deep c.args.line.now _ c.loop-rest.inside left _ _ _ c.loop-rest.invariant.1 read.0
-    c.depth_after-inside.ensures c.if-inside-gt-MAX_DEPTH.true
+    c.depth_after-inside.ensures c.if-inside-gt-DEPTH_LIMIT.true
 
 pub loop-rest-smaller : goal.loop-rest-smaller
 loop-rest-smaller c =
@@ -46,7 +46,7 @@ loop-rest-preserved c =
       rw tokens
           (read_token c.args.line.now _ c.loop-rest.inside left _ _ _ _ c.loop-rest.invariant.1
           read.0 read.1
-          c.depth_after-inside.ensures c.if-inside-gt-MAX_DEPTH.false
+          c.depth_after-inside.ensures c.if-inside-gt-DEPTH_LIMIT.false
           c.skip_blanks-rest-in-loop-rest.ensures),
     )
 
