@@ -1,0 +1,10 @@
+pub mod ZipLemmas
+pub mod StreamLemmas
+pub mod ExprLemmas
+pub mod ArgumentLemmas
+pub mod ChoiceLemmas
+pub mod ValueLemmas
+pub mod NumberLemmas
+pub mod TextLemmas
+pub mod ListLemmas
+pub mod WordLemmas
