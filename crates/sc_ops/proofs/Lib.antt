@@ -1,2 +1,6 @@
-pub mod MapLemmas
+pub mod FoldLemmas
+pub mod GivenLemmas
+pub mod KindLemmas
+pub mod PairLemmas
 pub mod ReadLemmas
+pub mod SliceLemmas

@@ -1,25 +1,39 @@
--- The streams that a map reads.
-use Rattle.std.proofs.Common.{◌≡◌, ◌∙◌, ℕ, ◌<◌, List, [], ◌∷◌, Some, length, get_or, ap, arith}
-use Rattle.std.specs.List.{slice_get}
-use Rattle.sc_expr.specs.ExprData.{ExprData}
-use Rattle.sc_lineage.specs.ScriptData.{map_node, WorkData}
-use Rattle.sc_lineage.specs.declared.streams.Stream.{Stream}
-use Rattle.sc_lineage.specs.Meaning.{partition_stream, streams_read}
+-- What is read of rows: a run of them, or one after another.
+use Rattle.std.proofs.Common.{◌≡◌, ◌∙◌, ℕ, ◌+◌, ◌<◌, ◌≤◌, List, [], ◌∷◌, ◌++◌, Some, length, map, take, drop, ap, sym, arith}
+use Rattle.std.proofs.lemmas.List.{map_more, take_all}
+use Rattle.std.proofs.lemmas.List.Folds.{drop_split}
+use Rattle.std.proofs.lemmas.Option.{slice_get_within, get_or_from_slice_get}
+use Rattle.std.specs.List.{slice_get, slice_range}
+use Rattle.sc_value.specs.Datum.{Datum}
+use Rattle.sc_value.proofs.SpanLemmas.{length-slice_range}
+use Rattle.sc_ops.specs.Runs.{IsRunAt}
 
--- what a map reads
-pub map_reads : (work : WorkData) (r q p : ℕ) (e : ExprData) (inputs : List Stream)
-    → slice_get work.script.nodes r ≡ Some (map_node q e) → inputs ≡ streams_read work (slice_get work.script.nodes r) p
-    → inputs ≡ partition_stream work q p ∷ []
-map_reads work r q p e inputs is are = are ∙ ap (λ node. streams_read work node p) is
+-- rows from a place up to another
+pub run_at : (rows run : List Datum) (from len : ℕ) → 0 < len → from + len ≤ length rows
+    → run ≡ slice_range rows from (from + len) → IsRunAt rows from run
+run_at rows run from len some within is =
+    let many : length run ≡ len =
+    ap length is ∙ length-slice_range rows from (from + len) within ∙ omega arith in
+    record {
+      some = omega arith;
+      within = omega arith;
+      are = (let split : drop from rows
+          ≡ slice_range rows from (from + len) ++ drop (from + len) rows =
+          drop_split rows from (from + len) (omega arith) in
+          split ∙ ap (λ ds. ds ++ drop (from + len) rows) (sym is)
+          ∙ ap (λ n. run ++ drop (from + n) rows) (sym many));
+    }
 
-pub map_reads_one : (work : WorkData) (r q p : ℕ) (e : ExprData) (inputs : List Stream)
-    → slice_get work.script.nodes r ≡ Some (map_node q e) → inputs ≡ streams_read work (slice_get work.script.nodes r) p
-    → 0 < length inputs
-map_reads_one work r q p e inputs is are =
-    let len : length inputs ≡ 1 = ap length (map_reads work r q p e inputs is are) in omega arith
+-- one more was read
+pub read-more : {X Y : Type 0} (f : X → Y) (xs : List X) (ys after : List Y) (x : X) (y : Y) (i : ℕ)
+    → slice_get xs i ≡ Some x → y ≡ f x → after ≡ ys ++ y ∷ [] → ys ≡ map f (take i xs)
+    → after ≡ map f (take (i + 1) xs)
+read-more f xs ys after x y i at is added so_far =
+    added ∙ ap (λ zs. zs ++ y ∷ []) so_far
+    ∙ ap (λ z. map f (take i xs) ++ z ∷ []) (is ∙ ap f (sym (get_or_from_slice_get xs i x x at)))
+    ∙ sym (map_more f xs i x (slice_get_within xs i x at))
 
-pub map_reads_first : (work : WorkData) (r q p : ℕ) (e : ExprData) (inputs : List Stream) (first : Stream)
-    → slice_get work.script.nodes r ≡ Some (map_node q e) → inputs ≡ streams_read work (slice_get work.script.nodes r) p
-    → first ≡ get_or inputs 0 first → first ≡ partition_stream work q p
-map_reads_first work r q p e inputs first is are at =
-    at ∙ ap (λ ss. get_or ss 0 first) (map_reads work r q p e inputs is are)
+-- all were read
+pub read-all : {X Y : Type 0} (f : X → Y) (xs : List X) (ys : List Y) (i : ℕ) → length xs ≤ i
+    → ys ≡ map f (take i xs) → ys ≡ map f xs
+read-all f xs ys i past so_far = so_far ∙ ap (map f) (take_all i xs past)

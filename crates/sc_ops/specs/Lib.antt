@@ -1,1 +1,4 @@
-pub mod Outcomes
+pub mod Folds
+pub mod Given
+pub mod Runs
+pub mod Slices

@@ -1,14 +1,27 @@
 //! Narrow operations: the stream of a partition from the streams of the partitions that it reads.
 //!
-//! [`run_node`] is held to the sequential meaning: what it gives is the partition's stream. A map
-//! whose expression only puts texts together is run over the whole column of texts, and no value is
-//! made for a row; any other expression is evaluated row by row, up to the first raise.
+//! [`run_node`] gives what a node makes of the streams that one of its partitions reads, which is
+//! `narrow_stream` of `sc_lineage`. It asks nothing of them, and copies no row where a share will
+//! do: of an input, of literals, of streams that are put behind one another. An operation row by
+//! row goes through its rows in batches of some thousand, each of them evaluated by `sc_batch`, and
+//! stops at the first raise. [`fold_stream`] folds a partition for an action that puts rows
+//! together, [`fold_rows`] any rows, as the driver does with the results.
 //!
-//! It knows nothing of the order in which partitions are computed, which the crates above choose.
+//! Contracts see a stream as its rows and what ended them. Want of memory is the only refusal.
+//!
+//! It knows nothing of the order in which partitions are computed, which `sc_compute` chooses.
 #![tactic(auto)]
 
-mod maps;
+mod batches;
+mod each;
+mod folds;
+mod int_folds;
+mod joins;
+mod keyed;
 mod nodes;
 mod slices;
+mod streams;
 
+pub use folds::{fold_rows, fold_stream};
 pub use nodes::run_node;
+pub use streams::share as share_stream;

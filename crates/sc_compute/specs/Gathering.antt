@@ -1,0 +1,21 @@
+-- What the results of an action give while they come one after another.
+use Rattle.std.specs.Prelude.{ℕ, ◌≡◌, List, length}
+use Rattle.sc_value.specs.Datum.{Datum}
+use Rattle.sc_value.specs.Printing.{printed_lines}
+use Rattle.sc_expr.specs.Views.{expr_data_of}
+use Rattle.sc_lineage.specs.ScriptData.{ActionData, collect_action, count_action, reduce_action}
+use Rattle.sc_compute.specs.declared.gathered.Gathered.{Gathered}
+use Rattle.sc_compute.specs.declared.gathered.Gathered.TheVariants.{Lines, Count, Rows}
+
+-- what was gathered for an action, from results with these rows
+abbrev pub IsGathered : ActionData → Gathered → List Datum → Type 0
+IsGathered (collect_action node) (Lines bytes) rows = bytes.items ≡ printed_lines rows
+IsGathered (count_action node) (Count n) rows = n ≡ length rows
+IsGathered (reduce_action node e) (Rows expr all) rows =
+    (e ≡ expr_data_of expr.now) × (all ≡ rows)
+IsGathered action gathered rows = ⊥
+
+-- how many rows were counted
+abbrev pub rows_counted : Gathered → ℕ
+rows_counted (Count n) = n
+rows_counted gathered = 0

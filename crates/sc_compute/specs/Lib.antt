@@ -1,0 +1,4 @@
+pub mod Evaluations
+pub mod Gathering
+pub mod Keeping
+pub mod Tasks

@@ -1,3 +1,0 @@
-pub mod Answers
-pub mod Plans
-pub mod Tables

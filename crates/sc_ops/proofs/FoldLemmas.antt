@@ -1,0 +1,117 @@
+-- Rows put together, in two runs and number by number.
+use Rattle.std.proofs.Common.{◌≡◌, ◌∙◌, ℕ, ℤ, ◌+◌, List, [], ◌∷◌, ◌++◌, Some, Ok, Err, fold, length, map, drop, refl, ap, sym}
+use Rattle.std.proofs.lemmas.List.{drop_more}
+use Rattle.std.proofs.lemmas.Option.{slice_get_within, get_or_from_slice_get}
+use Rattle.std.specs.List.{slice_get}
+use Rattle.sc_base.specs.Answers.{Answers}
+use Rattle.sc_base.specs.declared.refusals.OrMemory.{OrMemory}
+use Rattle.sc_base.specs.declared.refusals.OrMemory.TheVariants.{Fault, OutOfMemory}
+use Rattle.sc_value.specs.Datum.{Datum, number}
+use Rattle.sc_value.specs.Views.{datum_of, datum_step}
+use Rattle.sc_value.specs.declared.values.Value.{Value}
+use Rattle.sc_value.specs.declared.values.Value.TheFolds.{fold-roll-Value}
+use Rattle.sc_value.specs.declared.values.Value.TheOpen as value_layers
+use Rattle.sc_value.specs.declared.values.Value.TheVariants as values
+use Rattle.sc_expr.specs.ExprData.{ExprData}
+use Rattle.sc_expr.specs.Heads.{Outcome}
+use Rattle.sc_expr.specs.Meaning.{two_values, value_of_expr}
+use Rattle.sc_expr.specs.declared.exprs.Raise.{Raise}
+use Rattle.sc_lineage.specs.Actions.{fold_from, folded}
+use Rattle.sc_ops.specs.Folds.{FoldsInts, put_together}
+use Rattle.sc_ops.specs.Runs.{IsRunAt}
+use Rattle.sc_ops.specs.declared.int_folds.IntFold.{IntFold}
+
+-- two runs of rows
+pub folded-append : (e : ExprData) (a : Datum) (xs ys : List Datum)
+    → folded e a (xs ++ ys) ≡ fold_from (λ c. folded e c ys) (folded e a xs)
+folded-append e a [] ys = refl
+folded-append e a (x ∷ xs) ys =
+    behind (value_of_expr (two_values a x) e) (λ c. folded-append e c xs ys)
+  where
+    behind : (o : Outcome) → ((c : Datum) → folded e c (xs ++ ys) ≡ fold_from (λ b. folded e b ys)
+        (folded e c xs))
+        → fold_from (λ c. folded e c (xs ++ ys)) o
+        ≡ fold_from (λ b. folded e b ys) (fold_from (λ c. folded e c xs) o)
+    behind (Ok c) more = more c
+    behind (Err r) more = refl
+
+-- numbers put together by a simple expression
+folded-ints : (e : ExprData) (f : IntFold) (a : ℤ) (ns : List ℤ) → FoldsInts e f
+    → folded e (number a) (map number ns) ≡ Ok (number (fold (put_together f) a ns))
+folded-ints e f a [] folds = refl
+folded-ints e f a (n ∷ ns) folds =
+    ap (fold_from (λ c. folded e c (map number ns))) (folds a n)
+    ∙ folded-ints e f (put_together f a n) ns folds
+
+next_put : (e : ExprData) (a : Datum) (rows : List Datum) (i : ℕ) (d : Datum)
+    → slice_get rows i ≡ Some d
+    → folded e a (drop i rows)
+    ≡ fold_from (λ c. folded e c (drop (i + 1) rows)) (value_of_expr (two_values a d) e)
+next_put e a rows i d at =
+    ap (folded e a)
+    (drop_more rows i d (slice_get_within rows i d at)
+    ∙ ap (λ x. x ∷ drop (i + 1) rows) (get_or_from_slice_get rows i d d at))
+
+-- one row more
+pub folded-more : (e : ExprData) (a c whole : Datum) (rows : List Datum) (i : ℕ) (d : Datum)
+    → slice_get rows i ≡ Some d
+    → value_of_expr (two_values a d) e ≡ Ok c → folded e whole rows ≡ folded e a (drop i rows)
+    → folded e whole rows ≡ folded e c (drop (i + 1) rows)
+folded-more e a c whole rows i d at is so_far =
+    so_far ∙ next_put e a rows i d at ∙ ap (fold_from (λ b. folded e b (drop (i + 1) rows))) is
+
+-- a row that raises
+pub folded-raised : (e : ExprData) (a whole : Datum) (rows : List Datum) (i : ℕ) (d : Datum)
+    (r : Raise) → slice_get rows i ≡ Some d
+    → value_of_expr (two_values a d) e ≡ Err r → folded e whole rows ≡ folded e a (drop i rows)
+    → folded e whole rows ≡ Err r
+folded-raised e a whole rows i d r at is so_far =
+    so_far ∙ next_put e a rows i d at ∙ ap (fold_from (λ b. folded e b (drop (i + 1) rows))) is
+
+-- a refusal on the way is one of the whole
+pub Answers-stopped : (is whole : Outcome) (error : OrMemory Raise)
+    → ((r : Raise) → is ≡ Err r → whole ≡ Err r)
+    → Answers {X = Value} {Y = Datum} datum_of (λ r. r) (Err error) is
+    → Answers {X = Value} {Y = Datum} datum_of (λ r. r) (Err error) whole
+Answers-stopped is whole (Fault r) stops answered = stops r answered
+Answers-stopped is whole OutOfMemory stops answered = tt
+
+datum_of-Int : (n : ℤ) → datum_of (values.Int n) ≡ number n
+datum_of-Int n =
+    ap datum_of (sym (values.rolls-Int n)) ∙ fold-roll-Value Datum datum_step (value_layers.Int n)
+
+-- numbers put together with a number
+pub folded-held : (e : ExprData) (f : IntFold) (value : Value) (n first last : ℤ)
+    (rows : List Datum) (items : List ℤ)
+    → FoldsInts e f → value ≡ values.Int n → first ≡ n → rows ≡ map number items
+    → last ≡ fold (put_together f) first items
+    → folded e (datum_of value) rows ≡ Ok (number last)
+folded-held e f value n first last rows items folds is same are done =
+    ap (λ v. folded e (datum_of v) rows) is
+    ∙ ap (λ a. folded e a rows) (datum_of-Int n ∙ ap number (sym same))
+    ∙ ap (folded e (number first)) are ∙ folded-ints e f first items folds
+    ∙ ap (λ m. Ok (number m)) (sym done)
+
+run_put : (e : ExprData) (a : Datum) (rows run : List Datum) (from : ℕ) → IsRunAt rows from run
+    → folded e a (drop from rows)
+    ≡ fold_from (λ c. folded e c (drop (from + length run) rows)) (folded e a run)
+run_put e a rows run from at =
+    ap (folded e a) at.are ∙ folded-append e a run (drop (from + length run) rows)
+
+-- one run more
+pub folded-run : (e : ExprData) (a c first : Datum) (rows run : List Datum) (from : ℕ)
+    → IsRunAt rows from run
+    → folded e a run ≡ Ok c → folded e first (drop 1 rows) ≡ folded e a (drop from rows)
+    → folded e first (drop 1 rows) ≡ folded e c (drop (from + length run) rows)
+folded-run e a c first rows run from at is so_far =
+    so_far ∙ run_put e a rows run from at
+    ∙ ap (fold_from (λ b. folded e b (drop (from + length run) rows))) is
+
+-- a run that raises
+pub folded-run_raised : (e : ExprData) (a first : Datum) (rows run : List Datum) (from : ℕ)
+    (r : Raise) → IsRunAt rows from run
+    → folded e a run ≡ Err r → folded e first (drop 1 rows) ≡ folded e a (drop from rows)
+    → folded e first (drop 1 rows) ≡ Err r
+folded-run_raised e a first rows run from r at is so_far =
+    so_far ∙ run_put e a rows run from at
+    ∙ ap (fold_from (λ b. folded e b (drop (from + length run) rows))) is
