@@ -1,3 +1,5 @@
+pub mod Naming
 pub mod Reads
-pub mod Stops
 pub mod Files
+pub mod Scripts
+pub mod Inputs

@@ -3,8 +3,16 @@ use Rattle.std.specs.Prelude.{ℕ, ◌≡◌, List, [], ◌∷◌, length, map, 
 use Rattle.sc_base.specs.Lists.{content_of}
 use Rattle.sc_base.specs.Outside.{Files}
 use Rattle.sc_lineage.specs.ScriptData.{ScriptData, input_names, name_of_input}
+use Rattle.sc_read.specs.declared.reads.Role.{Role}
 use Rattle.sc_read.specs.declared.reads.Role.TheVariants as roles
 use Rattle.sc_read.specs.declared.reads.Read.{Read}
+
+-- what a run takes from its source
+pub record Taken : Type 0 where
+  -- the script's bytes
+  pub script : List ℕ
+  -- the inputs, each under its name
+  pub inputs : Files
 
 -- these bytes, read as the script
 abbrev pub script_read : List ℕ → Read
@@ -13,6 +21,19 @@ script_read bytes = record { role = roles.Script; bytes = bytes }
 -- an input, read
 abbrev pub input_read : List ℕ × List ℕ → Read
 input_read input = record { role = roles.Input input.0; bytes = input.1 }
+
+-- what was taken, as a list of reads in their order
+abbrev pub reads_of : Taken → List Read
+reads_of taken = script_read taken.script ∷ map input_read taken.inputs
+
+-- the name that was asked for in a role, where the script is named by this word
+abbrev pub name_of_role : List ℕ → Role → List ℕ
+name_of_role word roles.Script = word
+name_of_role word (roles.Input name) = name
+
+-- the names of reads, in order
+abbrev pub names_of_reads : List ℕ → List Read → List (List ℕ)
+names_of_reads word reads = map (λ read. name_of_role word read.role) reads
 
 -- where a source shows its files, it has these bytes under the name
 abbrev pub IsShown : Option Files → List ℕ → List ℕ → Type 0

@@ -1,18 +1,25 @@
-//! Reading: a script's inputs from a source, with a record of what was read.
+//! Reading: a run's script and its inputs from a source, with a record of what was read.
 //!
-//! [`read_file`] reads one name, and says why it gave no bytes. [`read_work`] reads the inputs that
-//! a checked script names, in the order in which the script names them first, tests each for UTF-8,
-//! and puts script and inputs together as a `Work`, in which each of them stands once. Whatever ends it, the list of
-//! [`Read`]s holds exactly what was taken so far.
+//! [`read_file`] asks for one name, once, and says why it gave no bytes. [`read_script`] reads and
+//! parses a script. [`read_work`] reads the inputs that it names, in the order in which it names
+//! them first, tests each for UTF-8, and puts script and inputs together as a `Work`. Room for what
+//! a read gives is taken before the source is asked, so the list of [`Read`]s holds exactly what it
+//! gave, whatever ends the reading.
+//!
+//! Contracts see what the source was asked for and which of its counts rose. Where a source shows
+//! neither, they speak of the bytes that it gave alone.
 #![tactic(auto)]
 
+mod files;
 mod inputs;
 mod naming;
 mod reads;
+mod scripts;
 mod stops;
 mod works;
 
-pub use inputs::read_file;
+pub use files::read_file;
 pub use reads::{Read, Role};
-pub use stops::ReadStop;
+pub use scripts::read_script;
+pub use stops::{InputStop, ScriptStop, Unreadable};
 pub use works::read_work;

@@ -1,38 +1,40 @@
 //! Why a reading stopped.
 #![tactic(auto)]
 
+use sc_script::ScriptFault;
 use sc_value::Name;
-use std::alloc::{AllocError, AllocFailed};
 
-/// Why a name gave no bytes, or its bytes no text.
+/// Why a name gave no bytes.
+#[derive(Clone, Copy, Debug, PartialEq, Eq)]
+pub enum Unreadable {
+    /// There is no file of this name.
+    Missing,
+    /// The file couldn't be read.
+    Failed,
+}
+
+/// Why there is no script.
+#[derive(Clone, Copy, Debug, PartialEq, Eq)]
+pub enum ScriptStop {
+    /// Its file gave no bytes.
+    Unreadable(Unreadable),
+    /// Its bytes have this fault.
+    Faulty(ScriptFault),
+}
+
+/// Why an input wasn't taken.
 #[derive(Drop)]
-pub enum ReadStop {
-    /// The file of this name isn't there (true), or couldn't be read (false).
-    Input(Name, bool),
-    /// The bytes of this name aren't UTF-8.
-    NotText(Name),
-    /// Memory ran out.
-    OutOfMemory,
-}
-
-impl From<AllocError> for ReadStop {
-    ghost use Rattle.std.specs.Prelude.{◌≡◌};
-    ghost use Rattle.sc_read.specs.declared.stops.ReadStop.TheVariants.{OutOfMemory};
-
-    ghost from_gives = { λ _ e. e ≡ OutOfMemory };
-
-    fn from(_: AllocError) -> Self {
-        ReadStop::OutOfMemory
-    }
-}
-
-impl<T: Drop> From<AllocFailed<T>> for ReadStop {
-    ghost use Rattle.std.specs.Prelude.{◌≡◌};
-    ghost use Rattle.sc_read.specs.declared.stops.ReadStop.TheVariants.{OutOfMemory};
-
-    ghost from_gives = { λ _ e. e ≡ OutOfMemory };
-
-    fn from(_: AllocFailed<T>) -> Self {
-        ReadStop::OutOfMemory
-    }
+pub enum InputStop {
+    /// Its file gave no bytes.
+    Unreadable {
+        /// Its name.
+        name: Name,
+        /// Why it gave none.
+        why: Unreadable,
+    },
+    /// Its bytes aren't UTF-8.
+    NotText {
+        /// Its name.
+        name: Name,
+    },
 }

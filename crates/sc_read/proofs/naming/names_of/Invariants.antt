@@ -1,9 +1,11 @@
-use Rattle.std.proofs.Common.{◌≡◌, drop, map}
-use Rattle.sc_lineage.specs.ScriptData.{input_names, names_behind}
+use Rattle.std.proofs.Common.{◌≡◌, [], map, drop}
+use Rattle.std.specs.List.{flat_map}
+use Rattle.sc_lineage.specs.ScriptData.{names_of_node}
 use Rattle.sc_lineage.specs.Views.{node_data_of}
+use Rattle.sc_read.specs.Naming.{with_names}
 use Rattle.sc_read.proofs.naming.names_of.Given as goal
 
--- the names so far, with those of the nodes that are left, are all names
 abbrev pub invariant-loop-node : goal.invariant-loop-node
 invariant-loop-node l =
-    names_behind l.names.items (map node_data_of (drop l.node-index l.node-items)) ≡ input_names l.script
+    with_names l.names.items (flat_map names_of_node (map node_data_of (drop l.node-index l.node-items)))
+    ≡ with_names [] (flat_map names_of_node (map node_data_of l.node-items))
