@@ -1,4 +1,6 @@
 pub mod ExactlyLemmas
-pub mod PrintLemmas
+pub mod GoodLemmas
+pub mod PieceLemmas
+pub mod ReadingLemmas
 pub mod RunLemmas
 pub mod TextLemmas

@@ -1,221 +1,336 @@
 -- How a run ends, from how its parts did.
-use Rattle.std.proofs.Common.{◌≡◌, ◌∙◌, ℕ, ◌+◌, ◌≤◌, List, [], ◌∷◌, ◌++◌, length, map, take, subst, sym, ap, refl, arith, Option, Some, inl, inr, Bool, true, false}
-use Rattle.std.specs.Prelude.{slice_get}
+use Rattle.std.proofs.Common.{◌≡◌, ◌∙◌, ℕ, ◌+◌, ◌≤◌, List, [], ◌∷◌, ◌++◌, length, map, take, subst, sym, ap, refl, arith, Option, Some, None, inl, inr, Bool, true, false}
+use Rattle.std.specs.Prelude.{Result, Ok, Err, ◌↔◌, ◌⊎◌, slice_get}
+use Rattle.std.specs.Option.{option_map}
 use Rattle.std.specs.Str.{IsUtf8}
-use Rattle.std.proofs.lemmas.List.{length-map, take_all, map-append, length-append}
-use Rattle.sc_base.specs.Outside.{Files, SourceState, SinkState, IsLaterSource, Outside, outside_of}
+use Rattle.std.proofs.lemmas.List.{append-nil, length-map, take_all}
+use Rattle.sc_base.specs.Outside.{Files, SourceState, SinkState, HasAsked, IsLaterSource, IsQuietSource, outside_of}
+use Rattle.sc_base.specs.declared.refusals.OrMemory.{OrMemory}
+use Rattle.sc_base.specs.declared.refusals.OrMemory.TheVariants as refusals
 use Rattle.sc_lineage.specs.ScriptData.{ScriptData, WorkData, IsSoundWork, AreTexts, input_names, name_of_input}
-use Rattle.sc_lineage.specs.Laws.{NothingRaises}
+use Rattle.sc_print.specs.declared.printing.PrintFault.{PrintFault}
+use Rattle.sc_print.specs.declared.printing.PrintFault.TheVariants as print_faults
+use Rattle.sc_print.specs.Printing.{Prints, PrintsAll, HasPrinted}
 use Rattle.sc_read.specs.declared.reads.Read.{Read}
-use Rattle.sc_read.specs.Reads.{script_read, input_read, IsShown, IsMissing, AreShown, AreFirstInputs}
-use Rattle.sc_read.specs.declared.stops.ReadStop.{ReadStop}
-use Rattle.sc_read.specs.declared.stops.ReadStop.TheVariants as reads
-use Rattle.sc_read.specs.Stops.{IsUnreadable, StopsReading}
+use Rattle.sc_read.specs.declared.stops.InputStop.{InputStop}
+use Rattle.sc_read.specs.declared.stops.InputStop.TheVariants as inputs_stops
+use Rattle.sc_read.specs.declared.stops.ScriptStop.{ScriptStop}
+use Rattle.sc_read.specs.declared.stops.ScriptStop.TheVariants as script_stops
+use Rattle.sc_read.specs.declared.stops.Unreadable.{Unreadable}
+use Rattle.sc_read.specs.declared.stops.Unreadable.TheVariants.{Missing, Failed}
+use Rattle.sc_read.specs.Files.{IsUnreadable}
+use Rattle.sc_read.specs.Inputs.{StopsAtFile, StopsAtText, TakesAsWork, TakesInputs}
+use Rattle.sc_read.specs.Reads.{Taken, AreFirstInputs, input_read, name_of_role, names_of_reads, reads_of, script_read}
+use Rattle.sc_read.specs.Scripts.{TakesAsScript, TakesScript}
+use Rattle.sc_read.proofs.ReadLemmas.{asked-more, quiet-more, unreadable-since}
+use Rattle.sc_script.specs.Scripts.{ReadsScript}
 use Rattle.sc_app.specs.declared.ran.Status.{Status}
 use Rattle.sc_app.specs.declared.ran.Status.TheVariants as statuses
-use Rattle.sc_app.specs.declared.printing.PrintStop.{PrintStop}
-use Rattle.sc_app.specs.declared.printing.PrintStop.TheVariants as prints
-use Rattle.sc_app.specs.Works.{HasRead, HasReadWork}
-use Rattle.sc_app.specs.Printing.{PrintsAll, StopsPrinting}
-use Rattle.sc_app.specs.Scripts.{HasReadScript, StopsAtScript}
-use Rattle.sc_app.specs.Ends.{PrintsMeaning, Ends, AreReadsUnder, StopsRun}
-use Rattle.sc_app.specs.Statuses.{status_of_read, status_of_print}
-use Rattle.sc_app.specs.Good.{IsGood, EndsWell, IsNoRaise}
-use Rattle.sc_app.proofs.PrintLemmas.{Rose-earlier, take-next}
+use Rattle.sc_app.specs.Ends.{Ends, IsRun, IsRunOf, PrintsMeaning, why_of}
+use Rattle.sc_app.specs.Runs.{RunData, AreReads, AsksOnce, HasRead, HasReadWork, ReadsInOrder, name_missed, run_of}
+use Rattle.sc_app.specs.Statuses.{is_missing, status_of_input, status_of_print, status_of_script}
+use Rattle.sc_app.specs.Words.{CommandData, command_of}
+use Rattle.sc_app.proofs.PieceLemmas.{text-printed}
 
--- ---- after the script's reading stopped
+-- the cause of a name that gave no bytes, as its status tells it
+told_cause : (before after : SourceState) (name : List ℕ) (why : Unreadable)
+    → IsUnreadable before after name why
+    → IsUnreadable before after name (why_of (is_missing why))
+told_cause before after name Missing x = x
+told_cause before after name Failed x = x
 
-pub reads_of_stop : (before after : SourceState) (word : List ℕ) (rs : List Read) (status : Status)
-    → StopsAtScript before after word rs status → AreReadsUnder word before.shown rs
-reads_of_stop before after word rs statuses.Done why = absurd why
-reads_of_stop before after word rs statuses.Usage why = absurd why
-reads_of_stop before after word rs (statuses.Script fault) why = λ words is.
-    inr (record { word = word; bytes = why.0; inputs = []; is_word = is; is = why.1.is; are_shown = why.1.is_shown; of_script = inl refl })
-reads_of_stop before after word rs (statuses.Input name missing) why = λ words is. inl why.1
-reads_of_stop before after word rs (statuses.TaskLimit k a p) why = absurd why
-reads_of_stop before after word rs statuses.WriteFault why = absurd why
-reads_of_stop before after word rs statuses.OutOfMemory (inl none) = λ words is. inl none
-reads_of_stop before after word rs statuses.OutOfMemory (inr why) = λ words is.
-    inr (record { word = word; bytes = why.0; inputs = []; is_word = is; is = why.1.is; are_shown = why.1.is_shown; of_script = inl refl })
-reads_of_stop before after word rs (statuses.NotText name) why = absurd why
+-- the names of inputs that were read
+names-inputs : (word : List ℕ) (inputs : Files)
+    → names_of_reads word (map input_read inputs) ≡ map name_of_input inputs
+names-inputs word [] = refl
+names-inputs word (input ∷ inputs) = ap (λ ns. input.0 ∷ ns) (names-inputs word inputs)
 
-pub ends_of_script : (before after : SourceState) (sink : SinkState) (word : List ℕ) (rs : List Read) (status : Status)
-    → StopsAtScript before after word rs status → StopsRun word rs (outside_of before sink) (outside_of after sink) status
-ends_of_script before after sink word rs statuses.Done why = absurd why
-ends_of_script before after sink word rs statuses.Usage why = absurd why
-ends_of_script before after sink word rs (statuses.Script fault) why = λ words is.
-    ((λ e. cc), record { bytes = why.0; is = why.1.is; faults = why.2; nothing_written = refl })
-ends_of_script before after sink word rs (statuses.Input name missing) why = λ words is.
-    let P : List ℕ → Type 0 = λ n. IsUnreadable before after n missing in (
-      (λ e. cc),
+-- nothing that is Usage
+usage-none : (status : Status) (words : List (List ℕ)) (command : CommandData)
+    → command_of words ≡ Some command → (status ≡ statuses.Usage → ⊥)
+    → (status ≡ statuses.Usage) ↔ (command_of words ≡ None)
+usage-none status words command is other = ((λ e. absurd (other e)), (λ none. absurd cc))
+
+module _ (words : List (List ℕ)) (name : List ℕ)
+    (is_command : command_of words ≡ Some (record { script = name })) where
+  -- what was asked for, whatever the command is called
+  asks : (run : RunData) (status : Status) (names : List (List ℕ)) → run.words ≡ words
+      → HasAsked run.before.source run.after.source names
+      → names ≡ names_of_reads name run.reads ++ name_missed status → AsksOnce run status
+  asks run status names same asked are command e =
+      let named : command.script ≡ name =
+      by_some command (record { script = name }) (sym e ∙ ap command_of same ∙ is_command) in
+      subst (λ n. HasAsked run.before.source run.after.source
+      (names_of_reads n run.reads ++ name_missed status)) (sym named)
+      (subst (λ ns. HasAsked run.before.source run.after.source ns) are asked)
+    where
+      by_some : (a b : CommandData) → Some a ≡ Some b → a.script ≡ b.script
+      by_some a b e = let same : a ≡ b = cc in ap (λ (c : CommandData). c.script) same
+
+  -- the reading of the script stops the run
+  pub script-stops : (before after : SourceState) (sink : SinkState) (reads : List Read)
+      (stop : OrMemory ScriptStop) → TakesAsScript before after name [] reads (Err stop)
+      → IsRun (run_of words reads (outside_of before sink) (outside_of after sink))
+      (status_of_script name stop)
+  script-stops before after sink reads (refusals.Fault (script_stops.Faulty fault)) x =
+      let run = run_of words reads (outside_of before sink) (outside_of after sink) in
       record {
-        next = inl (why.1, is ∙ ap (λ (n : List ℕ). Some n) (sym why.0));
-        unreadable = subst P (sym why.0) why.2;
-        nothing_written = refl;
-      },
-    )
-ends_of_script before after sink word rs (statuses.TaskLimit k a p) why = absurd why
-ends_of_script before after sink word rs statuses.WriteFault why = absurd why
-ends_of_script before after sink word rs statuses.OutOfMemory why = λ words is. ((λ e. cc), inl refl)
-ends_of_script before after sink word rs (statuses.NotText name) why = absurd why
-
--- ---- after the inputs' reading
-
--- a count that rose later has risen
-IsUnreadable-earlier : (start before after : SourceState) → IsLaterSource start before → (name : List ℕ) (missing : Bool)
-    → IsUnreadable before after name missing → IsUnreadable start after name missing
-IsUnreadable-earlier start before after later name true why =
-    let P : Option Files → Type 0 = λ shown. IsMissing shown name in
-    (Rose-earlier start.misses before.misses after.misses later.misses why.0, subst P later.shown why.1)
-IsUnreadable-earlier start before after later name false why =
-    Rose-earlier start.faults before.faults after.faults later.faults why
-
-module _ (start before after : SourceState) (later : IsLaterSource start before) (word : List ℕ) (script : ScriptData)
-    (rs more : List Read) (was : HasReadScript start.shown word rs script) where
-  -- the script and these inputs
-  behind_script : (inputs : Files) → more ≡ rs ++ map input_read inputs → more ≡ script_read was.bytes ∷ map input_read inputs
-  behind_script inputs e = e ∙ ap (λ (r : List Read). r ++ map input_read inputs) was.read.is
-
-  in_order : (inputs : Files) → more ≡ rs ++ map input_read inputs → AreFirstInputs script before.shown inputs → AreReadsUnder word start.shown more
-  in_order inputs e first = λ words is.
-      let P : Option Files → Type 0 = λ shown. AreFirstInputs script shown inputs in
-      inr (record {
-        word = word;
-        bytes = was.bytes;
-        inputs = inputs;
-        is_word = is;
-        is = behind_script inputs e;
-        are_shown = was.read.is_shown;
-        of_script = inr (script, was.is_script, subst P later.shown first);
-      })
-
-  has_read : (inputs : Files) → more ≡ rs ++ map input_read inputs → HasRead more script inputs
-  has_read inputs e = record { bytes = was.bytes; is = behind_script inputs e; is_script = was.is_script }
-
-  AreShown-append : (shown : Option Files) (inputs : Files) (input : List ℕ × List ℕ) → AreShown shown inputs → IsShown shown input.0 input.1
-      → AreShown shown (inputs ++ input ∷ [])
-  AreShown-append shown [] input all one = (one, tt)
-  AreShown-append shown (i ∷ inputs) input all one = (all.0, AreShown-append shown inputs input all.1 one)
-
-  -- one more input, of the next name
-  first_and_next : (inputs : Files) (name bytes : List ℕ) → AreFirstInputs script before.shown inputs
-      → slice_get (input_names script) (length inputs) ≡ Some name → IsShown before.shown name bytes
-      → AreFirstInputs script before.shown (inputs ++ (name, bytes) ∷ [])
-  first_and_next inputs name bytes first next one =
-      let len : length (inputs ++ (name, bytes) ∷ []) ≡ length inputs + 1 = length-append inputs ((name, bytes) ∷ []) in
+        reads = inr (record {
+          command = record { script = name };
+          taken = record { script = x.0; inputs = [] };
+          is_command = is_command;
+          is = x.1.kept;
+          are_shown = x.1.file.shown;
+          of_script = inl refl;
+        });
+        asked = asks run (statuses.Script fault) (name ∷ []) refl x.1.file.asked
+            (ap (λ rs. names_of_reads name rs ++ []) (sym x.1.kept));
+        ends = record {
+          bytes = x.0;
+          is = x.1.kept;
+          faults = x.2;
+          quiet = x.1.file.quiet;
+          nothing_written = refl;
+        };
+        usage = usage-none (statuses.Script fault) words (record { script = name }) is_command
+            (λ e. cc);
+      }
+  script-stops before after sink reads (refusals.Fault (script_stops.Unreadable why)) x =
+      let run = run_of words reads (outside_of before sink) (outside_of after sink) in
+      let status = statuses.Input name (is_missing why) in
       record {
-        named = map-append name_of_input inputs ((name, bytes) ∷ [])
-            ∙ (ap (λ (ns : List (List ℕ)). ns ++ name ∷ []) first.named
-            ∙ (sym (take-next (input_names script) (length inputs) name next)
-            ∙ ap (λ (n : ℕ). take n (input_names script)) (sym len)));
-        are_shown = AreShown-append before.shown inputs (name, bytes) first.are_shown one;
+        reads = inl x.0;
+        asked = asks run status (name ∷ []) refl x.1.asked
+            (ap (λ rs. names_of_reads name rs ++ name ∷ []) (sym x.0));
+        ends = record {
+          is_next = inl (x.0, (record { script = name }, is_command, refl));
+          cause = told_cause before after name why x.1.cause;
+          nothing_written = refl;
+        };
+        usage = usage-none status words (record { script = name }) is_command (λ e. cc);
+      }
+  script-stops before after sink reads refusals.OutOfMemory (inl x) =
+      let run = run_of words reads (outside_of before sink) (outside_of after sink) in
+      record {
+        reads = inl x.0;
+        asked = asks run statuses.OutOfMemory [] refl
+            (subst (λ s. HasAsked before s []) (sym x.1) (asked-none before))
+            (ap (λ rs. names_of_reads name rs ++ []) (sym x.0));
+        ends = record {
+          quiet = subst (λ s. IsQuietSource before s) (sym x.1)
+              (record { faults = refl; misses = refl });
+          stands = inl refl;
+        };
+        usage = usage-none statuses.OutOfMemory words (record { script = name }) is_command
+            (λ e. cc);
+      }
+    where
+      asked-none : (s : SourceState) → HasAsked s s []
+      asked-none s = none s.asked
+        where
+          none : (shown : Option (List (List ℕ)))
+              → shown ≡ option_map (λ (before : List (List ℕ)). before ++ []) shown
+          none None = refl
+          none (Some ns) = ap Some (sym (append-nil ns))
+  script-stops before after sink reads refusals.OutOfMemory (inr x) =
+      let run = run_of words reads (outside_of before sink) (outside_of after sink) in
+      record {
+        reads = inr (record {
+          command = record { script = name };
+          taken = record { script = x.0; inputs = [] };
+          is_command = is_command;
+          is = x.1.kept;
+          are_shown = x.1.file.shown;
+          of_script = inl refl;
+        });
+        asked = asks run statuses.OutOfMemory (name ∷ []) refl x.1.file.asked
+            (ap (λ rs. names_of_reads name rs ++ []) (sym x.1.kept));
+        ends = record { quiet = x.1.file.quiet; stands = inl refl };
+        usage = usage-none statuses.OutOfMemory words (record { script = name }) is_command
+            (λ e. cc);
       }
 
-  pub reads_of_read_stop : (stop : ReadStop) → StopsReading script before after rs more stop → AreReadsUnder word start.shown more
-  reads_of_read_stop (reads.Input name missing) why = in_order why.0 why.2 why.1.first
-  reads_of_read_stop (reads.NotText name) why =
-      in_order (why.0 ++ (name, why.1) ∷ []) why.3 (first_and_next why.0 name why.1 why.2.first why.2.next why.4)
-  reads_of_read_stop reads.OutOfMemory why = in_order why.0 why.3 why.1
+  -- the script was read
+  module _ (start before : SourceState) (was : IsLaterSource start before) (reads : List Read)
+      (bytes : List ℕ) (taken : TakesScript start before name [] reads bytes) (script : ScriptData)
+      (is_script : ReadsScript bytes script) where
+    -- the script and these inputs
+    behind : (inputs : Files) (more : List Read) → more ≡ reads ++ map input_read inputs
+        → more ≡ reads_of (record { script = bytes; inputs = inputs })
+    behind inputs more e = e ∙ ap (λ (rs : List Read). rs ++ map input_read inputs) taken.kept
 
-  pub ends_of_read : (sink : SinkState) (stop : ReadStop) → StopsReading script before after rs more stop
-      → StopsRun word more (outside_of start sink) (outside_of after sink) (status_of_read stop)
-  ends_of_read sink (reads.Input name missing) why = λ words is. (
-    (λ e. cc),
-    record {
-      next = inr (script, why.0, has_read why.0 why.2, why.1.texts, why.1.next);
-      unreadable = IsUnreadable-earlier start before after later name missing why.3;
-      nothing_written = refl;
-    },
-  )
-  ends_of_read sink (reads.NotText name) why = λ words is. (
-    (λ e. cc),
-    record {
-      script = script;
-      inputs = why.0;
-      bytes = why.1;
-      read = has_read (why.0 ++ (name, why.1) ∷ []) why.3;
-      texts = why.2.texts;
-      next = why.2.next;
-      no_text = why.5;
-      nothing_written = refl;
-    },
-  )
-  ends_of_read sink reads.OutOfMemory why = λ words is. ((λ e. cc), inl refl)
+    has_read : (inputs : Files) (more : List Read) → more ≡ reads ++ map input_read inputs
+        → HasRead more script inputs
+    has_read inputs more e =
+        record { bytes = bytes; is = behind inputs more e; is_script = is_script }
 
-  -- all inputs were read
-  module _ (work : WorkData) (same : work.script ≡ script) (kept : more ≡ rs ++ map input_read work.inputs)
-      (are_shown : AreShown before.shown work.inputs) (sound : IsSoundWork work) where
-    pub read_work_of : HasReadWork more work
-    read_work_of =
-        let P : ScriptData → Type 0 = λ s. HasRead more s work.inputs in
-        record { read = subst P (sym same) (has_read work.inputs kept); sound = sound }
-
-    pub reads_of_work : AreReadsUnder word start.shown more
-    reads_of_work =
-        let P : ScriptData → Type 0 = λ s. map name_of_input work.inputs ≡ input_names s in
-        let names : map name_of_input work.inputs ≡ input_names script = subst P same sound.names in
-        let len : length (input_names script) ≤ length work.inputs =
-        omega (arith, ap length names, length-map work.inputs name_of_input) in
-        in_order work.inputs kept (record {
-          named = names ∙ sym (take_all (length work.inputs) (input_names script) len);
-          are_shown = are_shown;
+    in_order : (run : RunData) (inputs : Files) → run.words ≡ words
+        → run.before.source ≡ start → run.reads ≡ reads ++ map input_read inputs
+        → AreFirstInputs script before.shown inputs → AreReads run
+    in_order run inputs same source e first =
+        inr (record {
+          command = record { script = name };
+          taken = record { script = bytes; inputs = inputs };
+          is_command = ap command_of same ∙ is_command;
+          is = behind inputs run.reads e;
+          are_shown = rw source taken.file.shown;
+          of_script = inr (
+            script,
+            is_script,
+            rw source (subst (λ shown. AreFirstInputs script shown inputs) was.shown first),
+          );
         })
 
-    pub ends_of_print : (sink sink' : SinkState) (stop : PrintStop) → StopsPrinting work sink sink' stop
-        → StopsRun word more (outside_of start sink) (outside_of after sink') (status_of_print stop)
-    ends_of_print sink sink' (prints.Never k p) why = λ words is. (
-      (λ e. cc),
-      record {
-        work = work;
-        read = read_work_of;
-        first_attempt = refl;
-        stops = why;
-      },
-    )
-    ends_of_print sink sink' prints.WriteFault why = λ words is. ((λ e. cc), record { work = work; read = read_work_of; stops = why })
-    ends_of_print sink sink' prints.OutOfMemory why = λ words is. ((λ e. cc), inr (work, read_work_of, why.0, why.1))
+    -- the script's name and these were asked for
+    asked : (run : RunData) (status : Status) (inputs : Files) (names : List (List ℕ))
+        → run.words ≡ words → run.before.source ≡ start
+        → run.reads ≡ reads ++ map input_read inputs
+        → HasAsked before run.after.source (map name_of_input inputs ++ names)
+        → names ≡ name_missed status → AsksOnce run status
+    asked run status inputs names same source e were are =
+        asks run status (name ∷ (map name_of_input inputs ++ names)) same
+        (rw source (asked-more start before run.after.source (name ∷ [])
+        (map name_of_input inputs ++ names) taken.file.asked were))
+        (rw are (ap (λ (ns : List (List ℕ)). name ∷ (ns ++ name_missed status))
+        (sym (names-inputs name inputs)))
+        ∙ ap (λ rs. names_of_reads name rs ++ name_missed status)
+        (sym (behind inputs run.reads e)))
 
-    pub prints_meaning : (sink sink' : SinkState) → PrintsAll work sink sink'
-        → PrintsMeaning more (outside_of start sink) (outside_of after sink')
-    prints_meaning sink sink' all = record { work = work; read = read_work_of; prints = all }
+    -- the same, where no name was asked for in vain
+    asked-all : (run : RunData) (status : Status) (inputs : Files)
+        → run.words ≡ words → run.before.source ≡ start
+        → run.reads ≡ reads ++ map input_read inputs
+        → HasAsked before run.after.source (map name_of_input inputs)
+        → name_missed status ≡ [] → AsksOnce run status
+    asked-all run status inputs same source e were none =
+        asked run status inputs [] same source e
+        (subst (λ ns. HasAsked before run.after.source ns)
+        (sym (append-nil (map name_of_input inputs))) were)
+        (sym none)
 
--- a source later than a later one is later
-pub later-twice : (a b c : SourceState) → IsLaterSource a b → IsLaterSource b c → IsLaterSource a c
-later-twice a b c p q = record {
-  shown = q.shown ∙ p.shown;
-  faults = omega (arith, p.faults, q.faults);
-  misses = omega (arith, p.misses, q.misses);
-}
+    -- the reading of the inputs stops the run
+    pub inputs-stop : (after : SourceState) (sink : SinkState) (more : List Read)
+        (stop : OrMemory InputStop) → TakesAsWork script before after reads more (Err stop)
+        → IsRun (run_of words more (outside_of start sink) (outside_of after sink))
+        (status_of_input stop)
+    inputs-stop after sink more (refusals.Fault (inputs_stops.Unreadable n why)) x =
+        let run = run_of words more (outside_of start sink) (outside_of after sink) in
+        let status = statuses.Input n (is_missing why) in
+        record {
+          reads = in_order run x.inputs refl refl x.kept x.first;
+          asked = asked run status x.inputs (n ∷ []) refl refl x.kept x.asked refl;
+          ends = record {
+            is_next = inr (script, x.inputs, has_read x.inputs more x.kept, x.is_next);
+            cause = told_cause start after n why
+                (unreadable-since script start reads before after n why was taken.file.quiet x.cause);
+            nothing_written = refl;
+          };
+          usage = usage-none status words (record { script = name }) is_command (λ e. cc);
+        }
+    inputs-stop after sink more (refusals.Fault (inputs_stops.NotText n)) x =
+        let run = run_of words more (outside_of start sink) (outside_of after sink) in
+        let inputs = x.inputs ++ (n, x.bytes) ∷ [] in
+        record {
+          reads = in_order run inputs refl refl x.taken.kept x.taken.first;
+          asked = asked-all run (statuses.NotText n) inputs refl refl x.taken.kept x.taken.asked
+              refl;
+          ends = record {
+            script = script;
+            inputs = x.inputs;
+            bytes = x.bytes;
+            read = has_read inputs more x.taken.kept;
+            is_next = x.is_next;
+            no_text = x.no_text;
+            quiet = quiet-more start before after taken.file.quiet x.taken.quiet;
+            nothing_written = refl;
+          };
+          usage = usage-none (statuses.NotText n) words (record { script = name }) is_command
+              (λ e. cc);
+        }
+    inputs-stop after sink more refusals.OutOfMemory x =
+        let run = run_of words more (outside_of start sink) (outside_of after sink) in
+        record {
+          reads = in_order run x.0 refl refl x.1.kept x.1.first;
+          asked = asked-all run statuses.OutOfMemory x.0 refl refl x.1.kept x.1.asked refl;
+          ends = record {
+            quiet = quiet-more start before after taken.file.quiet x.1.quiet;
+            stands = inl refl;
+          };
+          usage = usage-none statuses.OutOfMemory words (record { script = name }) is_command
+              (λ e. cc);
+        }
 
--- ---- with nothing to refuse
+    -- all inputs were read
+    module _ (after : SourceState) (more : List Read) (work : WorkData) (same : work.script ≡ script)
+        (inputs : TakesInputs script before after reads more work.inputs)
+        (sound : IsSoundWork work) where
+      has_work : HasReadWork more work
+      has_work = record {
+        read = subst (λ s. HasRead more s work.inputs) (sym same)
+            (has_read work.inputs more inputs.kept);
+        sound = sound;
+      }
 
--- the names of inputs with one more are of texts only if that one is
-AreTexts-last : (inputs : Files) (name bytes : List ℕ) → AreTexts (inputs ++ (name, bytes) ∷ []) → IsUtf8 bytes
-AreTexts-last [] name bytes all = all.0
-AreTexts-last (i ∷ inputs) name bytes all = AreTexts-last inputs name bytes all.1
+      quiet : IsQuietSource start after
+      quiet = quiet-more start before after taken.file.quiet inputs.quiet
 
-pub ends_well : (words : List (List ℕ)) (rs : List Read) (before after : Outside) (status : Status)
-    → Ends words rs before after status → IsGood words rs before after → EndsWell status
-ends_well words rs before after statuses.Done ends good = tt
-ends_well words rs before after statuses.Usage ends good = good.word ends.no_word
-ends_well words rs before after (statuses.Script fault) ends good = good.script ends.bytes [] fault ends.is ends.faults
-ends_well words rs before after (statuses.Input name true) ends good = good.no_miss ends.unreadable.0
-ends_well words rs before after (statuses.Input name false) ends good = good.no_fault ends.unreadable
-ends_well words rs before after (statuses.TaskLimit k a p) ends good = tt
-ends_well words rs before after statuses.WriteFault ends good = good.no_write_fault ends.stops.rose
-ends_well words rs before after statuses.OutOfMemory ends good = tt
-ends_well words rs before after (statuses.NotText name) ends good =
-    ends.no_text (AreTexts-last ends.inputs name ends.bytes (good.texts ends.read.bytes (ends.inputs ++ (name, ends.bytes) ∷ []) ends.read.is))
+      -- a run that read all, with what its end says
+      all_read : (sink sink' : SinkState) (status : Status) → name_missed status ≡ []
+          → (status ≡ statuses.Usage → ⊥)
+          → Ends (run_of words more (outside_of start sink) (outside_of after sink')) status
+          → IsRun (run_of words more (outside_of start sink) (outside_of after sink')) status
+      all_read sink sink' status none other ends =
+          let run = run_of words more (outside_of start sink) (outside_of after sink') in
+          record {
+            reads = in_order run work.inputs refl refl inputs.kept inputs.first;
+            asked = asked-all run status work.inputs refl refl inputs.kept inputs.asked none;
+            ends = ends;
+            usage = usage-none status words (record { script = name }) is_command other;
+          }
 
--- no run ends for a raise, where no action raises
-pub raises_nothing : NothingRaises → (words : List (List ℕ)) (rs : List Read) (before after : Outside) (status : Status)
-    → Ends words rs before after status → IsNoRaise status
-raises_nothing law words rs before after statuses.Done ends = tt
-raises_nothing law words rs before after statuses.Usage ends = tt
-raises_nothing law words rs before after (statuses.Script fault) ends = tt
-raises_nothing law words rs before after (statuses.Input name missing) ends = tt
-raises_nothing law words rs before after (statuses.TaskLimit k a p) ends =
-    let text = law ends.work ends.stops.action in let never = ends.stops.raises in cc
-raises_nothing law words rs before after statuses.WriteFault ends = tt
-raises_nothing law words rs before after statuses.OutOfMemory ends = tt
-raises_nothing law words rs before after (statuses.NotText name) ends = tt
+      -- all actions were printed
+      pub run-done : (sink sink' : SinkState) → PrintsAll work sink sink'
+          → IsRun (run_of words more (outside_of start sink) (outside_of after sink')) statuses.Done
+      run-done sink sink' prints =
+          all_read sink sink' statuses.Done refl (λ e. cc) (record {
+            work = work;
+            read = has_work;
+            quiet = quiet;
+            prints = prints;
+            text = text-printed work sink sink' prints;
+          })
+
+      -- the printing stops the run
+      pub printing-stops : (sink sink' : SinkState) (stop : OrMemory PrintFault)
+          → Prints work sink sink' (Err stop)
+          → IsRun (run_of words more (outside_of start sink) (outside_of after sink'))
+          (status_of_print stop)
+      printing-stops sink sink' (refusals.Fault (print_faults.Never k p)) x =
+          all_read sink sink' (statuses.TaskLimit k 0 p) refl (λ e. cc) (record {
+            work = work;
+            read = has_work;
+            quiet = quiet;
+            first_attempt = refl;
+            stops = x;
+          })
+      printing-stops sink sink' (refusals.Fault (print_faults.Driver k fault)) x =
+          all_read sink sink' (statuses.DriverFault k fault) refl (λ e. cc)
+          (record { work = work; read = has_work; quiet = quiet; stops = x })
+      printing-stops sink sink' (refusals.Fault print_faults.Write) x =
+          all_read sink sink' statuses.WriteFault refl (λ e. cc)
+          (record { work = work; read = has_work; quiet = quiet; stops = x })
+      printing-stops sink sink' refusals.OutOfMemory x =
+          all_read sink sink' statuses.OutOfMemory refl (λ e. cc)
+          (record { quiet = quiet; stands = inr (work, has_work, x.0, x.1) })
+
+-- words that are no command
+pub no-command : (words : List (List ℕ)) (source : SourceState) (sink : SinkState)
+    → command_of words ≡ None
+    → IsRun (run_of words [] (outside_of source sink) (outside_of source sink)) statuses.Usage
+no-command words source sink none =
+    record {
+      reads = inl refl;
+      asked = λ command e. absurd cc;
+      ends = record { no_command = none; nothing_read = refl; untouched = refl };
+      usage = ((λ e. none), (λ e. refl));
+    }

@@ -1,103 +1,129 @@
 -- How a run ends: each status with its cause, and with what stands then.
-use Rattle.std.specs.Prelude.{ℕ, ◌≡◌, ◌≢◌, ◌⊎◌, Bool, List, [], ◌∷◌, ◌++◌, length, Option, Some, None, slice_get}
+use Rattle.std.specs.Prelude.{ℕ, ◌≡◌, ◌⊎◌, ◌↔◌, Bool, true, false, List, [], ◌∷◌, ◌++◌, length, Some, None}
 use Rattle.std.specs.Str.{IsUtf8}
-use Rattle.sc_base.specs.Outside.{Files, Outside}
-use Rattle.sc_lineage.specs.ScriptData.{ScriptData, WorkData, AreTexts, input_names}
-use Rattle.sc_read.specs.declared.reads.Read.{Read}
+use Rattle.sc_base.specs.Outside.{Files, Outside, bytes_taken, with_more, IsQuietSource}
+use Rattle.sc_lineage.specs.Actions.{printed_by}
+use Rattle.sc_lineage.specs.ScriptData.{ScriptData, WorkData}
+use Rattle.sc_lineage.specs.declared.nodes.DriverFault.{DriverFault}
+use Rattle.sc_print.specs.Printing.{PrintsAll, HasPrinted, StopsAtRaise, StopsAtDriver, StopsAtWrite}
+use Rattle.sc_read.specs.Files.{IsUnreadable}
+use Rattle.sc_read.specs.Inputs.{IsNextInput}
 use Rattle.sc_read.specs.Reads.{script_read}
-use Rattle.sc_read.specs.Stops.{IsUnreadable}
-use Rattle.sc_script.specs.declared.faults.ScriptFault.{ScriptFault}
+use Rattle.sc_read.specs.declared.reads.Read.{Read}
+use Rattle.sc_read.specs.declared.stops.Unreadable.{Unreadable}
+use Rattle.sc_read.specs.declared.stops.Unreadable.TheVariants.{Missing, Failed}
 use Rattle.sc_script.specs.Scripts.{FaultsScript}
+use Rattle.sc_script.specs.declared.faults.ScriptFault.{ScriptFault}
 use Rattle.sc_app.specs.declared.ran.Status.{Status}
 use Rattle.sc_app.specs.declared.ran.Status.TheVariants as statuses
-use Rattle.sc_app.specs.Words.{script_word}
-use Rattle.sc_app.specs.Works.{HasRead, HasReadWork, IsNextName, AreReads}
-use Rattle.sc_app.specs.Printing.{PrintsAll, StopsAtRaise, StopsAtWrite, HasPrinted}
+use Rattle.sc_app.specs.Runs.{RunData, AreReads, AsksOnce, HasRead, HasReadWork, IsNextName, run_of}
+use Rattle.sc_app.specs.Words.{command_of}
 
--- the sink shows what it showed
-abbrev pub NothingWritten : Outside → Outside → Type 0
-NothingWritten before after = after.sink.shown ≡ before.sink.shown
+-- the sink took nothing, and no count of it rose
+abbrev pub NothingWritten : RunData → Type 0
+NothingWritten run = run.after.sink ≡ run.before.sink
+
+-- no count of the source rose
+abbrev pub NothingMissed : RunData → Type 0
+NothingMissed run = IsQuietSource run.before.source run.after.source
 
 -- a script and its inputs were read, and the sink got the text of its sequential meaning
-pub record PrintsMeaning (reads : List Read) (before after : Outside) : Type 0 where
+pub record PrintsMeaning (run : RunData) : Type 0 where
   pub work : WorkData
-  pub read : HasReadWork reads work
-  pub prints : PrintsAll work before.sink after.sink
+  pub read : HasReadWork run.reads work
+  pub quiet : NothingMissed run
+  -- action by action, by one write for each text that isn't empty
+  pub prints : PrintsAll work run.before.sink run.after.sink
+  -- and so in all exactly the text of the meaning
+  pub text : bytes_taken run.after.sink
+      ≡ with_more (bytes_taken run.before.sink) (printed_by work (length work.script.actions))
 
--- the words name no script, and nothing was touched
-pub record EndsForUsage (words : List (List ℕ)) (reads : List Read) (before after : Outside)
-    : Type 0 where
-  pub no_word : script_word words ≡ None
-  pub nothing_read : reads ≡ []
-  pub untouched : after ≡ before
+-- the words are no command, and nothing was touched
+pub record EndsForUsage (run : RunData) : Type 0 where
+  pub no_command : command_of run.words ≡ None
+  pub nothing_read : run.reads ≡ []
+  pub untouched : run.after ≡ run.before
 
 -- the bytes read as the script have this fault
-pub record EndsForScript (reads : List Read) (before after : Outside) (fault : ScriptFault)
-    : Type 0 where
+pub record EndsForScript (run : RunData) (fault : ScriptFault) : Type 0 where
   pub bytes : List ℕ
-  pub is : reads ≡ script_read bytes ∷ []
+  pub is : run.reads ≡ script_read bytes ∷ []
   pub faults : FaultsScript bytes fault
-  pub nothing_written : NothingWritten before after
+  pub quiet : NothingMissed run
+  pub nothing_written : NothingWritten run
+
+-- why a name gave no bytes, as the status tells it
+abbrev pub why_of : Bool → Unreadable
+why_of true = Missing
+why_of false = Failed
 
 -- the next name is missing, or couldn't be read
-pub record EndsForInput (words : List (List ℕ)) (reads : List Read) (before after : Outside)
-    (name : List ℕ) (missing : Bool) : Type 0 where
-  pub next : IsNextName words reads name
-  pub unreadable : IsUnreadable before.source after.source name missing
-  pub nothing_written : NothingWritten before after
+pub record EndsForInput (run : RunData) (name : List ℕ) (missing : Bool) : Type 0 where
+  pub is_next : IsNextName run name
+  pub cause : IsUnreadable run.before.source run.after.source name (why_of missing)
+  pub nothing_written : NothingWritten run
 
 -- the input read last isn't text, and those before it are
-pub record EndsForText (reads : List Read) (before after : Outside) (name : List ℕ) : Type 0 where
+pub record EndsForText (run : RunData) (name : List ℕ) : Type 0 where
   pub script : ScriptData
   pub inputs : Files
   pub bytes : List ℕ
-  pub read : HasRead reads script (inputs ++ (name, bytes) ∷ [])
-  pub texts : AreTexts inputs
-  pub next : slice_get (input_names script) (length inputs) ≡ Some name
+  pub read : HasRead run.reads script (inputs ++ (name, bytes) ∷ [])
+  pub is_next : IsNextInput script inputs name
   pub no_text : IsUtf8 bytes → ⊥
-  pub nothing_written : NothingWritten before after
+  pub quiet : NothingMissed run
+  pub nothing_written : NothingWritten run
 
--- all was read, and an action has no text, since a partition raises
-pub record EndsForRaise (reads : List Read) (before after : Outside) (k attempt partition : ℕ)
-    : Type 0 where
+-- all was read, and an action is never, since a partition raises
+pub record EndsForRaise (run : RunData) (k attempt partition : ℕ) : Type 0 where
   pub work : WorkData
-  pub read : HasReadWork reads work
+  pub read : HasReadWork run.reads work
+  pub quiet : NothingMissed run
   pub first_attempt : attempt ≡ 0
-  pub stops : StopsAtRaise work before.sink after.sink k partition
+  pub stops : StopsAtRaise work run.before.sink run.after.sink k partition
+
+-- all was read, and the results of an action have no value
+pub record EndsForDriver (run : RunData) (k : ℕ) (fault : DriverFault) : Type 0 where
+  pub work : WorkData
+  pub read : HasReadWork run.reads work
+  pub quiet : NothingMissed run
+  pub stops : StopsAtDriver work run.before.sink run.after.sink k fault
 
 -- all was read, and the sink failed
-pub record EndsForWrite (reads : List Read) (before after : Outside) : Type 0 where
+pub record EndsForWrite (run : RunData) : Type 0 where
   pub work : WorkData
-  pub read : HasReadWork reads work
-  pub stops : StopsAtWrite work before.sink after.sink
+  pub read : HasReadWork run.reads work
+  pub quiet : NothingMissed run
+  pub stops : StopsAtWrite work run.before.sink run.after.sink
 
--- memory ran out before the first text, or behind the texts of some actions
-abbrev pub EndsForMemory : List Read → Outside → Outside → Type 0
-EndsForMemory reads before after =
-    NothingWritten before after
-    ⊎ ((work : WorkData) × HasReadWork reads work
-    × (k : ℕ) × HasPrinted work before.sink after.sink k)
+-- memory ran out before the first text, or behind the texts of some actions; no count rose
+pub record EndsForMemory (run : RunData) : Type 0 where
+  pub quiet : NothingMissed run
+  pub stands : NothingWritten run
+      ⊎ ((work : WorkData) × HasReadWork run.reads work
+      × (k : ℕ) × HasPrinted work run.before.sink run.after.sink k)
 
 -- the cause of a status, and what stands
-abbrev pub Ends : List (List ℕ) → List Read → Outside → Outside → Status → Type 0
-Ends words reads before after statuses.Done = PrintsMeaning reads before after
-Ends words reads before after statuses.Usage = EndsForUsage words reads before after
-Ends words reads before after (statuses.Script fault) = EndsForScript reads before after fault
-Ends words reads before after (statuses.Input name missing) =
-    EndsForInput words reads before after name missing
-Ends words reads before after (statuses.TaskLimit k attempt partition) =
-    EndsForRaise reads before after k attempt partition
-Ends words reads before after statuses.WriteFault = EndsForWrite reads before after
-Ends words reads before after statuses.OutOfMemory = EndsForMemory reads before after
-Ends words reads before after (statuses.NotText name) = EndsForText reads before after name
+abbrev pub Ends : RunData → Status → Type 0
+Ends run statuses.Done = PrintsMeaning run
+Ends run statuses.Usage = EndsForUsage run
+Ends run (statuses.Script fault) = EndsForScript run fault
+Ends run (statuses.Input name missing) = EndsForInput run name missing
+Ends run (statuses.TaskLimit k attempt partition) = EndsForRaise run k attempt partition
+Ends run (statuses.DriverFault k fault) = EndsForDriver run k fault
+Ends run statuses.WriteFault = EndsForWrite run
+Ends run statuses.OutOfMemory = EndsForMemory run
+Ends run (statuses.NotText name) = EndsForText run name
 
--- what was read under a script's word
-abbrev pub AreReadsUnder : List ℕ → Option Files → List Read → Type 0
-AreReadsUnder word shown reads =
-    (words : List (List ℕ)) → script_word words ≡ Some word → AreReads words shown reads
+-- a run with its status: what it read, what it asked for, and how it ended
+pub record IsRun (run : RunData) (status : Status) : Type 0 where
+  pub reads : AreReads run
+  pub asked : AsksOnce run status
+  pub ends : Ends run status
+  pub usage : (status ≡ statuses.Usage) ↔ (command_of run.words ≡ None)
 
--- how a run of the script of this word ends
-abbrev pub StopsRun : List ℕ → List Read → Outside → Outside → Status → Type 0
-StopsRun word reads before after status =
-    (words : List (List ℕ)) → script_word words ≡ Some word
-    → (status ≢ statuses.Usage) × Ends words reads before after status
+-- a run of the script of this name, whatever the words that named it
+abbrev pub IsRunOf : List ℕ → List Read → Outside → Outside → Status → Type 0
+IsRunOf name reads before after status =
+    (words : List (List ℕ)) → command_of words ≡ Some (record { script = name })
+    → IsRun (run_of words reads before after) status

@@ -1,26 +1,53 @@
 -- What a run tells of what it read: nothing that refuses it is passed over.
-use Rattle.std.specs.Prelude.{ℕ, ◌≡◌, ◌⊎◌, List, ◌∷◌, map, Contains}
+use Rattle.std.specs.Prelude.{ℕ, ◌≡◌, ◌⊎◌, List, take, Some, slice_get, Contains}
+use Rattle.std.specs.List.{All}
 use Rattle.std.specs.Str.{IsUtf8}
-use Rattle.sc_base.specs.Outside.{Files}
+use Rattle.sc_lineage.specs.Actions.{action_outcome, faults, never, HasText}
+use Rattle.sc_lineage.specs.ScriptData.{ActionData, WorkData}
+use Rattle.sc_lineage.specs.declared.nodes.DriverFault.{DriverFault}
 use Rattle.sc_read.specs.declared.reads.Read.{Read}
-use Rattle.sc_read.specs.Reads.{script_read, input_read}
+use Rattle.sc_read.specs.Reads.{Taken, reads_of}
 use Rattle.sc_script.specs.declared.faults.ScriptFault.{ScriptFault}
 use Rattle.sc_script.specs.Scripts.{FaultsScript}
 use Rattle.sc_app.specs.declared.ran.Status.{Status}
 use Rattle.sc_app.specs.declared.ran.Status.TheVariants as statuses
+use Rattle.sc_app.specs.Runs.{HasReadWork}
 
 -- the status is this one, unless memory ran out
 abbrev pub IsUnlessMemory : Status → Status → Type 0
 IsUnlessMemory told status = (status ≡ told) ⊎ (status ≡ statuses.OutOfMemory)
 
+-- the status is this one, unless memory ran out or the sink failed before
+abbrev pub IsUnlessEarlier : Status → Status → Type 0
+IsUnlessEarlier told status = IsUnlessMemory told status ⊎ (status ≡ statuses.WriteFault)
+
 -- if the bytes read as the script have a fault, the status is that fault
 abbrev pub TellsFault : List Read → Status → Type 0
-TellsFault reads status = (bytes : List ℕ) (inputs : Files) (fault : ScriptFault)
-    → reads ≡ script_read bytes ∷ map input_read inputs → FaultsScript bytes fault
+TellsFault reads status = (taken : Taken) (fault : ScriptFault)
+    → reads ≡ reads_of taken → FaultsScript taken.script fault
     → IsUnlessMemory (statuses.Script fault) status
 
 -- if an input that was read isn't text, the status has its name
 abbrev pub TellsNotText : List Read → Status → Type 0
-TellsNotText reads status = (bytes : List ℕ) (inputs : Files) (name content : List ℕ)
-    → reads ≡ script_read bytes ∷ map input_read inputs → Contains inputs (name, content)
+TellsNotText reads status = (taken : Taken) (name content : List ℕ)
+    → reads ≡ reads_of taken → Contains taken.inputs (name, content)
     → (IsUtf8 content → ⊥) → IsUnlessMemory (statuses.NotText name) status
+
+-- action k is the first without a text
+pub record IsFirstWithout (work : WorkData) (k : ℕ) (action : ActionData) : Type 0 where
+  pub texts : All (HasText work) (take k work.script.actions)
+  pub is_action : slice_get work.script.actions k ≡ Some action
+
+-- if the first action without a text is never, the status says so
+abbrev pub TellsNever : List Read → Status → Type 0
+TellsNever reads status = (work : WorkData) (k : ℕ) (action : ActionData)
+    → HasReadWork reads work → IsFirstWithout work k action → action_outcome work action ≡ never
+    → (partition : ℕ) × IsUnlessEarlier (statuses.TaskLimit k 0 partition) status
+
+-- if the first action without a text has a fault of the driver, the status says so
+abbrev pub TellsDriverFault : List Read → Status → Type 0
+TellsDriverFault reads status =
+    (work : WorkData) (k : ℕ) (action : ActionData) (fault : DriverFault)
+    → HasReadWork reads work → IsFirstWithout work k action
+    → action_outcome work action ≡ faults fault
+    → IsUnlessEarlier (statuses.DriverFault k fault) status

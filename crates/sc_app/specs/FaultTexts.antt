@@ -3,7 +3,12 @@ use Rattle.std.specs.Prelude.{ℕ, Bool, true, false, List, [], ◌++◌, codes}
 use Rattle.std.specs.Fmt.{decimal}
 use Rattle.sc_script.specs.declared.faults.FaultKind.{FaultKind}
 use Rattle.sc_script.specs.declared.faults.FaultKind.TheVariants as kinds
+use Rattle.sc_expr.specs.declared.exprs.Raise.{Raise}
+use Rattle.sc_expr.specs.declared.exprs.Raise.TheVariants as raises
+use Rattle.sc_lineage.specs.declared.nodes.DriverFault.{DriverFault}
+use Rattle.sc_lineage.specs.declared.nodes.DriverFault.TheVariants as causes
 use Rattle.sc_app.specs.declared.ran.Status.{Status}
+use Rattle.sc_app.specs.declared.ran.Status.TheVariants as statuses
 use Rattle.sc_app.specs.declared.ran.Status.TheVariants.{Done, Usage, Script, Input, TaskLimit, WriteFault, OutOfMemory, NotText}
 
 -- the name of a kind of fault
@@ -20,6 +25,17 @@ abbrev pub missing_text : Bool → List ℕ
 missing_text true = codes "missing"
 missing_text false = codes "failed"
 
+-- the name of a raise
+abbrev pub raise_text : Raise → List ℕ
+raise_text raises.DivideByZero = codes "DivideByZero"
+raise_text raises.NotANumber = codes "NotANumber"
+raise_text raises.OutOfRange = codes "OutOfRange"
+
+-- the name of the cause of a driver's fault
+abbrev pub cause_text : DriverFault → List ℕ
+cause_text causes.EmptyCollection = codes "EmptyCollection"
+cause_text (causes.Raised raise) = raise_text raise
+
 -- the text of a status; done has none
 abbrev pub fault_text : Status → List ℕ
 fault_text Done = []
@@ -30,6 +46,8 @@ fault_text (Input name missing) = codes "input: " ++ name ++ codes ": " ++ missi
 fault_text (TaskLimit k attempt partition) =
     codes "task limit: stage " ++ decimal k ++ codes " attempt " ++ decimal attempt
     ++ codes " partition " ++ decimal partition
+fault_text (statuses.DriverFault k kind) =
+    codes "driver: action " ++ decimal k ++ codes ": " ++ cause_text kind
 fault_text WriteFault = codes "write failed"
 fault_text OutOfMemory = codes "out of memory"
 fault_text (NotText name) = codes "not text: " ++ name

@@ -1,9 +1,7 @@
 pub mod Words
-pub mod Works
-pub mod Printing
+pub mod Runs
 pub mod Ends
-pub mod Good
 pub mod Exactly
+pub mod Good
 pub mod Statuses
-pub mod Scripts
 pub mod FaultTexts

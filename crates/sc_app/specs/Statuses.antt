@@ -1,13 +1,17 @@
 -- The status that each part's answer becomes, and its number.
-use Rattle.std.specs.Prelude.{ℕ}
-use Rattle.sc_read.specs.declared.stops.ReadStop.{ReadStop}
-use Rattle.sc_read.specs.declared.stops.ReadStop.TheVariants as reads
-use Rattle.sc_script.specs.declared.faults.ParseError.{ParseError}
-use Rattle.sc_script.specs.declared.faults.ParseError.TheVariants as parses
-use Rattle.sc_app.specs.declared.printing.PrintStop.{PrintStop}
-use Rattle.sc_app.specs.declared.printing.PrintStop.TheVariants as prints
+use Rattle.std.specs.Prelude.{ℕ, Bool, true, false, List}
+use Rattle.sc_base.specs.declared.refusals.OrMemory.{OrMemory}
+use Rattle.sc_base.specs.declared.refusals.OrMemory.TheVariants as refusals
+use Rattle.sc_print.specs.declared.printing.PrintFault.{PrintFault}
+use Rattle.sc_print.specs.declared.printing.PrintFault.TheVariants as prints
+use Rattle.sc_read.specs.declared.stops.InputStop.{InputStop}
+use Rattle.sc_read.specs.declared.stops.InputStop.TheVariants as inputs
+use Rattle.sc_read.specs.declared.stops.ScriptStop.{ScriptStop}
+use Rattle.sc_read.specs.declared.stops.ScriptStop.TheVariants as scripts
+use Rattle.sc_read.specs.declared.stops.Unreadable.{Unreadable}
+use Rattle.sc_read.specs.declared.stops.Unreadable.TheVariants.{Missing, Failed}
 use Rattle.sc_app.specs.declared.ran.Status.{Status}
-use Rattle.sc_app.specs.declared.ran.Status.TheVariants.{Done, Usage, Script, Input, TaskLimit, WriteFault, OutOfMemory, NotText}
+use Rattle.sc_app.specs.declared.ran.Status.TheVariants.{Done, Usage, Script, Input, TaskLimit, DriverFault, WriteFault, OutOfMemory, NotText}
 
 -- the number of a status
 abbrev pub number_of : Status → ℕ
@@ -16,23 +20,31 @@ number_of Usage = 2
 number_of (Script fault) = 3
 number_of (Input name missing) = 5
 number_of (TaskLimit k attempt partition) = 6
+number_of (DriverFault k fault) = 9
 number_of WriteFault = 12
 number_of OutOfMemory = 13
 number_of (NotText name) = 15
 
--- the status where reading stopped
-abbrev pub status_of_read : ReadStop → Status
-status_of_read (reads.Input name missing) = Input name missing
-status_of_read (reads.NotText name) = NotText name
-status_of_read reads.OutOfMemory = OutOfMemory
+-- whether a name gave no bytes since it isn't there
+abbrev pub is_missing : Unreadable → Bool
+is_missing Missing = true
+is_missing Failed = false
 
--- the status where parsing stopped
-abbrev pub status_of_parse : ParseError → Status
-status_of_parse (parses.Fault fault) = Script fault
-status_of_parse parses.OutOfMemory = OutOfMemory
+-- the status where there is no script under a name
+abbrev pub status_of_script : List ℕ → OrMemory ScriptStop → Status
+status_of_script name (refusals.Fault (scripts.Faulty fault)) = Script fault
+status_of_script name (refusals.Fault (scripts.Unreadable why)) = Input name (is_missing why)
+status_of_script name refusals.OutOfMemory = OutOfMemory
 
--- the status where printing stopped
-abbrev pub status_of_print : PrintStop → Status
-status_of_print (prints.Never k partition) = TaskLimit k 0 partition
-status_of_print prints.WriteFault = WriteFault
-status_of_print prints.OutOfMemory = OutOfMemory
+-- the status where an input wasn't taken
+abbrev pub status_of_input : OrMemory InputStop → Status
+status_of_input (refusals.Fault (inputs.Unreadable name why)) = Input name (is_missing why)
+status_of_input (refusals.Fault (inputs.NotText name)) = NotText name
+status_of_input refusals.OutOfMemory = OutOfMemory
+
+-- the status where not all actions were printed
+abbrev pub status_of_print : OrMemory PrintFault → Status
+status_of_print (refusals.Fault (prints.Never k partition)) = TaskLimit k 0 partition
+status_of_print (refusals.Fault (prints.Driver k fault)) = DriverFault k fault
+status_of_print (refusals.Fault prints.Write) = WriteFault
+status_of_print refusals.OutOfMemory = OutOfMemory

@@ -1,24 +1,23 @@
 //! The run.
 #![tactic(auto)]
 
-ghost use Rattle.std.specs.Prelude.{◌≡◌, ◌↔◌, [], IfErr, None, OnOk, Some, map};
+ghost use Rattle.std.specs.Prelude.{◌≡◌, ◌≤◌, ◌↔◌, [], None, map};
 ghost use Rattle.std.specs.String.{string_bytes};
 ghost use Rattle.sc_base.specs.Outside.{IsLaterSource, outside_of};
-ghost use Rattle.sc_app.specs.Ends.{AreReadsUnder, Ends, PrintsMeaning, StopsRun};
-ghost use Rattle.sc_app.specs.Exactly.{TellsFault, TellsNotText};
-ghost use Rattle.sc_app.specs.Good.{EndsWell, IsGood, IsNoRaise};
-ghost use Rattle.sc_app.specs.Words.{script_word};
-ghost use Rattle.sc_app.specs.Works.{AreReads};
+ghost use Rattle.sc_app.specs.Ends.{Ends, IsRun, PrintsMeaning};
+ghost use Rattle.sc_app.specs.Exactly.{TellsDriverFault, TellsFault, TellsNever, TellsNotText};
+ghost use Rattle.sc_app.specs.Good.{EndsWell, IsGood};
+ghost use Rattle.sc_app.specs.Runs.{AreReads, AsksOnce, run_of};
+ghost use Rattle.sc_app.specs.Words.{command_of};
 
-use crate::printing::print_work;
 use crate::ran::{Ran, Status};
-use crate::scripts::read_script;
-use crate::words::find_script;
+use crate::scripts::run_script;
+use crate::words::find_command;
 use sc_input::Source;
-use sc_lineage::nothing_raises;
-use sc_read::{Read, read_work};
+use sc_read::Read;
 use sc_script::scripts_have_one_reading;
 use sc_sink::Sink;
+use sc_value::Name;
 use std::alloc::Global;
 
 /// Runs the script that the words name: `run` and a name.
@@ -43,25 +42,32 @@ pub fn run<R, S: Source, K: Sink>(
 ) -> Ran
     // The source shows what it showed, and no count has fallen.
     ensures later { IsLaterSource (S.state source.old) (S.state source.new) }
+    ensures sink_later { (K.state sink.old).faults ≤ (K.state sink.new).faults }
 
     // The script was read under its word, and then each input that it names, once and in order.
-    ensures reads { AreReads (map string_bytes words.now) (S.state source.old).shown
-        result.read.items }
+    ensures reads { AreReads (run_of (map string_bytes words.now) result.read.items
+        (outside_of (S.state source.old) (K.state sink.old))
+        (outside_of (S.state source.new) (K.state sink.new))) }
+
+    // The source was asked for that, and for the name that it didn't give, and for nothing else.
+    ensures asked { AsksOnce (run_of (map string_bytes words.now) result.read.items
+        (outside_of (S.state source.old) (K.state sink.old))
+        (outside_of (S.state source.new) (K.state sink.new))) result.status }
 
     // Done: the sink got exactly the text of the meaning of the script and inputs that were read.
-    ensures headline { result.status ≡ Status.Done → PrintsMeaning result.read.items
+    ensures headline { result.status ≡ Status.Done
+        → PrintsMeaning (run_of (map string_bytes words.now) result.read.items
         (outside_of (S.state source.old) (K.state sink.old))
-        (outside_of (S.state source.new) (K.state sink.new)) }
+        (outside_of (S.state source.new) (K.state sink.new))) }
 
     // Each status has its cause, and this is what stands.
-    ensures ends { Ends (map string_bytes words.now) result.read.items
+    ensures ends { Ends (run_of (map string_bytes words.now) result.read.items
         (outside_of (S.state source.old) (K.state sink.old))
-        (outside_of (S.state source.new) (K.state sink.new))
-        result.status }
+        (outside_of (S.state source.new) (K.state sink.new))) result.status }
 
-    // Usage comes exactly where the words name no script.
+    // Usage comes exactly where the words are no command.
     ensures usage { (result.status ≡ Status.Usage)
-        ↔ (script_word (map string_bytes words.now) ≡ None) }
+        ↔ (command_of (map string_bytes words.now) ≡ None) }
 
     // A fault of the bytes that were read as the script is told, unless memory runs out.
     ensures script_exactly { TellsFault result.read.items result.status }
@@ -69,15 +75,16 @@ pub fn run<R, S: Source, K: Sink>(
     // An input that was read and isn't text is told by its name, unless memory runs out.
     ensures text_exactly { TellsNotText result.read.items result.status }
 
-    // Today no expression raises, so no action is without a value.
-    ensures no_raise { IsNoRaise result.status }
+    // An action that is never, and one whose results have no value, are told, unless memory runs
+    // out or the sink failed before.
+    ensures never_exactly { TellsNever result.read.items result.status }
+    ensures driver_exactly { TellsDriverFault result.read.items result.status }
 
-    // With nothing to refuse the run is done, unless memory runs out or an action has no value.
-    ensures good { IsGood (map string_bytes words.now) result.read.items
+    // With nothing to refuse the run is done, unless memory runs out or an action has no text.
+    ensures good { IsGood (run_of (map string_bytes words.now) result.read.items
         (outside_of (S.state source.old) (K.state sink.old))
-        (outside_of (S.state source.new) (K.state sink.new)) → EndsWell result.status }
+        (outside_of (S.state source.new) (K.state sink.new))) → EndsWell result.status }
 {
-    nothing_raises();
     scripts_have_one_reading();
     let mut read = Vec::new(alloc);
     let status = run_words(alloc, words, source, sink, &mut read);
@@ -90,47 +97,20 @@ fn run_words<S: Source, K: Sink>(
     words: &[String],
     source: &mut S,
     sink: &mut K,
-    read: &mut Vec<Read>,
+    reads: &mut Vec<Read>,
 ) -> Status
-    requires { read.old.items ≡ [] }
+    requires { reads.old.items ≡ [] }
     ensures later { IsLaterSource (S.state source.old) (S.state source.new) }
-    ensures reads { AreReads (map string_bytes words.now) (S.state source.old).shown
-        read.new.items }
-    ensures ends { Ends (map string_bytes words.now) read.new.items
+    ensures sink_later { (K.state sink.old).faults ≤ (K.state sink.new).faults }
+    ensures run { IsRun (run_of (map string_bytes words.now) reads.new.items
         (outside_of (S.state source.old) (K.state sink.old))
-        (outside_of (S.state source.new) (K.state sink.new)) result }
-    ensures usage { (result ≡ Status.Usage) ↔ (script_word (map string_bytes words.now) ≡ None) }
+        (outside_of (S.state source.new) (K.state sink.new))) result }
 {
-    match find_script(words) {
-        Some(word) => match run_script(alloc, word, source, sink, read) {
-            Ok(()) => Status::Done,
-            Err(status) => status,
+    match find_command(words) {
+        Some(word) => match Name::new(alloc, word) {
+            Ok(name) => run_script(alloc, name, source, sink, reads),
+            Err(_) => Status::OutOfMemory,
         },
         None => Status::Usage,
     }
-}
-
-/// Runs the script of this name.
-fn run_script<S: Source, K: Sink>(
-    alloc: Global,
-    word: &str,
-    source: &mut S,
-    sink: &mut K,
-    read: &mut Vec<Read>,
-) -> Result<(), Status>
-    requires { read.old.items ≡ [] }
-    ensures later { IsLaterSource (S.state source.old) (S.state source.new) }
-    ensures reads { AreReadsUnder word.now (S.state source.old).shown read.new.items }
-    ensures done { OnOk result (PrintsMeaning read.new.items
-        (outside_of (S.state source.old) (K.state sink.old))
-        (outside_of (S.state source.new) (K.state sink.new))) }
-    ensures stops { IfErr result (StopsRun word.now read.new.items
-        (outside_of (S.state source.old) (K.state sink.old))
-        (outside_of (S.state source.new) (K.state sink.new))) }
-{
-    let script = read_script(alloc, source, word, read)?;
-    let work = read_work(alloc, source, script, read)?;
-    work.is_sound();
-    print_work(alloc, &work, sink)?;
-    Ok(())
 }

@@ -10,13 +10,12 @@
 #![tactic(auto)]
 
 mod command;
-mod printing;
 mod ran;
 mod scripts;
+mod stops;
 mod texts;
 mod words;
 
 pub use command::run;
-pub use printing::{PrintStop, print_work};
 pub use ran::{Ran, Status};
 pub use texts::fault_text;

@@ -4,11 +4,10 @@
 ghost use Rattle.std.specs.Prelude.{◌≡◌};
 ghost use Rattle.sc_app.specs.Statuses.{number_of};
 
-use crate::printing::PrintStop;
-use sc_read::{Read, ReadStop};
-use sc_script::{ParseError, ScriptFault};
+use sc_lineage::DriverFault;
+use sc_read::Read;
+use sc_script::ScriptFault;
 use sc_value::Name;
-use std::alloc::{AllocError, AllocFailed};
 
 /// How a run ended.
 #[derive(Drop)]
@@ -29,11 +28,18 @@ pub enum Status {
     /// An action has no value, since a partition raises.
     TaskLimit {
         /// The number of the action, from 0.
-        stage: usize,
+        stage: u32,
         /// 0.
         stage_attempt: u32,
         /// The first partition that raises.
         partition: u32,
+    },
+    /// The results of an action have no value together.
+    DriverFault {
+        /// The number of the action, from 0.
+        action: u32,
+        /// Why they have none.
+        kind: DriverFault,
     },
     /// The sink failed.
     WriteFault,
@@ -57,79 +63,10 @@ impl Status {
             Status::Script(_) => 3,
             Status::Input { .. } => 5,
             Status::TaskLimit { .. } => 6,
+            Status::DriverFault { .. } => 9,
             Status::WriteFault => 12,
             Status::OutOfMemory => 13,
             Status::NotText { .. } => 15,
-        }
-    }
-}
-
-impl From<AllocError> for Status {
-    ghost use Rattle.std.specs.Prelude.{◌≡◌};
-    ghost use Rattle.sc_app.specs.declared.ran.Status.TheVariants.{OutOfMemory};
-
-    ghost from_gives = { λ _ e. e ≡ OutOfMemory };
-
-    fn from(_: AllocError) -> Self {
-        Status::OutOfMemory
-    }
-}
-
-impl<T: Drop> From<AllocFailed<T>> for Status {
-    ghost use Rattle.std.specs.Prelude.{◌≡◌};
-    ghost use Rattle.sc_app.specs.declared.ran.Status.TheVariants.{OutOfMemory};
-
-    ghost from_gives = { λ _ e. e ≡ OutOfMemory };
-
-    fn from(_: AllocFailed<T>) -> Self {
-        Status::OutOfMemory
-    }
-}
-
-impl From<ReadStop> for Status {
-    ghost use Rattle.std.specs.Prelude.{◌≡◌};
-    ghost use Rattle.sc_app.specs.Statuses.{status_of_read};
-
-    ghost from_gives = { λ s e. e ≡ status_of_read s };
-
-    fn from(stop: ReadStop) -> Self {
-        match stop {
-            ReadStop::Input(name, missing) => Status::Input { name, missing },
-            ReadStop::NotText(name) => Status::NotText { name },
-            ReadStop::OutOfMemory => Status::OutOfMemory,
-        }
-    }
-}
-
-impl From<ParseError> for Status {
-    ghost use Rattle.std.specs.Prelude.{◌≡◌};
-    ghost use Rattle.sc_app.specs.Statuses.{status_of_parse};
-
-    ghost from_gives = { λ s e. e ≡ status_of_parse s };
-
-    fn from(error: ParseError) -> Self {
-        match error {
-            ParseError::Fault(fault) => Status::Script(fault),
-            ParseError::OutOfMemory => Status::OutOfMemory,
-        }
-    }
-}
-
-impl From<PrintStop> for Status {
-    ghost use Rattle.std.specs.Prelude.{◌≡◌};
-    ghost use Rattle.sc_app.specs.Statuses.{status_of_print};
-
-    ghost from_gives = { λ s e. e ≡ status_of_print s };
-
-    fn from(stop: PrintStop) -> Self {
-        match stop {
-            PrintStop::Never(action, partition) => Status::TaskLimit {
-                stage: action,
-                stage_attempt: 0,
-                partition,
-            },
-            PrintStop::WriteFault => Status::WriteFault,
-            PrintStop::OutOfMemory => Status::OutOfMemory,
         }
     }
 }

@@ -1,49 +1,45 @@
-//! The script of a run.
+//! The run of one script.
 #![tactic(auto)]
 
-ghost use Rattle.std.specs.Prelude.{◌≡◌, ◌++◌, [], ◌∷◌, if◌then◌else◌, is_ok, IfErr, IfOk};
-ghost use Rattle.sc_base.specs.Outside.{IsLaterSource};
-ghost use Rattle.sc_read.specs.Reads.{script_read};
-ghost use Rattle.sc_app.specs.Scripts.{HasReadScript, StopsAtScript};
+ghost use Rattle.std.specs.Prelude.{◌≡◌, ◌≤◌, []};
+ghost use Rattle.sc_base.specs.Outside.{IsLaterSource, outside_of};
+ghost use Rattle.sc_app.specs.Ends.{IsRunOf};
 
 use crate::ran::Status;
+use crate::stops::{status_of_input, status_of_print, status_of_script};
 use sc_input::Source;
-use sc_lineage::Script;
-use sc_read::{Read, Role, read_file};
-use sc_script::parse;
-use sc_value::{Name, Octets};
-use std::alloc::{AllocError, Global};
+use sc_print::print_work;
+use sc_read::{Read, read_script, read_work};
+use sc_sink::Sink;
+use sc_value::Name;
+use std::alloc::Global;
 
-/// Reads the script of this name, keeps what was read, and parses it.
-pub fn read_script<S: Source>(
+/// Reads the script of this name and its inputs, and prints its actions.
+pub(crate) fn run_script<S: Source, K: Sink>(
     alloc: Global,
+    name: Name,
     source: &mut S,
-    word: &str,
-    read: &mut Vec<Read>,
-) -> Result<Script, Status>
-    requires { read.old.items ≡ [] }
+    sink: &mut K,
+    reads: &mut Vec<Read>,
+) -> Status
+    requires { reads.old.items ≡ [] }
     ensures later { IsLaterSource (S.state source.old) (S.state source.new) }
-    ensures script { IfOk result
-        (λ s. HasReadScript (S.state source.old).shown word.now read.new.items s) }
-    ensures stop { IfErr result
-        (StopsAtScript (S.state source.old) (S.state source.new) word.now read.new.items) }
+    ensures sink_later { (K.state sink.old).faults ≤ (K.state sink.new).faults }
+    ensures run { IsRunOf name reads.new.items
+        (outside_of (S.state source.old) (K.state sink.old))
+        (outside_of (S.state source.new) (K.state sink.new)) result }
 {
-    let name = Name::new(alloc, word)?;
-    let bytes = read_file(alloc, source, &name)?;
-    keep(&bytes, read)?;
-    let script = parse(alloc, bytes.as_slice())?;
-    Ok(script)
-}
-
-/// Keeps the bytes as the script's.
-fn keep(bytes: &Octets, read: &mut Vec<Read>) -> Result<(), AllocError>
-    ensures { read.new.items ≡ (if is_ok result then read.old.items ++ script_read bytes.now ∷ []
-        else read.old.items) }
-{
-    let bytes = bytes.share()?;
-    read.push(Read {
-        role: Role::Script,
-        bytes,
-    })?;
-    Ok(())
+    let script = match read_script(alloc, source, &name, reads) {
+        Ok(script) => script,
+        Err(stop) => return status_of_script(name, stop),
+    };
+    let work = match read_work(alloc, source, script, reads) {
+        Ok(work) => work,
+        Err(stop) => return status_of_input(stop),
+    };
+    work.is_sound();
+    match print_work(alloc, &work, sink) {
+        Ok(()) => Status::Done,
+        Err(stop) => status_of_print(stop),
+    }
 }

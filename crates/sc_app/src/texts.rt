@@ -3,9 +3,11 @@
 
 ghost use Rattle.std.specs.Prelude.{◌≡◌, IfOk};
 ghost use Rattle.std.specs.String.{string_bytes};
-ghost use Rattle.sc_app.specs.FaultTexts.{fault_text as text_of, kind_text, missing_text};
+ghost use Rattle.sc_app.specs.FaultTexts.{cause_text, fault_text as text_of, kind_text, missing_text, raise_text};
 
 use crate::ran::Status;
+use sc_expr::Raise;
+use sc_lineage::DriverFault;
 use sc_script::{FaultKind, ScriptFault};
 use sc_value::Name;
 use std::alloc::{AllocError, Global};
@@ -24,6 +26,7 @@ pub fn fault_text(alloc: Global, status: &Status) -> Result<String, AllocError>
             stage_attempt,
             partition,
         } => limit_text(alloc, *stage, *stage_attempt, *partition),
+        Status::DriverFault { action, kind } => driver_text(alloc, *action, *kind),
         Status::WriteFault => String::from_str(alloc, "write failed"),
         Status::OutOfMemory => String::from_str(alloc, "out of memory"),
         Status::NotText { name } => {
@@ -52,16 +55,40 @@ fn input_text(alloc: Global, name: &Name, missing: bool) -> Result<String, Alloc
 }
 
 /// The text of an action with no value.
-fn limit_text(
-    alloc: Global,
-    stage: usize,
-    attempt: u32,
-    partition: u32,
-) -> Result<String, AllocError>
+fn limit_text(alloc: Global, stage: u32, attempt: u32, partition: u32) -> Result<String, AllocError>
     ensures { IfOk result (λ t. string_bytes t
         ≡ text_of (Status.TaskLimit stage attempt partition)) }
 {
     format!(in alloc; "task limit: stage {stage} attempt {attempt} partition {partition}")
+}
+
+/// The text of an action whose results have no value together.
+fn driver_text(alloc: Global, action: u32, kind: DriverFault) -> Result<String, AllocError>
+    ensures { IfOk result (λ t. string_bytes t ≡ text_of (Status.DriverFault action kind)) }
+{
+    let cause = name_of_cause(kind);
+    format!(in alloc; "driver: action {action}: {cause}")
+}
+
+/// The name of the cause of a driver's fault.
+fn name_of_cause(kind: DriverFault) -> &'static str
+    ensures { result.now ≡ cause_text kind }
+{
+    match kind {
+        DriverFault::EmptyCollection => "EmptyCollection",
+        DriverFault::Raised(raise) => name_of_raise(raise),
+    }
+}
+
+/// The name of a raise.
+fn name_of_raise(raise: Raise) -> &'static str
+    ensures { result.now ≡ raise_text raise }
+{
+    match raise {
+        Raise::DivideByZero => "DivideByZero",
+        Raise::NotANumber => "NotANumber",
+        Raise::OutOfRange => "OutOfRange",
+    }
 }
 
 /// The name of a kind of fault.

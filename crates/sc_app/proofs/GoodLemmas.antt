@@ -1,0 +1,54 @@
+-- With nothing to refuse a run ends well.
+use Rattle.std.proofs.Common.{◌≡◌, ◌∙◌, ℕ, List, [], ◌∷◌, ◌++◌, length, subst, sym, ap, Option, Some, None, inl, inr, true, false}
+use Rattle.std.specs.Prelude.{◌⊎◌, Contains, slice_get}
+use Rattle.std.proofs.lemmas.Option.{slice_get_within, get_or_from_slice_get}
+use Rattle.sc_base.specs.Counts.{Rose}
+use Rattle.sc_base.specs.Lists.{content_of}
+use Rattle.sc_base.specs.Outside.{Files}
+use Rattle.sc_lineage.specs.ScriptData.{input_names}
+use Rattle.sc_read.specs.Reads.{IsMissing}
+use Rattle.sc_app.specs.declared.ran.Status.{Status}
+use Rattle.sc_app.specs.declared.ran.Status.TheVariants as statuses
+use Rattle.sc_app.specs.Ends.{Ends}
+use Rattle.sc_app.specs.Good.{AreAllThere, EndsWell, IsGood}
+use Rattle.sc_app.specs.Runs.{RunData, IsNextName}
+use Rattle.sc_app.proofs.ReadingLemmas.{AreTexts-last}
+
+-- a name that is next isn't missing where all names are there
+there : (run : RunData) (name : List ℕ) → AreAllThere run → IsNextName run name
+    → IsMissing run.before.source.shown name → ⊥
+there run name all (inl next) missing =
+    let gone : content_of all.files name ≡ None =
+    subst (λ shown. IsMissing shown name) all.shown missing in
+    all.script next.1.0 next.1.1 (ap (content_of all.files) next.1.2 ∙ gone)
+there run name all (inr next) missing =
+    let gone : content_of all.files name ≡ None =
+    subst (λ shown. IsMissing shown name) all.shown missing in
+    let names = input_names next.0 in
+    let at = length next.1 in
+    all.inputs (record { script = next.2.bytes; inputs = next.1 }) next.0 name next.2.is
+    next.2.is_script (
+      at,
+      slice_get_within names at name next.3.next,
+      get_or_from_slice_get names at name name next.3.next,
+    ) gone
+
+pub ends_well : (run : RunData) (status : Status) → Ends run status → IsGood run → EndsWell status
+ends_well run statuses.Done ends good = tt
+ends_well run statuses.Usage ends good = good.command ends.no_command
+ends_well run (statuses.Script fault) ends good =
+    good.script (record { script = ends.bytes; inputs = [] }) fault ends.is ends.faults
+ends_well run (statuses.Input name true) ends good = by_there good.there
+  where
+    by_there : (Rose run.before.source.misses run.after.source.misses → ⊥) ⊎ AreAllThere run → ⊥
+    by_there (inl no_miss) = no_miss ends.cause.0
+    by_there (inr all) = there run name all ends.is_next ends.cause.2
+ends_well run (statuses.Input name false) ends good = good.no_fault ends.cause.0
+ends_well run (statuses.TaskLimit k a p) ends good = tt
+ends_well run (statuses.DriverFault k fault) ends good = tt
+ends_well run statuses.WriteFault ends good = good.no_write_fault ends.stops.rose
+ends_well run statuses.OutOfMemory ends good = tt
+ends_well run (statuses.NotText name) ends good =
+    ends.no_text (AreTexts-last ends.inputs name ends.bytes
+    (good.texts (record { script = ends.read.bytes; inputs = ends.inputs ++ (name, ends.bytes) ∷ [] })
+    ends.read.is))

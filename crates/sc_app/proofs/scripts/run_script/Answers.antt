@@ -1,0 +1,53 @@
+use Rattle.std.proofs.Common.{◌≡◌, List, [], Err, Ok, subst}
+use Rattle.sc_read.specs.declared.reads.Read.{Read}
+use Rattle.sc_read.specs.Scripts.{TakesAsScript}
+use Rattle.sc_app.proofs.RunLemmas.{inputs-stop, printing-stops, run-done, script-stops}
+use Rattle.sc_app.proofs.scripts.run_script.Goals as goal
+
+pub returns-in-Err-clause-run : goal.returns-in-Err-clause-run
+returns-in-Err-clause-run g c =
+    let before = g.S.Source.state c.args.source.now in
+    let after = g.S.Source.state c.read_script.new.source in
+    let taken = subst (λ (rs : List Read). TakesAsScript before after c.args.name rs
+    c.read_script.new.reads.items (Err c.in-Err.stop)) c.requires c.in-Err.ensures.script in
+    rw c.status_of_script.ensures (λ words is. script-stops words c.args.name is before after
+    (g.K.Sink.state c.args.sink.now) c.read_script.new.reads.items c.in-Err.stop taken)
+
+pub returns-in-Err-read_work-clause-run : goal.returns-in-Err-read_work-clause-run
+returns-in-Err-read_work-clause-run g c =
+    let start = g.S.Source.state c.args.source.now in
+    let before = g.S.Source.state c.read_script.new.source in
+    let after = g.S.Source.state c.read_work.new.source in
+    let taken = subst (λ (rs : List Read). TakesAsScript start before c.args.name rs
+    c.read_script.new.reads.items (Ok c.in-Ok.script)) c.requires c.in-Ok.ensures.script in
+    rw c.status_of_input.ensures (λ words is. inputs-stop words c.args.name is start before
+    c.in-Ok.ensures.later c.read_script.new.reads.items taken.0 taken.1 c.in-Ok.script taken.2
+    after (g.K.Sink.state c.args.sink.now) c.read_work.new.reads.items c.in-Err-read_work.stop
+    c.in-Err-read_work.ensures.work)
+
+pub returns-in-Ok-print_work-clause-run : goal.returns-in-Ok-print_work-clause-run
+returns-in-Ok-print_work-clause-run g c =
+    let start = g.S.Source.state c.args.source.now in
+    let before = g.S.Source.state c.read_script.new.source in
+    let after = g.S.Source.state c.read_work.new.source in
+    let taken = subst (λ (rs : List Read). TakesAsScript start before c.args.name rs
+    c.read_script.new.reads.items (Ok c.in-Ok.script)) c.requires c.in-Ok.ensures.script in
+    λ words is. run-done words c.args.name is start before c.in-Ok.ensures.later
+    c.read_script.new.reads.items taken.0 taken.1 c.in-Ok.script taken.2 after
+    c.read_work.new.reads.items c.in-Ok-read_work.work c.in-Ok-read_work.ensures.work.0
+    c.in-Ok-read_work.ensures.work.1 c.is_sound.ensures (g.K.Sink.state c.args.sink.now)
+    (g.K.Sink.state c.print_work.new.sink) c.in-Ok-print_work.ensures.prints
+
+pub returns-clause-run : goal.returns-clause-run
+returns-clause-run g c =
+    let start = g.S.Source.state c.args.source.now in
+    let before = g.S.Source.state c.read_script.new.source in
+    let after = g.S.Source.state c.read_work.new.source in
+    let taken = subst (λ (rs : List Read). TakesAsScript start before c.args.name rs
+    c.read_script.new.reads.items (Ok c.in-Ok.script)) c.requires c.in-Ok.ensures.script in
+    rw c.status_of_print.ensures (λ words is. printing-stops words c.args.name is start before
+    c.in-Ok.ensures.later c.read_script.new.reads.items taken.0 taken.1 c.in-Ok.script taken.2 after
+    c.read_work.new.reads.items c.in-Ok-read_work.work c.in-Ok-read_work.ensures.work.0
+    c.in-Ok-read_work.ensures.work.1 c.is_sound.ensures (g.K.Sink.state c.args.sink.now)
+    (g.K.Sink.state c.print_work.new.sink) c.in-Err-print_work.stop
+    c.in-Err-print_work.ensures.prints)
