@@ -3,210 +3,240 @@
 //! Nothing is written for such a script, and no input is read.
 #![tactic(auto)]
 
-use crate::claims::{assert_refused, assert_refused_bytes};
-use sc_script::FaultKind::{IllTyped, Limit, NotText, Syntax, Twice, UnknownName};
-use sc_script::ScriptFault;
-use std::alloc::AllocError;
+use crate::claims::{assert_cases, assert_refused, assert_seen, joined};
+use crate::given::{Row, SCRIPT};
+use std::test::Fail;
 
-// A line is a definition or an action; its words, and then its arguments, are those of the tables.
+const TABLE: &str = r#"====
+m = map l x
+----
+script: line 1: UnknownName
+====
+l = sample 3
+----
+script: line 1: UnknownName
+====
+l = text "in.txt" 0
+----
+script: line 1: Limit
+====
+l = parallelize 1 9223372036854775808
+----
+script: line 1: Limit
+====
+l = parallelize 1 "a
+----
+script: line 1: Syntax
+====
+l = parallelize 1
+----
+script: line 1: Syntax
+====
+l = parallelize 1 1
+l = cache l
+----
+script: line 2: Twice
+====
+l = parallelize 1 1
+
+m = map l (concat x "a")
+----
+script: line 3: IllTyped
+====
+l = parallelize 1 1
+m = map l (+ a 1)
+----
+script: line 2: UnknownName
+====
+"#;
+
 #[test]
-fn lines_of_another_form(rt: HostRuntime) -> Result<(), AllocError> {
-    let cases = [
-        ("l = text \"a", 1, Syntax),
-        ("l =", 1, Syntax),
-        ("=", 1, Syntax),
-        ("l = 3", 1, Syntax),
-        ("\"l\" = text \"in.txt\" 1", 1, Syntax),
-        ("l=text \"in.txt\" 1", 1, Syntax),
-        ("l =text \"in.txt\" 1", 1, Syntax),
-        ("l = text \"in.txt\"1", 1, Syntax),
-        ("l = text \"in.txt\" 1x", 1, Syntax),
-        ("l = text \"in.txt\" +1", 1, Syntax),
-        ("l = text \"in\\x.txt\" 1", 1, Syntax),
-        ("l = text \"in.txt\" 1 # two", 1, Syntax),
-        (
-            "l = text \"in.txt\" 1\nm = map l (concat x \"a\"",
-            2,
-            Syntax,
-        ),
-        (
-            "l = text \"in.txt\" 1\nm = map l concat x \"a\")",
-            2,
-            Syntax,
-        ),
-        ("l = text \"in.txt\" 1\nm = map l ()", 2, Syntax),
-        ("l = text \"in.txt\" 1\nm = map l (\"a\" x)", 2, Syntax),
-    ];
-    for (script, line, kind) in cases {
-        assert_refused(&rt, script, line, kind)?;
-    }
-    Ok(())
+fn script_fault_table(rt: HostRuntime) -> Result<(), Fail> {
+    assert_cases(&rt, "b\n", TABLE)
 }
 
-#[test]
-fn words_of_no_table(rt: HostRuntime) -> Result<(), AllocError> {
-    let cases = [
-        ("l", 1, UnknownName),
-        ("l = sample 3", 1, UnknownName),
-        ("l = collect m", 1, UnknownName),
-        ("text \"in.txt\" 1", 1, UnknownName),
-        ("Collect l", 1, UnknownName),
-        ("l = text (foo) 2", 1, UnknownName),
-        ("l = text \"in.txt\" 2\nw = fla", 2, UnknownName),
-        ("l = text \"in.txt\" 1\nm = map l (+ a 1)", 2, UnknownName),
-        (
-            "l = text \"in.txt\" 1\nm = map l (concat x (Concat x x))",
-            2,
-            UnknownName,
-        ),
-    ];
-    for (script, line, kind) in cases {
-        assert_refused(&rt, script, line, kind)?;
-    }
-    Ok(())
-}
+const FIRST: &str = r#"====
+collect l
+l = parallelize 1 1
+----
+script: line 1: UnknownName
+====
+l = text "in.txt" 1
+collect l
+l = text "in.txt" 1
+collect q
+----
+script: line 3: Twice
+====
+"#;
 
 #[test]
-fn arguments_of_another_number_or_shape(rt: HostRuntime) -> Result<(), AllocError> {
-    let cases = [
-        ("l = text", 1, Syntax),
-        ("l = text \"in.txt\"", 1, Syntax),
-        ("l = text \"in.txt\" 1 2", 1, Syntax),
-        ("l = text 1 \"in.txt\"", 1, Syntax),
-        ("l = text in.txt 1", 1, Syntax),
-        ("l = text \"in.txt\" x", 1, Syntax),
-        ("l = text \"in.txt\" (concat x x)", 1, Syntax),
-        ("l = text \"\" 1", 1, Syntax),
-        ("l = text \"in\0.txt\" 1", 1, Syntax),
-        ("collect", 1, Syntax),
-        ("collect \"l\"", 1, Syntax),
-        ("collect l l", 1, Syntax),
-        ("m = map l", 1, Syntax),
-        ("m = map \"l\" x", 1, Syntax),
-        ("m = map l x x", 1, Syntax),
-        ("m = map l (concat x)", 1, Syntax),
-        ("m = map l (concat x x x)", 1, Syntax),
-        ("m = map l (concat)", 1, Syntax),
-    ];
-    for (script, line, kind) in cases {
-        assert_refused(&rt, script, line, kind)?;
-    }
-    Ok(())
+fn the_first_line_with_a_fault_is_told(rt: HostRuntime) -> Result<(), Fail> {
+    assert_cases(&rt, "b\n", FIRST)
 }
 
-#[test]
-fn names_that_are_not_known_or_known_already(rt: HostRuntime) -> Result<(), AllocError> {
-    let cases = [
-        ("m = map l x", 1, UnknownName),
-        ("collect l", 1, UnknownName),
-        ("m = map m x", 1, UnknownName),
-        ("l = text \"in.txt\" 1\nm = map L x", 2, UnknownName),
-        ("l = text \"in.txt\" 1\nm = map l a", 2, UnknownName),
-        ("l = text \"in.txt\" 1\nm = map l l", 2, UnknownName),
-        ("l = text \"in.txt\" 1\nm = map l true", 2, UnknownName),
-        (
-            "l = text \"in.txt\" 1\nm = map l (concat x b)",
-            2,
-            UnknownName,
-        ),
-        ("l = text \"in.txt\" 1\nl = map l x", 2, Twice),
-        ("l = text \"in.txt\" 1\nl = text \"in.txt\" 1", 2, Twice),
-    ];
-    for (script, line, kind) in cases {
-        assert_refused(&rt, script, line, kind)?;
-    }
-    Ok(())
-}
+const FORMS: &str = r#"
+m =
+=
+= map l x
+m = 3
+m = (map l x)
+"m" = map l x
+3 = map l x
+m m = map l x
+m=map l x
+m =map l x
+m = = map l x
+m == map l x
+m = map l x = y
+m = map l (= x 1)
+m = map l (> x 1)
+m = map l (>= x 1)
+m = map l (!= x 1)
+m = map l (=== x 1)
+m = map l (- -x)
+m = map l -
+m = map l +1
+m = map l (+ x +1)
+m = map l 1x
+m = map l x1y-
+m = map l 1.5
+m = map l é
+m = map l 'a'
+m = map l "a""b"
+m = map l "a"x
+m = map l "a
+m = map l "a\"
+m = map l "\x"
+m = map l "\u0041"
+m = map l "\
+m = map l ()
+m = map l (1 x)
+m = map l ("a" x)
+m = map l ((+ x 1))
+m = map l (+ x 1
+m = map l (+ x 1))
+m = map l )
+m = map l + x 1
+m = map l x # each
+m = map l x;
+collect l,
+(collect l)
+3
+"collect" l
+"#;
 
 #[test]
-fn expressions_without_a_type(rt: HostRuntime) -> Result<(), AllocError> {
-    let cases = [
-        (
-            "l = text \"in.txt\" 1\n\nm = map l (concat x 1)",
-            3,
-            IllTyped,
-        ),
-        ("l = text \"in.txt\" 1\nm = map l (concat 1 x)", 2, IllTyped),
-        (
-            "l = text \"in.txt\" 1\nm = map l (concat x (concat x 1))",
-            2,
-            IllTyped,
-        ),
-        (
-            "l = text \"in.txt\" 1\nn = map l 3\nm = map n (concat x x)",
-            3,
-            IllTyped,
-        ),
-    ];
-    for (script, line, kind) in cases {
-        assert_refused(&rt, script, line, kind)?;
-    }
-    Ok(())
+fn a_line_of_no_form_is_refused(rt: HostRuntime) -> Result<(), Fail> {
+    assert_refused(&rt, "l = parallelize 1 1\n", FORMS, "Syntax")?;
+    let lines = "\u{A0}\n\u{B}\n\u{FEFF}m = map l x\nm = map l \u{A0}x\nm = map l \u{3000}x";
+    assert_refused(&rt, "l = parallelize 1 1\n", lines, "Syntax")
 }
 
-// Of the tests that a line fails, the first names the fault: limits of tokens, the form, words of
-// the tables, the arguments, limits of numbers, the name, the names that it uses, the type.
+/// A node of 513 partitions, and one whose rows have a type of 255 constructors.
+const GIVEN: &str = r#"l = parallelize 513 1
+a = map l (pair (== x 1) "t")
+b = map a (pair x x)
+c = map b (pair x x)
+d = map c (pair x x)
+e = map d (pair x x)
+f = map e (pair x x)
+g = map f (pair x x)
+"#;
+
+const LIMIT_FIRST: &str = r#"
+m = sample 9223372036854775808 (
+m = map q (foo -9223372036854775809
+m = parallelize 0 99999999999999999999 "a
+l = text "in.txt" 0
+l = union l l
+m = coalesce q 0
+m = coalesce q 1025
+m = coalesce l 0
+"#;
+
+const SYNTAX_FIRST: &str = r#"
+m = sample (
+m = foo l (bar x
+m = text "" 0
+l = parallelize 0
+m = coalesce q 0 0
+l = map q
+m = map q (not)
+m = map l (+ a)
+reduce q
+"#;
+
+const UNKNOWN_FIRST: &str = r#"
+m = sample "" 0
+m = map l (foo 1) 0
+m = map (foo) (+)
+l = sample
+m = map l (+ (foo))
+m = map q (concat x 1)
+m = map l (+ a "a")
+m = map g (pair x a)
+m = union q a
+reduce l (foo a)
+reduce l (text x)
+"#;
+
+const TWICE_FIRST: &str = r#"
+l = map q x
+l = map l y
+l = map l (concat x 1)
+g = map g (pair x x)
+l = union q a
+l = coalesce q 1
+l = cache q
+"#;
+
+const ILL_TYPED_FIRST: &str = r#"
+m = map g (pair x (not x))
+m = map g (pair (pair x x) (+ x 1))
+m = flatMap g (pair x x)
+m = mapValues l (pair x x)
+"#;
+
+// Limits of tokens, the form, words of the tables, the arguments, limits of numbers, the name, the
+// names that the line uses, the type and its size.
 #[test]
-fn the_first_test_that_fails_names_the_fault(rt: HostRuntime) -> Result<(), AllocError> {
-    let cases = [
-        ("l = sample 9223372036854775808 (", 1, Limit),
-        ("l = sample (", 1, Syntax),
-        ("l = sample \"\" 0", 1, UnknownName),
-        ("m = map l (foo 1) 0", 1, UnknownName),
-        ("l = text \"\" 0", 1, Syntax),
-        ("l = text \"in.txt\" 1\nl = text \"in.txt\" 0", 2, Limit),
-        ("l = text \"in.txt\" 1\nl = map q x", 2, Twice),
-        ("l = text \"in.txt\" 1\nl = map l (concat x 1)", 2, Twice),
-        (
-            "l = text \"in.txt\" 1\nm = map q (concat x 1)",
-            2,
-            UnknownName,
-        ),
-        (
-            "l = text \"in.txt\" 1\nm = map l (concat a 1)",
-            2,
-            UnknownName,
-        ),
-        (
-            "l = text \"in.txt\" 1\nm = map l (concat x 1)\nk = sample",
-            2,
-            IllTyped,
-        ),
-    ];
-    for (script, line, kind) in cases {
-        assert_refused(&rt, script, line, kind)?;
-    }
-    Ok(())
+fn the_first_of_nine_tests_that_fails_names_the_fault(rt: HostRuntime) -> Result<(), Fail> {
+    assert_refused(&rt, GIVEN, LIMIT_FIRST, "Limit")?;
+    assert_refused(&rt, GIVEN, SYNTAX_FIRST, "Syntax")?;
+    assert_refused(&rt, GIVEN, UNKNOWN_FIRST, "UnknownName")?;
+    assert_refused(&rt, GIVEN, TWICE_FIRST, "Twice")?;
+    assert_refused(&rt, GIVEN, ILL_TYPED_FIRST, "IllTyped")
 }
 
 // Lines that are skipped count, whatever their ends.
 #[test]
-fn the_line_of_a_fault_is_counted_from_one(rt: HostRuntime) -> Result<(), AllocError> {
+fn the_line_of_a_fault_is_counted_from_one(rt: HostRuntime) -> Result<(), Fail> {
     let cases = [
-        ("\n  # of nothing\n\t \nl = sample 3\n", 4, UnknownName),
-        ("#\r\n#\rl = sample 3", 3, UnknownName),
-        ("\r\r\n\nl = sample 3\r\n", 4, UnknownName),
-        (
-            "l = text \"in.txt\" 1\rm = map l x\r\ncollect q\n",
-            3,
-            UnknownName,
-        ),
+        ("\n  # of nothing\n\t \nl = sample 3\n", "4"),
+        ("#\r\n#\rl = sample 3", "3"),
+        ("\r\r\n\nl = sample 3\r\n", "4"),
+        ("l = text \"in.txt\" 1\rm = map l x\r\ncollect q\n", "3"),
     ];
-    for (script, line, kind) in cases {
-        assert_refused(&rt, script, line, kind)?;
+    for (script, line) in cases {
+        let want = joined(rt.alloc(), &["script: line ", line, ": UnknownName\n"])?;
+        assert_seen(&rt, script, "b\n", want.as_str())?;
     }
     Ok(())
 }
 
 #[test]
-fn bytes_that_are_no_text_are_refused_as_a_whole(rt: HostRuntime) -> Result<(), AllocError> {
-    let cases: [&[u8]; 3] = [b"\xFF", b"# \xC3\n", b"l = sample 3\n\xFF\n"];
+fn bytes_that_are_no_text_are_refused_as_a_whole(rt: HostRuntime) -> Result<(), Fail> {
+    let cases: [&[u8]; 4] = [
+        b"\xFF",
+        b"# \xC3\n",
+        b"l = sample 3\n\xFF\n",
+        b"\xED\xA0\x80",
+    ];
     for script in cases {
-        let fault = ScriptFault {
-            line: 0,
-            kind: NotText,
-        };
-        assert_refused_bytes(&rt, script, fault)?;
+        let seen = Row::of_bytes(rt.alloc(), script)?.run(&rt);
+        assert_eq!(rt; seen.all()?.as_str(), "script: line 0: NotText\n");
+        assert_eq!(rt; seen.asked()?.as_str(), SCRIPT);
     }
     Ok(())
 }

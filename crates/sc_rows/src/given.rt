@@ -1,11 +1,8 @@
 //! A run to be, and what was seen of it.
 #![tactic(auto)]
 
-ghost use Rattle.std.specs.Prelude.{◌≡◌};
-
 use sc_app::{Ran, Status, fault_text, run};
-use sc_input::{MemSource, ReadAnswer, Source};
-use sc_script::ScriptFault;
+use sc_input::MemSource;
 use sc_sink::MemSink;
 use sc_value::{Name, Octets};
 use std::alloc::{AllocError, Global};
@@ -19,7 +16,7 @@ pub const SCRIPT: &str = "job.spark";
 pub struct Row {
     alloc: Global,
     words: Vec<String>,
-    source: AskedSource,
+    source: MemSource,
     sink: MemSink,
 }
 
@@ -43,7 +40,7 @@ impl Row {
         Ok(Row {
             alloc,
             words: strings,
-            source: AskedSource::new(alloc),
+            source: MemSource::new(alloc),
             sink: MemSink::new(alloc),
         })
     }
@@ -57,13 +54,13 @@ impl Row {
     pub fn file_of_bytes(mut self, name: &str, bytes: &[u8]) -> Result<Row, AllocError> {
         let name = Name::new(self.alloc, name)?;
         let bytes = Octets::copy_of(self.alloc, bytes)?;
-        self.source.files.add(name, bytes)?;
+        self.source.add(name, bytes)?;
         Ok(self)
     }
 
     /// Makes a read fail; the first of all, that of the script, has the number 1.
     pub fn failing_read(mut self, call: u64) -> Result<Row, AllocError> {
-        self.source.files.fail_at(call)?;
+        self.source.fail_at(call)?;
         Ok(self)
     }
 
@@ -96,7 +93,7 @@ impl Row {
 pub struct Seen {
     alloc: Global,
     ran: Ran,
-    source: AskedSource,
+    source: MemSource,
     sink: MemSink,
 }
 
@@ -104,6 +101,11 @@ impl Seen {
     /// What was written.
     pub fn text(&self) -> &str {
         str::from_utf8(self.sink.bytes()).unwrap_or("(no text)")
+    }
+
+    /// How many pieces it was written in.
+    pub fn writes(&self) -> Result<usize, AllocError> {
+        Ok(self.sink.pieces(self.alloc)?.len())
     }
 
     /// The number of how the run ended.
@@ -116,60 +118,36 @@ impl Seen {
         fault_text(self.alloc, &self.ran.status)
     }
 
-    /// The fault of the script, where the run ended for it.
-    pub fn fault(&self) -> Option<ScriptFault> {
-        match self.ran.status {
-            Status::Script(fault) => Some(fault),
-            _ => None,
+    /// What was written, and on a last line what is told, if anything is.
+    pub fn all(&self) -> Result<String, AllocError> {
+        let mut all = String::from_str(self.alloc, self.text())?;
+        let told = self.told()?;
+        if !told.is_empty() {
+            all.push_str(told.as_str())?;
+            all.push('\n')?;
         }
+        Ok(all)
+    }
+
+    /// Whether the run ended for a fault of its script.
+    pub fn is_refused(&self) -> bool {
+        matches!(&self.ran.status, Status::Script(_))
     }
 
     /// The names that the source was asked for, in order, with a space between them.
-    pub fn asked(&self) -> &str {
-        self.source.asked.as_str()
+    pub fn asked(&self) -> Result<String, AllocError> {
+        let mut asked = String::new(self.alloc);
+        for name in self.source.asked() {
+            if !asked.is_empty() {
+                asked.push(' ')?;
+            }
+            asked.push_str(name.as_str())?;
+        }
+        Ok(asked)
     }
 
     /// How many files the run says that it read.
     pub fn reads(&self) -> usize {
         self.ran.read.len()
-    }
-}
-
-/// Files in memory that keep the names of what was asked for.
-#[derive(Drop)]
-struct AskedSource {
-    files: MemSource,
-    asked: String,
-}
-
-impl AskedSource {
-    fn new(alloc: Global) -> AskedSource {
-        AskedSource {
-            files: MemSource::new(alloc),
-            asked: String::new(alloc),
-        }
-    }
-
-    /// Keeps a name behind the others.
-    fn keep(&mut self, name: &Name) -> Result<(), AllocError>
-        ensures { self.new.files ≡ self.old.files }
-    {
-        if !self.asked.is_empty() {
-            self.asked.push(' ')?;
-        }
-        self.asked.push_str(name.as_str())
-    }
-}
-
-impl Source for AskedSource {
-    ghost use Rattle.sc_input.specs.Memory.{shown_files};
-
-    ghost state = { λ s. shown_files s.files };
-
-    fn read(&mut self, name: &Name) -> ReadAnswer {
-        if self.keep(name).is_err() {
-            return ReadAnswer::OutOfMemory;
-        }
-        self.files.read(name)
     }
 }

@@ -1,9 +1,11 @@
-//! Bytes, lines, texts and rows as they are held and shared.
+//! Bytes, names, lines and texts as they are held and shared.
 #![tactic(auto)]
 
+use sc_base::OrMemory;
 use sc_input::slice;
 use sc_value::{
-    LinesError, Name, Octets, Rows, RowsBuilder, Text, Texts, TextsBuilder, Value, lines, print,
+    Held, Name, NotText, NumberFault, Octets, Texts, TextsBuilder, cut_in, kept_items, lines,
+    nth_word, parse_int, word_count, words_in,
 };
 use std::alloc::{AllocError, Global};
 use std::process::Abort;
@@ -30,20 +32,14 @@ fn assert_listed<R: Abort + AllocGlobal>(
     Ok(())
 }
 
-/// The rows as they are printed, each with a `|` behind it.
-fn listed_rows(alloc: Global, rows: &Rows) -> Result<String, AllocError> {
-    let mut out = String::new(alloc);
-    for i in 0..rows.len() {
-        let row = rows.row(alloc, i)?;
-        out.push_str(print(alloc, &row)?.as_str())?;
-        out.push('|')?;
-    }
-    Ok(out)
+/// The lines of a text.
+fn lines_of(alloc: Global, text: &str) -> Result<Texts, Fail> {
+    let bytes = Octets::copy_of(alloc, text.as_bytes())?;
+    Ok(lines(alloc, &bytes).ok().ok_or("no lines")?)
 }
 
 #[test]
 fn lines_end_at_each_line_end(rt: HostRuntime) -> Result<(), Fail> {
-    let alloc = rt.alloc();
     let cases = [
         ("", ""),
         ("a", "a|"),
@@ -51,12 +47,14 @@ fn lines_end_at_each_line_end(rt: HostRuntime) -> Result<(), Fail> {
         ("a\r\nb\rc", "a|b|c|"),
         ("\n\r\n\r", "|||"),
         ("a\n\rb", "a||b|"),
+        (
+            "a\u{0B}b\u{0C}c\u{85}d\u{2028}e",
+            "a\u{0B}b\u{0C}c\u{85}d\u{2028}e|",
+        ),
         ("é\n🦀", "é|🦀|"),
     ];
-    for (bytes, want) in cases {
-        let bytes = Octets::copy_of(alloc, bytes.as_bytes())?;
-        let texts = lines(alloc, &bytes)?;
-        assert_listed(&rt, &texts, want)?;
+    for (text, want) in cases {
+        assert_listed(&rt, &lines_of(rt.alloc(), text)?, want)?;
     }
     Ok(())
 }
@@ -65,7 +63,7 @@ fn lines_end_at_each_line_end(rt: HostRuntime) -> Result<(), Fail> {
 fn bytes_that_are_no_text_have_no_lines(rt: HostRuntime) -> Result<(), Fail> {
     let bytes = Octets::copy_of(rt.alloc(), b"a\n\xFF\n")?;
     let refused = lines(rt.alloc(), &bytes);
-    assert!(rt; matches!(&refused, Err(LinesError::NotText)));
+    assert!(rt; matches!(&refused, Err(OrMemory::Fault(NotText))));
     Ok(())
 }
 
@@ -78,6 +76,9 @@ fn slices_are_even(rt: HostRuntime) -> Result<(), Fail> {
     for (i, want) in [(0, 0), (0, 0), (0, 0), (0, 1)].iter().enumerate() {
         assert_eq!(rt; slice(1, 4, i as u64), *want, "slice {i} of 4");
     }
+    let all = u64::MAX;
+    assert_eq!(rt; slice(all, all, all - 1), (all - 1, all));
+    assert_eq!(rt; slice(all, 2, 0), (0, all / 2));
     Ok(())
 }
 
@@ -103,68 +104,108 @@ fn a_copied_name_is_the_same_name(rt: HostRuntime) -> Result<(), Fail> {
     Ok(())
 }
 
-/// The texts `b a`, an empty one and `c`, the first in two pieces; what is left open isn't one.
-fn written(alloc: Global) -> Result<Texts, AllocError> {
+/// The texts `b a`, an empty one, `c` and two more, the first in two pieces; what is left open
+/// isn't one.
+fn written(alloc: Global) -> Result<Texts, Fail> {
     let mut builder = TextsBuilder::with_capacity(alloc, 3, 8)?;
     builder.write("b ")?;
     builder.push("a")?;
     builder.end()?;
     builder.push("c")?;
+    let more = lines_of(alloc, "d e,\n,")?;
+    for i in 0..more.len() {
+        builder.push(more.get(i))?;
+    }
     builder.write("left open")?;
+    Ok(builder.finish(alloc)?)
+}
+
+/// The texts from one place up to another, of those that are there.
+fn part_of(texts: &Texts, from: usize, to: usize) -> Result<Texts, Fail> {
+    if from <= to && to <= texts.len() {
+        Ok(texts.part(from, to)?)
+    } else {
+        Err(Fail::from("no such part"))
+    }
+}
+
+/// The same texts, in bytes of their own.
+fn copied(alloc: Global, texts: &Texts) -> Result<Texts, AllocError> {
+    let mut builder = TextsBuilder::new(alloc);
+    builder.append(texts)?;
     builder.finish(alloc)
 }
 
 #[test]
-fn texts_are_written_piece_by_piece(rt: HostRuntime) -> Result<(), AllocError> {
+fn texts_are_written_piece_by_piece(rt: HostRuntime) -> Result<(), Fail> {
     let texts = written(rt.alloc())?;
-    assert_listed(&rt, &texts, "b a||c|")?;
-    assert_listed(&rt, &texts.share()?, "b a||c|")?;
-    let none = TextsBuilder::new(rt.alloc()).finish(rt.alloc())?;
-    assert_listed(&rt, &none, "")
-}
-
-#[test]
-fn texts_are_shared_in_part(rt: HostRuntime) -> Result<(), AllocError> {
-    let texts = written(rt.alloc())?;
-    assert_eq!(rt; texts.len(), 3);
-    assert_listed(&rt, &texts.part(1, 3)?, "|c|")?;
-    assert_listed(&rt, &texts.part(0, 1)?, "b a|")?;
-    assert_listed(&rt, &texts.part(3, 3)?, "")
-}
-
-#[test]
-fn rows_are_texts_or_values(rt: HostRuntime) -> Result<(), Fail> {
-    let alloc = rt.alloc();
-    let bytes = Octets::copy_of(alloc, b"a\nb\n")?;
-    let rows = Rows::of_texts(alloc, lines(alloc, &bytes)?)?;
-    assert_eq!(rt; listed_rows(alloc, &rows)?.as_str(), "a|b|");
-    assert!(rt; rows.as_texts().is_some());
-
-    let values = vec![in alloc; Value::Int(7), Value::Bool(true)]?;
-    let rows = Rows::of(alloc, values)?;
-    assert_eq!(rt; listed_rows(alloc, &rows)?.as_str(), "7|true|");
-    assert_eq!(rt; listed_rows(alloc, &rows.share()?)?.as_str(), "7|true|");
+    assert_listed(&rt, &texts, "b a||c|d e,|,|")?;
+    assert_listed(&rt, &texts.share()?, "b a||c|d e,|,|")?;
+    assert_listed(&rt, &copied(rt.alloc(), &texts)?, "b a||c|d e,|,|")?;
     Ok(())
 }
 
-// Texts and other values may stand in any order; a text behind another value is printed there.
 #[test]
-fn rows_are_made_one_after_another_and_printed_in_order(rt: HostRuntime) -> Result<(), Fail> {
-    let alloc = rt.alloc();
-    let mut builder = RowsBuilder::new(alloc);
-    builder.push(alloc, &Value::Text(Text::new(alloc, "a")?))?;
-    builder.push(alloc, &Value::Text(Text::new(alloc, "")?))?;
-    builder.push(alloc, &Value::Int(7))?;
-    builder.push(
-        alloc,
-        &Value::Text(Text::of_string(String::from_str(alloc, "b")?)),
-    )?;
-    let rows = builder.finish(alloc)?;
-    assert_eq!(rt; rows.len(), 4);
-    assert_eq!(rt; listed_rows(alloc, &rows)?.as_str(), "a||7|b|");
+fn texts_are_shared_in_part(rt: HostRuntime) -> Result<(), Fail> {
+    let texts = written(rt.alloc())?;
+    let cases = [(1, 3, "|c|"), (0, 1, "b a|"), (3, 3, ""), (3, 5, "d e,|,|")];
+    for (from, to, want) in cases {
+        assert_listed(&rt, &part_of(&texts, from, to)?, want)?;
+    }
+    Ok(())
+}
 
-    let mut out = Vec::with_capacity(alloc, rows.printed_len_hint())?;
-    rows.print_lines(&mut out)?;
-    assert_eq!(rt; out.as_slice(), b"a\n\n7\nb\n".as_slice());
+#[test]
+fn texts_are_selected(rt: HostRuntime) -> Result<(), Fail> {
+    let texts = written(rt.alloc())?;
+    assert_listed(
+        &rt,
+        &texts.kept(rt.alloc(), &[true, false, true])?,
+        "b a|c|",
+    )?;
+    assert_listed(&rt, &texts.picked(rt.alloc(), &[4, 0, 4])?, ",|b a|,|")?;
+    assert!(rt; texts.picked(rt.alloc(), &[5]).is_err());
+    Ok(())
+}
+
+#[test]
+fn words_and_pieces_lie_in_the_same_texts(rt: HostRuntime) -> Result<(), Fail> {
+    let texts = written(rt.alloc())?;
+    assert_listed(&rt, &texts.words(rt.alloc())?.items, "b|a|c|d|e,|,|")?;
+    assert_listed(&rt, &texts.cut(rt.alloc(), b',')?.items, "b a||c|d e||||")?;
+    assert_listed(&rt, &texts.nth_words(rt.alloc(), 0)?, "b|")?;
+    assert_listed(&rt, &texts.nth_cuts(rt.alloc(), b',', 0)?, "b a||c|d e||")?;
+    Ok(())
+}
+
+#[test]
+fn words_and_pieces_of_one_text_are_found(rt: HostRuntime) -> Result<(), Fail> {
+    assert_eq!(rt; nth_word(" a\tb ", 1), Some("b"));
+    assert_eq!(rt; nth_word(" a\tb ", 2), None);
+    assert_eq!(rt; word_count(" a\tb "), 2);
+    assert_eq!(rt; words_in(rt.alloc(), " a\tb ")?.len(), 2);
+    assert_eq!(rt; cut_in(rt.alloc(), "a🦀🦀", "🦀")?.len(), 3);
+    Ok(())
+}
+
+#[test]
+fn a_number_is_read_or_its_fault_is_told(rt: HostRuntime) -> Result<(), Fail> {
+    assert_eq!(rt; parse_int("-007"), Ok(-7));
+    assert_eq!(rt; parse_int("+7"), Err(NumberFault::NotANumber));
+    assert_eq!(rt;
+        parse_int("9223372036854775808"),
+        Err(NumberFault::OutOfRange)
+    );
+    Ok(())
+}
+
+#[test]
+fn held_items_are_shared_in_part(rt: HostRuntime) -> Result<(), Fail> {
+    let items = Held::new(rt.alloc(), vec![in rt.alloc(); 7, 8, 9]?)?;
+    let part = items.part(1, 3)?;
+    assert_eq!(rt; items.share()?.as_slice(), [7, 8, 9].as_slice());
+    assert_eq!(rt; part.as_slice(), [8, 9].as_slice());
+    let kept = kept_items(rt.alloc(), part.as_slice(), &[false, true])?;
+    assert_eq!(rt; kept.as_slice(), [9].as_slice());
     Ok(())
 }

@@ -1,14 +1,29 @@
 //! Worked examples through the calls that programs make: tests alone, with no code of its own.
 //!
-//! Each expected value comes from the definition of scripts, from the tables of values or from a
-//! small sum by hand, and never from the program's own output. `given` makes a run of a script over
-//! files and tells what was seen of it; the other modules have a subject each. What the contracts
-//! of the crates below promise for all inputs isn't tried again: a row here is for what no clause
-//! says, or for whether a clause says what was meant.
+//! Each expected value comes from the definition of scripts, from another implementation of the
+//! same arithmetic or from a small sum by hand, and never from the program's own output. Most tests
+//! are tables of text, which cost the check next to nothing: `claims` has a function that runs each
+//! kind of table, `given` makes a run of a script over files and tells what was seen of it, and
+//! `streams` shows the raise that a run doesn't tell. The other modules have a subject each.
+//!
+//! What the contracts of the crates below promise for all inputs isn't tried again: a row here is
+//! for what no clause says, or for whether a clause says what was meant.
 #![tactic(auto)]
 
 #[cfg(test)]
+mod actions;
+#[cfg(test)]
+mod arithmetic;
+#[cfg(test)]
+mod borders;
+#[cfg(test)]
+mod choices;
+#[cfg(test)]
 mod claims;
+#[cfg(test)]
+mod columns;
+#[cfg(test)]
+mod comparisons;
 #[cfg(test)]
 mod faults;
 #[cfg(test)]
@@ -16,14 +31,40 @@ mod given;
 #[cfg(test)]
 mod held;
 #[cfg(test)]
+mod layouts;
+#[cfg(test)]
 mod limits;
+#[cfg(test)]
+mod mixed;
+#[cfg(test)]
+mod operations;
 #[cfg(test)]
 mod outside;
 #[cfg(test)]
+mod partitions;
+#[cfg(test)]
 mod paths;
+#[cfg(test)]
+mod raises;
+#[cfg(test)]
+mod readers;
 #[cfg(test)]
 mod scripts;
 #[cfg(test)]
-mod texts;
+mod shapes;
+#[cfg(test)]
+mod statuses;
+#[cfg(test)]
+mod streams;
+#[cfg(test)]
+mod structures;
+#[cfg(test)]
+mod typing;
 #[cfg(test)]
 mod values;
+#[cfg(test)]
+mod worked;
+#[cfg(test)]
+mod writers;
+#[cfg(test)]
+mod writing;

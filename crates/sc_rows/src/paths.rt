@@ -1,15 +1,45 @@
 //! Runs from the script to the text: what each line of a script makes of the lines of a file.
 #![tactic(auto)]
 
-use crate::claims::{End, assert_ends, assert_prints, joined};
+use crate::claims::{assert_cases, assert_seen, joined};
 use crate::given::Row;
-use std::alloc::AllocError;
 use std::test::Fail;
 
+const MAPPED: &str = r#"====
+l = text "in.txt" 2
+m = map l (concat x "!")
+collect m
+collect l
+----
+b a!
+b!
+b a
+b
+====
+l = text "in.txt" 2
+m = map l (concat "<" x)
+n = map m (concat x (concat ">" x))
+k = map l "same"
+i = map l 3
+collect n
+collect k
+collect m
+collect i
+----
+<b a><b a
+<b><b
+same
+same
+<b a
+<b
+3
+3
+====
+"#;
+
 #[test]
-fn map_over_lines(rt: HostRuntime) -> Result<(), AllocError> {
-    let script = "l = text \"in.txt\" 2\nm = map l (concat x \"!\")\ncollect m\n";
-    assert_prints(&rt, script, "b a\nb\n", "b a!\nb!\n")
+fn a_node_may_be_read_by_two_and_printed_twice(rt: HostRuntime) -> Result<(), Fail> {
+    assert_cases(&rt, "b a\nb\n", MAPPED)
 }
 
 /// Whether a text is that of none, one or two of the actions below.
@@ -33,131 +63,116 @@ fn map_then_two_collects(rt: HostRuntime) -> Result<(), Fail> {
     Ok(())
 }
 
-#[test]
-fn empty_script(rt: HostRuntime) -> Result<(), AllocError> {
-    let row = Row::of(rt.alloc(), "")?.file("in.txt", "b a\n")?;
-    let end = End {
-        number: 0,
-        told: "",
-        asked: "job.spark",
-        reads: 1,
-        text: "",
-    };
-    assert_ends(&rt, row, end)
-}
-
-#[test]
-fn a_script_without_actions_reads_its_inputs(rt: HostRuntime) -> Result<(), AllocError> {
-    let row = Row::of(rt.alloc(), "l = text \"in.txt\" 2\n")?.file("in.txt", "b a\n")?;
-    let end = End {
-        number: 0,
-        told: "",
-        asked: "job.spark in.txt",
-        reads: 2,
-        text: "",
-    };
-    assert_ends(&rt, row, end)
-}
-
 // A file's lines end at LF, CR or CRLF, and an unended last one counts.
 #[test]
-fn lines_are_printed_in_their_order_whatever_their_ends(rt: HostRuntime) -> Result<(), AllocError> {
+fn lines_are_printed_in_their_order_whatever_their_ends(rt: HostRuntime) -> Result<(), Fail> {
     let cases = [
-        ("a\r\nb\rc", "a\nb\nc\n"),
-        ("", ""),
-        ("\n", "\n"),
-        ("a\n\r\n\rb\n", "a\n\n\nb\n"),
-        (" a\t \n", " a\t \n"),
-        ("é\n🦀\n", "é\n🦀\n"),
+        ("a\r\nb\rc", "a\nb\nc\n3\n"),
+        ("", "0\n"),
+        ("\n", "\n1\n"),
+        ("a\n\r\n\rb\n", "a\n\n\nb\n4\n"),
+        (" a\t \n", " a\t \n1\n"),
+        ("é\n🦀\n", "é\n🦀\n2\n"),
     ];
     for (text, want) in cases {
-        assert_prints(&rt, "l = text \"in.txt\" 1\ncollect l\n", text, want)?;
-        assert_prints(&rt, "l = text \"in.txt\" 2\ncollect l\n", text, want)?;
+        for slices in ["1", "2", "3", "1024"] {
+            let parts = ["l = text \"in.txt\" ", slices, "\ncollect l\ncount l\n"];
+            let script = joined(rt.alloc(), &parts)?;
+            assert_seen(&rt, script.as_str(), text, want)?;
+        }
     }
     Ok(())
 }
 
-#[test]
-fn more_partitions_than_lines(rt: HostRuntime) -> Result<(), AllocError> {
-    for count in ["2", "3", "4", "5", "6", "1024"] {
-        let script = joined(
-            rt.alloc(),
-            &["l = text \"in.txt\" ", count, "\ncollect l\n"],
-        )?;
-        assert_prints(&rt, script.as_str(), "1\n2\n3\n4\n5\n", "1\n2\n3\n4\n5\n")?;
-    }
-    Ok(())
-}
-
-#[test]
-fn int_rows_are_printed(rt: HostRuntime) -> Result<(), AllocError> {
-    let cases = [
-        ("3", "3\n3\n"),
-        ("-7", "-7\n-7\n"),
-        ("007", "7\n7\n"),
-        (
-            "-9223372036854775808",
-            "-9223372036854775808\n-9223372036854775808\n",
-        ),
-        (
-            "9223372036854775807",
-            "9223372036854775807\n9223372036854775807\n",
-        ),
-    ];
-    for (int, want) in cases {
-        let parts = ["l = text \"in.txt\" 2\nm = map l ", int, "\ncollect m\n"];
-        let script = joined(rt.alloc(), &parts)?;
-        assert_prints(&rt, script.as_str(), "b a\nb\n", want)?;
-    }
-    Ok(())
-}
-
-#[test]
-fn a_text_with_escapes(rt: HostRuntime) -> Result<(), AllocError> {
-    let script = r#"
+const LONG: &str = r#"
 l = text "in.txt" 1
-m = map l (concat x "\n\t\\\"")
-collect m
+w = flatMap l (words x)
+c = flatMap l (cut x "🦀")
+d = map l (concat x x)
+e = flatMap d (words x)
+f = map l (== (nth (words x) 4999) "🦀é")
+g = filter l (== x "")
+h = map l (concat (nth (words x) 0) x)
+i = map h (len (cut x "é"))
+count w
+count c
+count e
+collect f
+count g
+collect i
+reduce w (if (< a b) a b)
 "#;
-    assert_prints(&rt, script, "a\n", "a\n\t\\\"\n")
+
+// A line of 5,000 words of two characters, of four and of two bytes.
+#[test]
+fn texts_may_be_long(rt: HostRuntime) -> Result<(), Fail> {
+    let line = "🦀é ".repeat(rt.alloc(), 5000)?;
+    let want = "5000\n5001\n10000\ntrue\n0\n5002\n🦀é\n";
+    assert_seen(&rt, LONG, line.as_str(), want)
 }
 
 #[test]
-fn a_map_may_follow_a_map_and_a_node_may_have_two_children(
-    rt: HostRuntime,
-) -> Result<(), AllocError> {
-    let script = r#"
-l = text "in.txt" 2
-m = map l (concat "<" x)
-n = map m (concat x (concat ">" x))
-k = map l "same"
-collect n
-collect k
-collect m
-"#;
-    let want = "<a><a\n<b><b\nsame\nsame\n<a\n<b\n";
-    assert_prints(&rt, script, "a\nb\n", want)
+fn a_line_may_have_thousands_of_arguments(rt: HostRuntime) -> Result<(), Fail> {
+    let items = " x".repeat(rt.alloc(), 2000)?;
+    let literals = " 1".repeat(rt.alloc(), 2000)?;
+    let parts = [
+        "l = parallelize 3",
+        literals.as_str(),
+        "\nm = map l (sum (list",
+        items.as_str(),
+        "))\nreduce m (+ a b)\n",
+    ];
+    let script = joined(rt.alloc(), &parts)?;
+    assert_seen(&rt, script.as_str(), "", "4000000\n")
 }
 
 #[test]
-fn each_input_is_read_once_in_order_of_first_naming(rt: HostRuntime) -> Result<(), AllocError> {
+fn a_script_without_actions_reads_its_inputs(rt: HostRuntime) -> Result<(), Fail> {
+    let cases = [
+        ("", "job.spark", 1),
+        ("l = text \"in.txt\" 2\n", "job.spark in.txt", 2),
+    ];
+    for (script, asked, reads) in cases {
+        let seen = Row::of(rt.alloc(), script)?
+            .file("in.txt", "b a\n")?
+            .run(&rt);
+        assert_eq!(rt; seen.all()?.as_str(), "");
+        assert_eq!(rt; seen.asked()?.as_str(), asked);
+        assert_eq!(rt; seen.reads(), reads);
+        assert_eq!(rt; seen.writes()?, 0);
+    }
+    Ok(())
+}
+
+#[test]
+fn each_input_is_read_once_in_order_of_first_naming(rt: HostRuntime) -> Result<(), Fail> {
     let script = r#"
 b = text "b.txt" 2
 a = text "a.txt" 1
 c = text "b.txt" 1
+u = union c a
 collect a
 collect b
 collect c
+count u
 "#;
-    let row = Row::of(rt.alloc(), script)?
+    let seen = Row::of(rt.alloc(), script)?
         .file("a.txt", "1\n")?
-        .file("b.txt", "2\n3\n")?;
-    let end = End {
-        number: 0,
-        told: "",
-        asked: "job.spark b.txt a.txt",
-        reads: 3,
-        text: "1\n2\n3\n2\n3\n",
-    };
-    assert_ends(&rt, row, end)
+        .file("b.txt", "2\n3\n")?
+        .run(&rt);
+    assert_eq!(rt; seen.all()?.as_str(), "1\n2\n3\n2\n3\n3\n");
+    assert_eq!(rt; seen.asked()?.as_str(), "job.spark b.txt a.txt");
+    assert_eq!(rt; seen.reads(), 3);
+    assert_eq!(rt; seen.writes()?, 4);
+    Ok(())
+}
+
+#[test]
+fn a_script_may_be_its_own_input(rt: HostRuntime) -> Result<(), Fail> {
+    let script = "l = text \"job.spark\" 2\ncollect l\n";
+    let seen = Row::of(rt.alloc(), script)?.run(&rt);
+    assert_eq!(rt; seen.all()?.as_str(), script);
+    assert_eq!(rt; seen.asked()?.as_str(), "job.spark job.spark");
+    assert_eq!(rt; seen.reads(), 2);
+    Ok(())
 }

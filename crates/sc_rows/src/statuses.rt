@@ -2,6 +2,8 @@
 #![tactic(auto)]
 
 use sc_app::{Status, fault_text};
+use sc_expr::Raise;
+use sc_lineage::DriverFault;
 use sc_script::{FaultKind, ScriptFault};
 use sc_value::Name;
 use std::alloc::AllocError;
@@ -62,4 +64,20 @@ fn each_kind_of_fault_has_its_name(rt: HostRuntime) -> Result<(), AllocError> {
         assert_told(&rt, status, 3, text)?;
     }
     Ok(())
+}
+
+#[test]
+fn each_fault_of_the_driver_has_its_name(rt: HostRuntime) -> Result<(), AllocError> {
+    let cases = [
+        (0, Raise::DivideByZero, "driver: action 0: DivideByZero"),
+        (63, Raise::NotANumber, "driver: action 63: NotANumber"),
+        (2, Raise::OutOfRange, "driver: action 2: OutOfRange"),
+    ];
+    for (action, raise, text) in cases {
+        let kind = DriverFault::Raised(raise);
+        assert_told(&rt, Status::DriverFault { action, kind }, 9, text)?;
+    }
+    let (action, kind) = (1, DriverFault::EmptyCollection);
+    let text = "driver: action 1: EmptyCollection";
+    assert_told(&rt, Status::DriverFault { action, kind }, 9, text)
 }
