@@ -1,25 +1,46 @@
 # What to type on a machine that has the kit (`rt`).
 
+EXAMPLE := examples/first_path
 PROGRAM := crates/spark_run/out/spark_run
 
-.PHONY: run test bench fmt
+# How many crates are checked at a time. A check takes 1 to 4 GB of memory.
+JOBS ?= $(shell nproc 2>/dev/null || echo 2)
 
-# Builds the program, where it isn't built, and runs an example on its file.
-run: $(PROGRAM)
-	cd examples/first_path && ../../$(PROGRAM) run job.spark
+.PHONY: try run test bench docs fmt
 
-# `rt run` proves, builds and runs it; run without words it ends with 2, as it must.
-$(PROGRAM):
-	cd crates/spark_run && (rt run >/dev/null 2>&1 || test -x out/spark_run)
+# Runs the example with no proof of anything.
+try:
+	@echo "Runs $(EXAMPLE) before any proof. It takes about half a minute and proves nothing."
+	cd crates/spark_run && rt try --data job.spark=../../$(EXAMPLE)/job.spark \
+	    --data in.txt=../../$(EXAMPLE)/in.txt -- run job.spark
 
-# The whole gate: proofs, must-fail edits, tests, programs.
+# Proves the crates, builds the program and runs the example.
+run:
+	@echo "Proves every crate, $(JOBS) at a time and lowest first, then builds the program and runs"
+	@echo "$(EXAMPLE). From nothing it takes some 40 minutes on four processors; what was proved is"
+	@echo "kept, so a second run takes seconds. A line is printed for each crate as it is done."
+	rt all check --jobs $(JOBS)
+	cd crates/spark_run && rt run -- run ../../tools/built.spark
+	cd $(EXAMPLE) && ../../$(PROGRAM) run job.spark
+
+# The whole gate, as the merge runs it.
 test:
-	rt ci
+	@echo "The whole gate: every proof from nothing, the edits that must fail, the tests, the program"
+	@echo "as two compilers build it, the documents and the examples. It takes more than an hour on"
+	@echo "four processors, where this machine has passed nothing yet."
+	bash .ci/run
 
 # Times the program beside a plain Rust program.
-bench: $(PROGRAM)
+bench:
 	bash bench/run.sh
+
+# Brings the lists in the documents up to date with the crates, and checks the documents.
+docs:
+	python3 tools/refresh_reading.py
+	python3 tools/refresh_testing.py
+	python3 tools/where.py --refresh CONTRIBUTING.md
+	python3 tools/check_docs.py
 
 # Lays out every file.
 fmt:
-	for crate in crates/*/; do (cd $$crate && rt fmt); done
+	for crate in crates/*/; do (cd $$crate && rt fmt) || exit 1; done

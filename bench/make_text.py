@@ -1,24 +1,26 @@
 #!/usr/bin/env python3
-"""Writes so many bytes of lines of words, about 50 bytes a line, the same at each call.
+"""Writes so many bytes of lines, about 50 bytes each, the same at each call.
 
     bench/make_text.py BYTES FILE
+
+A line begins with a word and a number from 0 to 999, and goes on with words.
 """
 import random
 import sys
 
-WORDS = "time year people way day man thing woman life child world school state family".split()
+WORDS = (
+    "art book city day east fact goal home idea job king life moon name open part quiet road "
+    "state time unit voice water year zone"
+).split()
 
 
 def line(chance: random.Random) -> str:
-    """A line of words and numbers of 40 to 60 bytes."""
-    words = []
-    length = 0
+    """A line of 40 to 60 bytes."""
+    words = [chance.choice(WORDS), str(chance.randrange(1000))]
     goal = chance.randint(40, 60)
-    while length < goal:
-        word = chance.choice(WORDS) if chance.random() < 0.8 else str(chance.randrange(100_000))
-        words.append(word)
-        length += len(word) + 1
-    return " ".join(words)[:goal]
+    while sum(map(len, words)) + len(words) < goal:
+        words.append(chance.choice(WORDS))
+    return " ".join(words)
 
 
 def main() -> None:

@@ -1,49 +1,54 @@
 #!/usr/bin/env bash
-# Measures the built program beside a plain Rust program that does the same job.
+# Measures the built program beside a plain Rust program that does the same jobs.
 #
-#   bench/run.sh
+#   bench/run.sh [MEGABYTES..]      sizes of the input, 10 and 100 where none is named
 #
-# The job puts "!" behind each line of a text of 10 MB and of 100 MB, of about 50 bytes a line. Each
-# program runs three times, in turn with the other, its output thrown away; the table has the median
-# of the wall times, their ratio, and the most memory that a run took. A second table has chains of
-# 64, 128 and 256 definitions over 10 MB, each with a "!" behind the one before. Before anything is
-# measured the outputs of both programs are compared. The data are made anew where they aren't
-# there; it needs python3, rustc and GNU time, and about 300 MB in bench/data.
+# The jobs are the scripts of bench/jobs; bench/rust does the same by hand, on one thread. Before a
+# job is measured the outputs of both are compared, and a job whose outputs differ isn't measured.
+# Then each program runs three times, in turn with the other, its output thrown away. The table has
+# the medians of the wall times, their ratio, and the most memory that a run took. A last table has
+# the start of the program on a script without inputs, beside the start of mawk.
+#
+# It needs the built program, rustc, python3 and GNU time, mawk for the last table, and room for the
+# inputs in bench/data. Ends with 1 where outputs differed.
 set -eu
 
 here=$(cd "$(dirname "$0")" && pwd)
-program=$here/../crates/spark_run/out/spark_run
-data=$here/data
+program=${SPARK_RUN:-$here/../crates/spark_run/out/spark_run}
+plain=$here/rust/target/plain
+jobs=(concat sums pairs choice lengths pipeline lineage repeated)
 rounds=3
+starts=20
+[ $# -gt 0 ] || set -- 10 100
 
 if [ ! -x "$program" ]; then
-  echo "bench: crates/spark_run/out/spark_run isn't built: rt run in crates/spark_run builds it" >&2
+  echo "bench: $program isn't built: make run builds it" >&2
   exit 1
 fi
-program=$(cd "$(dirname "$program")" && pwd)/spark_run
-mkdir -p "$data" "$here/rust/target"
-rust=$here/rust/target/mark_lines
-rustc -O -o "$rust" "$here/rust/mark_lines.rs"
-cd "$data"
-
-# Writes the script of a chain of so many definitions over a file.
-write_chain() {
-  local count=$1 input=$2 i
-  echo "n0 = text \"$input\" 4"
-  for ((i = 1; i < count; i++)); do
-    echo "n$i = map n$((i - 1)) (concat x \"!\")"
-  done
-  echo "collect n$((count - 1))"
-}
+program=$(cd "$(dirname "$program")" && pwd)/$(basename "$program")
+mkdir -p "$here/rust/target"
+rustc -O -o "$plain" "$here/rust/main.rs"
+scratch=$(mktemp -d)
+trap 'rm -rf "$scratch"' EXIT
 
 # Runs a command: its wall time in microseconds and its peak memory in KB are added to a file.
 measure() {
   local file=$1 from to
   shift
-  from=${EPOCHREALTIME/./}
-  /usr/bin/time -o "$file.peak" -f %M "$@" >/dev/null
-  to=${EPOCHREALTIME/./}
-  echo "$((to - from)) $(tail -n 1 "$file.peak")" >>"$file"
+  from=${EPOCHREALTIME/[.,]/}
+  /usr/bin/time -o "$scratch/peak" -f %M "$@" >/dev/null
+  to=${EPOCHREALTIME/[.,]/}
+  echo "$((to - from)) $(tail -n 1 "$scratch/peak")" >>"$file"
+}
+
+# Runs a command many times: the wall time of one run in microseconds is added to a file.
+measure_start() {
+  local file=$1 from to i
+  shift
+  from=${EPOCHREALTIME/[.,]/}
+  for ((i = 0; i < starts; i++)); do "$@" >/dev/null; done
+  to=${EPOCHREALTIME/[.,]/}
+  echo "$(((to - from) / starts)) 0" >>"$file"
 }
 
 # The median wall time of the runs in a file, in microseconds.
@@ -56,37 +61,50 @@ peak() {
   awk '$2 > most { most = $2 } END { print most }' "$1"
 }
 
-for megabytes in 10 100; do
-  [ -f "lines_$megabytes.txt" ] || "$here/make_text.py" "${megabytes}000000" "lines_$megabytes.txt"
-  write_chain 2 "lines_$megabytes.txt" >"job_$megabytes.spark"
-  cmp <("$program" run "job_$megabytes.spark") <("$rust" "lines_$megabytes.txt")
-done
-
-echo "| MB | spark_run s | Rust s | ratio | spark_run MB | Rust MB |"
-echo "|---|---|---|---|---|---|"
-for megabytes in 10 100; do
-  rm -f ours theirs
-  for ((round = 0; round < rounds; round++)); do
-    measure ours "$program" run "job_$megabytes.spark"
-    measure theirs "$rust" "lines_$megabytes.txt"
-  done
-  awk -v mb="$megabytes" -v a="$(median ours)" -v b="$(median theirs)" \
-    -v m="$(peak ours)" -v n="$(peak theirs)" 'BEGIN {
-      printf "| %d | %.3f | %.3f | %.2f | %.0f | %.0f |\n",
-        mb, a / 1e6, b / 1e6, a / b, m / 1024, n / 1024
-    }'
-done
-
+result=0
+echo "$(date +%F), $(nproc) processors, $(rustc --version), load $(cut -d' ' -f1 /proc/loadavg)"
 echo
-echo "| Definitions | spark_run s | ms a definition | spark_run MB |"
-echo "|---|---|---|---|"
-for count in 64 128 256; do
-  write_chain "$count" lines_10.txt >"chain_$count.spark"
-  rm -f ours
-  for ((round = 0; round < rounds; round++)); do
-    measure ours "$program" run "chain_$count.spark"
+echo "| job | MB | spark_run s | Rust s | ratio | spark_run MB | Rust MB |"
+echo "|---|---|---|---|---|---|---|"
+for megabytes in "$@"; do
+  mkdir -p "$here/data/$megabytes"
+  cd "$here/data/$megabytes"
+  [ -f lines.txt ] || python3 "$here/make_text.py" "${megabytes}000000" lines.txt
+  for job in "${jobs[@]}"; do
+    ours=("$program" run "../../jobs/$job.spark")
+    theirs=("$plain" "$job" lines.txt)
+    if ! cmp -s <("${ours[@]}" 2>&1) <("${theirs[@]}" 2>&1); then
+      echo "| $job | $megabytes | the outputs differ | | | | |"
+      result=1
+      continue
+    fi
+    rm -f "$scratch/ours" "$scratch/theirs"
+    for ((round = 0; round < rounds; round++)); do
+      measure "$scratch/ours" "${ours[@]}"
+      measure "$scratch/theirs" "${theirs[@]}"
+    done
+    awk -v job="$job" -v mb="$megabytes" \
+      -v a="$(median "$scratch/ours")" -v b="$(median "$scratch/theirs")" \
+      -v m="$(peak "$scratch/ours")" -v n="$(peak "$scratch/theirs")" 'BEGIN {
+        printf "| %s | %d | %.3f | %.3f | %.2f | %.0f | %.0f |\n",
+          job, mb, a / 1e6, b / 1e6, a / b, m / 1024, n / 1024
+      }'
   done
-  awk -v count="$count" -v a="$(median ours)" -v m="$(peak ours)" 'BEGIN {
-      printf "| %d | %.3f | %.1f | %.0f |\n", count, a / 1e6, a / 1e3 / count, m / 1024
-    }'
 done
+
+if ! command -v mawk >/dev/null 2>&1; then
+  echo "bench: no table of starts, since there is no mawk" >&2
+  exit $result
+fi
+rm -f "$scratch/ours" "$scratch/theirs"
+for ((round = 0; round < rounds; round++)); do
+  measure_start "$scratch/ours" "$program" run "$here/jobs/start.spark"
+  measure_start "$scratch/theirs" mawk 'BEGIN{}'
+done
+echo
+echo "| start | spark_run ms | mawk ms | ratio |"
+echo "|---|---|---|---|"
+awk -v a="$(median "$scratch/ours")" -v b="$(median "$scratch/theirs")" 'BEGIN {
+  printf "| four numbers counted | %.2f | %.2f | %.2f |\n", a / 1e3, b / 1e3, a / b
+}'
+exit $result

@@ -6,11 +6,12 @@ Prints one line a place, 'FILE:LINE: what is wrong', and ends with 1 where it fo
 - a label of a paper (a capital letter and a number) in prose, definitions or comments;
 - a code name in backticks in README.md, ARCHITECTURE.md, CONTRIBUTING.md or docs/ that no file of
   the repository has. A name with '_', one in CamelCase and a file .rt, .antt or .edit count; in a
-  path, '*' and parts in capitals (crates/NAME/src) stand for anything. The names of others, as
-  Spark's classes, may be listed in tools/foreign_names.txt, one a line;
-- a crate of crates.txt that ARCHITECTURE.md doesn't name;
-- a file of definitions, crates/*/specs/*.antt, that docs/READING.md doesn't list, or lists with
-  another count of lines. Its rows begin '| 3 | crates/NAME/specs/FILE.antt | 24 |'.
+  path, '*' and parts in capitals (crates/NAME/src) stand for anything;
+- a group or a crate of crates.txt that ARCHITECTURE.md or README.md lacks;
+- the word "today" in a document, but for README.md between its marks;
+- a line of code, clauses or definitions past 100 columns, but for imports;
+- a list in a document that the crates don't bear out: those of docs/READING.md, of docs/TESTING.md
+  and of CONTRIBUTING.md. `make docs` brings all of them up to date.
 """
 import argparse
 import fnmatch
@@ -21,6 +22,11 @@ import subprocess
 import sys
 from collections.abc import Iterator
 
+import refresh_reading
+import refresh_testing
+import where
+from crate_files import Crates
+
 LABEL = re.compile(r"\b(?:[DNSTWRC][0-9]{1,2}|(?:paper|rung|demand|request) [0-9]{1,2})\b")
 CODE_SPAN = re.compile(r"`([^`\n]+)`")
 HEX_WORD = r"(?:0x)?[0-9A-Fa-f]{2,}"
@@ -28,12 +34,14 @@ HEXADECIMAL = re.compile(rf"\s*(?:{HEX_WORD}(?:[\s,]+{HEX_WORD})+|(?:0x)?[0-9A-F
 WORD = re.compile(r"[A-Za-z_][A-Za-z0-9_]*")
 CODE_WORD = re.compile(r"[A-Za-z0-9_.+*/-]*\.(?:rt|antt|edit)\b|[A-Za-z_][A-Za-z0-9_]*")
 CAMEL_CASE = re.compile(r"[A-Z][A-Za-z0-9]*[a-z0-9][A-Z][A-Za-z0-9]*|[A-Z]{2,}[a-z][A-Za-z0-9]*")
-READING_ROW = re.compile(r"\|\s*\d+\s*\|\s*`?(crates/[^\s|`]+\.antt)`?\s*\|\s*(\d+)\s*\|")
-CRATE_LINE = re.compile(r"([A-Za-z_][A-Za-z0-9_]*)[^:#]*:")
+IMPORT = re.compile(r"\s*(?:pub )?(?:ghost )?use ")
+TODAY = re.compile(r"\btoday\b", re.IGNORECASE)
+TODAY_MARKS = ("<!-- today -->", "<!-- end of today -->")
 PROSE_SUFFIXES = {".md", ".edit", ".py", ".sh"}
 COMMENT_MARKS = {".rt": "//", ".antt": "--"}
 FILE_SUFFIXES = (".rt", ".antt", ".edit")
 TOP_DOCUMENTS = ("README.md", "ARCHITECTURE.md", "CONTRIBUTING.md")
+COLUMNS = 100
 
 Fault = tuple[str, int, str]
 Files = dict[str, str]
@@ -139,37 +147,78 @@ def name_faults(files: Files) -> Iterator[Fault]:
                             yield name, number, f"no file has the name {word}"
 
 
+def groups(text: str) -> Iterator[tuple[str, list[str]]]:
+    """The groups of crates.txt, with their crates."""
+    group, crates = "", []
+    for line in [*text.splitlines(), "# "]:
+        heading = line.startswith("#")
+        if heading and crates:
+            yield group, crates
+            crates = []
+        if heading:
+            group = line.removeprefix("#").strip()
+        elif line.strip():
+            crates.append(line.partition(":")[0].split()[0])
+
+
 def crate_faults(files: Files) -> Iterator[Fault]:
-    if "ARCHITECTURE.md" not in files:
-        yield "ARCHITECTURE.md", 1, "the file isn't there"
-        return
-    named = set(WORD.findall(files["ARCHITECTURE.md"]))
-    for number, line in enumerate(files.get("crates.txt", "").splitlines(), 1):
-        crate = CRATE_LINE.match(line)
-        if crate and crate.group(1) not in named:
-            yield "crates.txt", number, f"ARCHITECTURE.md doesn't name the crate {crate.group(1)}"
+    for page in ("ARCHITECTURE.md", "README.md"):
+        for group, crates in groups(files.get("crates.txt", "")):
+            row = f"| {group} | {', '.join(f'`{it}`' for it in crates)} |"
+            if row not in files.get(page, ""):
+                yield page, 1, f"no row begins {row}"
+    named = set(WORD.findall(files.get("ARCHITECTURE.md", "").partition("| program |")[2]))
+    for _, crates in groups(files.get("crates.txt", "")):
+        for crate in crates:
+            if crate not in named:
+                yield "ARCHITECTURE.md", 1, f"nothing is said of the crate {crate}"
 
 
-def reading_faults(files: Files) -> Iterator[Fault]:
-    reading = "docs/READING.md"
-    if reading not in files:
-        yield reading, 1, "the file isn't there"
-        return
-    listed = set()
-    for number, line in enumerate(files[reading].splitlines(), 1):
-        row = READING_ROW.match(line.strip())
-        if not row:
+def today_faults(files: Files) -> Iterator[Fault]:
+    for name, text in files.items():
+        if not is_document(name):
             continue
-        name, count = row.group(1), int(row.group(2))
-        listed.add(name)
-        if name not in files:
-            yield reading, number, f"there is no file {name}"
-        elif len(files[name].splitlines()) != count:
-            yield reading, number, f"{name} has {len(files[name].splitlines())} lines, not {count}"
-    for name in files:
-        if fnmatch.fnmatchcase(name, "crates/*/specs/*.antt") and not name.endswith("/Lib.antt"):
-            if name not in listed:
-                yield name, 1, f"{reading} doesn't list this file"
+        marked = False
+        for number, line in enumerate(text.splitlines(), 1):
+            if line in TODAY_MARKS:
+                marked = name == "README.md" and line == TODAY_MARKS[0]
+            elif TODAY.search(line) and not marked:
+                yield name, number, 'says "today" outside the marks of README.md'
+
+
+def column_faults(files: Files) -> Iterator[Fault]:
+    for name, text in files.items():
+        if name.startswith("crates/") and "/proofs/" not in name and name.endswith((".rt", ".antt")):
+            for number, line in enumerate(text.splitlines(), 1):
+                if len(line) > COLUMNS and not IMPORT.match(line):
+                    yield name, number, f"has {len(line)} columns"
+
+
+def list_faults(crates: Crates) -> Iterator[Fault]:
+    reading = crates.text(refresh_reading.PAGE)
+    for fault in refresh_reading.faults(crates, reading):
+        yield refresh_reading.PAGE, 1, fault
+    edits: list[str] = []
+    testing = crates.text(refresh_testing.PAGE)
+    tested = refresh_testing.refreshed(crates, testing, edits)
+    for fault in edits:
+        yield fault.partition(":")[0], 1, fault.partition(": ")[2]
+    contributing = crates.text("CONTRIBUTING.md")
+    stale = (
+        (refresh_reading.PAGE, reading, refresh_reading.refreshed(crates, reading)),
+        (refresh_testing.PAGE, testing, tested),
+        ("CONTRIBUTING.md", contributing, where.refreshed(crates, contributing)),
+    )
+    for page, has, wants in stale:
+        if has != wants:
+            yield page, first_difference(has, wants), "is stale: make docs"
+
+
+def first_difference(text: str, other: str) -> int:
+    """The number of the first line in which two texts differ."""
+    lines, others = text.splitlines(), other.splitlines()
+    pairs = enumerate(zip(lines, others), 1)
+    return next((number for number, (a, b) in pairs if a != b), min(len(lines), len(others)) + 1)
 
 
 def main() -> int:
@@ -178,12 +227,13 @@ def main() -> int:
     )
     here = pathlib.Path(__file__).resolve().parent.parent
     parser.add_argument("root", nargs="?", type=pathlib.Path, default=here, help="the repository")
-    files = read_files(parser.parse_args().root)
-    found = 0
-    for faults in (label_faults, name_faults, crate_faults, reading_faults):
-        for name, number, fault in faults(files):
-            print(f"{name}:{number}: {fault}")
-            found += 1
+    root = parser.parse_args().root.resolve()
+    files = read_files(root)
+    of_files = (label_faults, name_faults, crate_faults, today_faults, column_faults)
+    found = [fault for faults in of_files for fault in faults(files)]
+    found += list_faults(Crates(root))
+    for name, number, fault in found:
+        print(f"{name}:{number}: {fault}")
     return 1 if found else 0
 
 

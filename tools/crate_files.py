@@ -1,0 +1,144 @@
+"""What the tools know of the crates' files: what a file cites, and how a type is declared."""
+import dataclasses
+import functools
+import pathlib
+import re
+from collections.abc import Iterator
+
+IMPORT = re.compile(r"\buse\s+([\w.]+)\.\{([^}]*)\}|\buse\s+([\w.]+) as \w+")
+CAPITAL = re.compile(r"\b[A-Z]\w*")
+COMMENT = re.compile(r"//.*")
+RUST_USE = re.compile(r"^\s*(?:pub )?use (crate|\w+)((?:::\w+)*)(?:::\{([^}]*)\})?;", re.MULTILINE)
+VISIBLE = r"(?:pub(?:\([^)]*\))? )?"
+
+
+@dataclasses.dataclass(frozen=True, order=True)
+class Declared:
+    """A type of the program that definitions cite."""
+
+    path: str
+    name: str
+
+
+@dataclasses.dataclass
+class Cited:
+    """What definitions or clauses cite."""
+
+    specs: set[str] = dataclasses.field(default_factory=set)
+    types: set[Declared] = dataclasses.field(default_factory=set)
+    kit: dict[str, set[str]] = dataclasses.field(default_factory=dict)
+
+
+class Crates:
+    """The crates of a repository."""
+
+    def __init__(self, root: pathlib.Path) -> None:
+        self.root = root
+        lines = (root / "crates.txt").read_text(encoding="utf-8").splitlines()
+        self.names = [it.split()[0].rstrip(":") for it in lines if it.strip() and it[0] != "#"]
+        self.text = functools.cache(self._text)
+
+    def _text(self, path: str) -> str:
+        file = self.root / path
+        return file.read_text(encoding="utf-8") if file.is_file() else ""
+
+    def files(self, pattern: str) -> list[str]:
+        """The paths of the files that fit a pattern, such as 'sc_app/src/**/*.rt', in order."""
+        found = sorted((self.root / "crates").glob(pattern))
+        return [it.relative_to(self.root).as_posix() for it in found if it.is_file()]
+
+    def cited(self, text: str) -> Cited:
+        """What the imports of a text bring in, not what these cite in turn."""
+        found = Cited()
+        for module, words, alone in IMPORT.findall(text):
+            parts = (module or alone).split(".")
+            if parts[0] == "Rattle" and parts[1] in self.names:
+                self._note(found, parts[1], parts[3:])
+            else:
+                names = {it.split(" as ")[0].strip() for it in words.split(",")} - {""}
+                found.kit.setdefault(".".join(parts), set()).update(names)
+        return found
+
+    def _note(self, found: Cited, crate: str, parts: list[str]) -> None:
+        if parts and parts[0] == "declared":
+            modules = [it for it in parts[1:] if it[0].islower()]
+            types = [it for it in parts[1:] if it[0].isupper() and not it.startswith("The")]
+            path = f"crates/{crate}/src/{'/'.join(modules) or 'lib'}.rt"
+            found.types.update(Declared(path, it) for it in types[:1])
+        elif parts and parts[0] != "contracts":
+            found.specs.add(f"crates/{crate}/specs/{'/'.join(parts)}.antt")
+
+    def rests_on(self, text: str) -> Cited:
+        """What a text cites, and what that cites in turn, down to the kit. A file counts whole."""
+        found = Cited()
+        waiting = [text]
+        while waiting:
+            direct = self.cited(waiting.pop())
+            for module, words in direct.kit.items():
+                found.kit.setdefault(module, set()).update(words)
+            for path in direct.specs - found.specs:
+                found.specs.add(path)
+                waiting.append(self.text(path))
+            types = list(direct.types)
+            while types:
+                it = types.pop()
+                if it not in found.types:
+                    found.types.add(it)
+                    waiting.append(self.model(it))
+                    types += self.types_in(it)
+        return found
+
+    def block(self, path: str, pattern: str) -> str:
+        """The text from what a pattern finds in a file to the brace that closes it."""
+        text = self.text(path)
+        start = re.search(pattern, text, re.MULTILINE)
+        depth = 0
+        for place in range(start.start() if start else len(text), len(text)):
+            depth += (text[place] == "{") - (text[place] == "}")
+            if text[place] in ";}" and depth == 0:
+                return text[start.start() : place + 1]
+        return ""
+
+    def declaration(self, it: Declared) -> str:
+        """The struct or enum as it is written; the empty text where the file has none."""
+        return self.block(it.path, rf"^{VISIBLE}(?:struct|enum) {it.name}\b")
+
+    def model(self, it: Declared) -> str:
+        """The impl of Model of a type; the empty text where it has none."""
+        return self.block(it.path, rf"^impl(?:<[^{{]*>)? Model for {it.name}\b")
+
+    def types_in(self, it: Declared) -> Iterator[Declared]:
+        """The types of the repository that a declaration mentions."""
+        body = COMMENT.sub("", self.declaration(it)).partition("{")[2]
+        for name in sorted(set(CAPITAL.findall(body)) - {it.name}):
+            yield from self._resolved(it.path, name)
+
+    def _resolved(self, path: str, name: str) -> Iterator[Declared]:
+        """The type that a name stands for in a file, where it is one of the repository's."""
+        if self.declaration(Declared(path, name)):
+            yield Declared(path, name)
+            return
+        crate = path.split("/")[1]
+        for base, modules, names in RUST_USE.findall(self.text(path)):
+            listed = {it.strip() for it in names.split(",")}
+            if name in listed or modules.endswith(f"::{name}"):
+                for file in self.files(f"{crate if base == 'crate' else base}/src/**/*.rt"):
+                    if self.declaration(Declared(file, name)):
+                        yield Declared(file, name)
+                        return
+
+
+def ghost_member(block: str, member: str) -> str:
+    """The text of a ghost member of an impl, on one line."""
+    found = re.search(rf"ghost {member}(?: =|:) \{{(.*?)\}};", block, re.DOTALL)
+    return " ".join(found.group(1).split()) if found else ""
+
+
+def between(page: str, name: str, lines: list[str]) -> str:
+    """A page with these lines between the two marks of a name."""
+    begin, end = f"<!-- {name} -->", f"<!-- end of {name} -->"
+    head, found, rest = page.partition(begin)
+    _, closed, tail = rest.partition(end)
+    if not (found and closed):
+        raise ValueError(f"the page lacks the marks {begin} and {end}")
+    return "\n".join([head + begin, "", *lines, "", end + tail])
