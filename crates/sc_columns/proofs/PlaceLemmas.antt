@@ -48,7 +48,8 @@ module _ {X Y Z : Type 0} (f : X → Y → Z) (xs : List X) (ys : List Y) where
       let within = All-head (λ i. i < length zipped) p ps all in
       let a = there xs p (first_within p within) in
       let b = there ys p (second_within p within) in
-      cons-zip_with f (slice_get xs p) (slice_get ys p) a.0 b.0 (picked xs ps) (picked ys ps) a.1 b.1
+      cons-zip_with f (slice_get xs p) (slice_get ys p) a.0 b.0 (picked xs ps) (picked ys ps) a.1
+      b.1
       ∙ ap₂ cons_option (sym (slice_get-zip_with f xs ys p a.0 b.0 a.1 b.1))
       (picked-zip_with ps (All-tail (λ i. i < length zipped) p ps all))
 

@@ -53,7 +53,8 @@ printed-copies n i d within = ap printed_row (slice_get-replicate n i d within)
 pub printed-list : (items : List Datum) (spans : List Span) (i : ℕ) (s : Span)
     → Some s ≡ slice_get spans i
     → printed_at (map (group_at items) spans) i
-    ≡ codes "CompactBuffer(" ++ printed_items (items_of (slice_range items s.from s.to)) ++ codes ")"
+    ≡ codes "CompactBuffer(" ++ printed_items (items_of (slice_range items s.from s.to)) ++ codes
+    ")"
 printed-list items spans i s is =
     ap printed_row (slice_get-map (group_at items) spans i
     ∙ ap (option_map (group_at items)) (sym is))
@@ -140,7 +141,8 @@ list_written r old m1 m2 after a p q last =
     (utf8_list a q.utf8)
 
 -- a row more is printed, and its line feed
-pub line_written : (rows : List Datum) (i : ℕ) (d : Datum) (start before with_text with_end : List ℕ)
+pub line_written : (rows : List Datum) (i : ℕ) (d : Datum)
+    (start before with_text with_end : List ℕ)
     → slice_get rows i ≡ Some d → before ≡ start ++ printed_lines (take i rows)
     → with_text ≡ before ++ printed d → with_end ≡ with_text ++ 10 ∷ []
     → with_end ≡ start ++ printed_lines (take (i + 1) rows)

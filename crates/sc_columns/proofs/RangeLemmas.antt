@@ -157,7 +157,8 @@ module _ {X : Type 0} (xs ys rows : List X) (a b n : ℕ) (are : rows ≡ xs ++ 
       take_same (b - a) 0 (drop a xs) (omega (arith, length-drop a xs, len)) in
       second ∙ ap (λ l. l ++ right) (sym none) ∙ sym halves
 
-  pub part-both : n < b → slice_range xs a n ++ slice_range ys (a - n) (b - n) ≡ slice_range rows a b
+  pub part-both : n < b → slice_range xs a n ++ slice_range ys (a - n) (b - n)
+      ≡ slice_range rows a b
   part-both before =
       let same : take (n - a) (drop a xs) ≡ left =
       take_same (n - a) (b - a) (drop a xs) (omega (arith, length-drop a xs)) in

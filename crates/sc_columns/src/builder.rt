@@ -2,14 +2,15 @@
 #![tactic(auto)]
 
 ghost use Rattle.std.specs.Arc.{arc_value};
+ghost use Rattle.std.specs.List.{flat_map};
 ghost use Rattle.std.specs.Prelude.{◌≡◌, ◌++◌, [], ◌∷◌, if◌then◌else◌, IfOk, is_ok};
 ghost use Rattle.sc_value.specs.Views.{datum_of};
-ghost use Rattle.sc_columns.specs.Columns.{rows_in};
+ghost use Rattle.sc_columns.specs.Columns.{rows_in, shared_rows};
 ghost use Rattle.sc_columns.specs.Runs.{run_rows};
 
 use crate::chains::{chain_of, joined};
 use crate::columns::Shared;
-use crate::joins::extend;
+use crate::joins::{extend, extend_short};
 use crate::pushes::{one_row, push};
 use crate::rows::Rows;
 use crate::runs::{Run, closed as closed_run, closed_all};
@@ -67,15 +68,15 @@ impl RowsBuilder {
         self.begin(one_row(alloc, value)?)
     }
 
-    /// Adds rows behind those that are there: a whole column at once, where it is of their kind.
+    /// Adds rows behind those that are there. Many rows are shared, as a run of their own; few, and
+    /// numbers and truth values, are copied behind those before them, where they are of their kind.
     pub fn append(&mut self, alloc: Global, rows: &Rows) -> Result<(), AllocError>
         ensures { self.new ≡ (if is_ok result then self.old ++ rows.now else self.old) }
     {
         if rows.is_empty() {
             return Ok(());
         }
-        let column = joined(alloc, rows.column())?;
-        self.add(alloc, &column)
+        self.add_or_share(alloc, rows.column())
     }
 
     /// The rows, to be shared.
@@ -85,7 +86,26 @@ impl RowsBuilder {
         Rows::of_column(self.close(alloc)?)
     }
 
-    /// Adds the rows of a column.
+    /// The rows, run by run.
+    pub(crate) fn runs(self, alloc: Global) -> Result<Vec<Rows>, AllocError>
+        ensures { IfOk result (λ v. flat_map (λ run. run) v.items ≡ self) }
+    {
+        rows_of_each(alloc, &self.columns(alloc)?)
+    }
+
+    /// Adds the rows of a column, which are shared where they are many and dear to copy.
+    pub(crate) fn add_or_share(&mut self, alloc: Global, column: &Shared) -> Result<(), AllocError>
+        ensures { self.new ≡ (if is_ok result
+            then self.old ++ rows_in (arc_value column.now) else self.old) }
+    {
+        let column = joined(alloc, column)?;
+        if extend_short(alloc, &column, &mut self.last)? {
+            return Ok(());
+        }
+        self.begin(Run::Lone(column))
+    }
+
+    /// Adds the rows of a column in the run of those before it, where they are of one kind.
     pub(crate) fn add(&mut self, alloc: Global, column: &Shared) -> Result<(), AllocError>
         ensures { self.new ≡ (if is_ok result
             then self.old ++ rows_in (arc_value column.now) else self.old) }
@@ -114,9 +134,28 @@ impl RowsBuilder {
     pub(crate) fn close(self, alloc: Global) -> Result<Shared, AllocError>
         ensures { IfOk result (λ c. rows_in (arc_value c) ≡ self) }
     {
-        let RowsBuilder { closed, last } = self;
-        let mut runs = closed_all(alloc, closed)?;
-        runs.push(closed_run(alloc, last)?)?;
-        chain_of(alloc, &runs)
+        chain_of(alloc, &self.columns(alloc)?)
     }
+
+    /// The rows as a column for each run.
+    fn columns(self, alloc: Global) -> Result<Vec<Shared>, AllocError>
+        ensures { IfOk result (λ v. flat_map shared_rows v.items ≡ self) }
+    {
+        let RowsBuilder { closed, last } = self;
+        let mut columns = closed_all(alloc, closed)?;
+        columns.push(closed_run(alloc, last)?)?;
+        Ok(columns)
+    }
+}
+
+/// Each of some columns as rows.
+fn rows_of_each(alloc: Global, columns: &[Shared]) -> Result<Vec<Rows>, AllocError>
+    ensures { IfOk result
+        (λ v. flat_map (λ run. run) v.items ≡ flat_map shared_rows columns.now) }
+{
+    let mut out = Vec::with_capacity(alloc, columns.len())?;
+    for i in 0..columns.len() {
+        out.push(Rows::of_column(Arc::try_clone(&columns[i])?)?)?;
+    }
+    Ok(out)
 }

@@ -8,9 +8,42 @@ ghost use Rattle.sc_columns.specs.Columns.{rows_in, shared_rows};
 
 use crate::builder::RowsBuilder;
 use crate::columns::{Column, Shared, chained, ints, lists, pairs};
+use crate::rows::Rows;
 use sc_value::Held;
 use std::alloc::{AllocError, Global};
 use std::sync::Arc;
+
+impl Rows {
+    /// The same rows in one run: a copy where they are held in several.
+    pub fn joined(&self, alloc: Global) -> Result<Rows, AllocError>
+        ensures { IfOk result (λ r. r ≡ self.now) }
+    {
+        Rows::of_column(joined(alloc, self.column())?)
+    }
+
+    /// The same rows as they are held, run by run. Short runs are put together, for which they are
+    /// copied, so that there are few.
+    pub fn runs(&self, alloc: Global) -> Result<Vec<Rows>, AllocError>
+        ensures { IfOk result (λ v. flat_map (λ run. run) v.items ≡ self.now) }
+    {
+        let mut out = RowsBuilder::new(alloc);
+        add_runs(alloc, self.column(), &mut out)?;
+        out.runs(alloc)
+    }
+}
+
+/// Adds the rows of each run of a column, of which long ones stay by themselves.
+fn add_runs(alloc: Global, column: &Shared, out: &mut RowsBuilder) -> Result<(), AllocError>
+    ensures { OnOk result (out.new ≡ out.old ++ shared_rows column.now) }
+{
+    match &**column {
+        Column::Chain(a, b) => {
+            add_runs(alloc, a, out)?;
+            add_runs(alloc, b, out)
+        }
+        _ => out.add_or_share(alloc, column),
+    }
+}
 
 /// Columns behind one another. The chain is no deeper than it must be.
 pub fn chain_of(alloc: Global, runs: &[Shared]) -> Result<Shared, AllocError>

@@ -24,13 +24,6 @@ impl Rows {
     {
         Rows::of_column(flat(alloc, self.column())?)
     }
-
-    /// The same rows in one run: a copy where they are held in several.
-    pub fn joined(&self, alloc: Global) -> Result<Rows, AllocError>
-        ensures { IfOk result (λ r. r ≡ self.now) }
-    {
-        Rows::of_column(joined(alloc, self.column())?)
-    }
 }
 
 /// The items of all rows that are lists.

@@ -7,12 +7,47 @@ ghost use Rattle.sc_columns.specs.Columns.{rows_in};
 ghost use Rattle.sc_columns.specs.Runs.{is_yes, run_rows};
 
 use crate::adds::{add_bools, add_ints, add_texts};
-use crate::columns::{Column, Shared, same};
+use crate::columns::{Column, Shared, len, same};
 use crate::growing::{put, settle};
 use crate::runs::{Run, is_level};
 use sc_value::is_same;
 use std::alloc::{AllocError, Global};
 use std::sync::Arc;
+
+/// From how many rows on a column is long: to hold it by itself costs less than to copy it.
+const LONG_LEN: usize = 1024;
+
+/// Adds the rows of a column behind a run, unless one of them is long and would be copied for that,
+/// or answers that they don't go together.
+pub fn extend_short(alloc: Global, column: &Shared, run: &mut Run) -> Result<bool, AllocError>
+    ensures { run_rows run.new ≡ (if is_yes result
+        then run_rows run.old ++ rows_in (arc_value column.now) else run_rows run.old) }
+{
+    if copies_long(column, run) {
+        merges(alloc, column, run)
+    } else {
+        extend(alloc, column, run)
+    }
+}
+
+/// Whether a column or a run is long, and copied where the column is added behind the run.
+fn copies_long(column: &Column, run: &Run) -> bool {
+    match run {
+        Run::Empty => false,
+        Run::Lone(held) => is_long(column) || is_long(held),
+        _ => is_long(column),
+    }
+}
+
+/// Whether a column has many rows. Numbers and truth values are never too many: to copy them costs
+/// less than to hold them in pieces.
+fn is_long(column: &Column) -> bool {
+    match column {
+        Column::Ints(_) | Column::Bools(_) => false,
+        Column::Pairs(a, b) => is_long(a) || is_long(b),
+        _ => len(column) >= LONG_LEN,
+    }
+}
 
 /// Adds the rows of a column behind a run, or answers that they don't go together.
 pub fn extend(alloc: Global, column: &Shared, run: &mut Run) -> Result<bool, AllocError>

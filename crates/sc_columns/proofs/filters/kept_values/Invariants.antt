@@ -5,4 +5,5 @@ use Rattle.sc_columns.proofs.filters.kept_values.Given as goal
 
 abbrev pub invariant-loop-i : goal.invariant-loop-i
 invariant-loop-i l =
-    map datum_of l.out.items ++ kept (drop l.i l.marks) (drop l.i (map datum_of l.values)) ≡ kept l.marks (map datum_of l.values)
+    map datum_of l.out.items ++ kept (drop l.i l.marks) (drop l.i (map datum_of l.values))
+    ≡ kept l.marks (map datum_of l.values)

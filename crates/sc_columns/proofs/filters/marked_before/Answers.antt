@@ -10,19 +10,23 @@ loop-i-preserved c =
     elim c.if-marks-i.branch [
       | then-marks-i w ↦ record {
         few = (let few = c.loop-i.invariant.few in omega (arith, w.count-is));
-        kept = λ x. kept_yes c.args.marks.now (replicate c.args.end x) (replicate c.loop-i.count x) (replicate c.if-marks-i.count x) _ c.loop-i.i x m
+        kept = λ x. kept_yes c.args.marks.now (replicate c.args.end x) (replicate c.loop-i.count x)
+            (replicate c.if-marks-i.count x) _ c.loop-i.i x m
             (omega (arith, length-replicate c.args.end x)) w.if-marks-i.true
             (sym (get_or-replicate c.args.end c.loop-i.i x x (omega arith)))
-            (ap (λ n. replicate n x) w.count-is ∙ sym (replicate_more c.loop-i.count x)) (c.loop-i.invariant.kept x);
+            (ap (λ n. replicate n x) w.count-is ∙ sym (replicate_more c.loop-i.count x))
+            (c.loop-i.invariant.kept x);
       }
       | else-marks-i w ↦ record {
         few = (let few = c.loop-i.invariant.few in omega (arith, w.count-is));
-        kept = λ x. kept_no c.args.marks.now (replicate c.args.end x) (replicate c.loop-i.count x) (replicate c.if-marks-i.count x) _ c.loop-i.i m
+        kept = λ x. kept_no c.args.marks.now (replicate c.args.end x) (replicate c.loop-i.count x)
+            (replicate c.if-marks-i.count x) _ c.loop-i.i m
             (omega (arith, length-replicate c.args.end x)) w.if-marks-i.false
             (ap (λ n. replicate n x) w.count-is) (c.loop-i.invariant.kept x);
       }
     ]
 
 pub returns : goal.returns
-returns c = λ x. kept_all c.args.marks.now (replicate c.args.end x) (replicate c.loop-i.count x) _ c.loop-i.i
+returns c = λ x. kept_all c.args.marks.now (replicate c.args.end x) (replicate c.loop-i.count x) _
+    c.loop-i.i
     (omega (arith, length-replicate c.args.end x)) (c.loop-i.invariant.kept x)

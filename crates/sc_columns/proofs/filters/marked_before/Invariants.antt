@@ -6,5 +6,6 @@ use Rattle.sc_columns.proofs.filters.marked_before.Given as goal
 abbrev pub invariant-loop-i : goal.invariant-loop-i
 invariant-loop-i l = record {
   few : l.count ≤ l.i;
-  kept : (x : Datum) → replicate l.count x ++ kept (drop l.i l.marks) (drop l.i (replicate l.end x)) ≡ kept l.marks (replicate l.end x);
+  kept : (x : Datum) → replicate l.count x ++ kept (drop l.i l.marks) (drop l.i (replicate l.end x))
+      ≡ kept l.marks (replicate l.end x);
 }

@@ -30,7 +30,8 @@ find-returns-in-Past-2 t c =
     subst P (sym (at-Pairs c.args.column.now c.in-Pairs.a c.in-Pairs.b c.in-Pairs.is))
     (past-second (rows_in c.in-Pairs.a.value) (rows_in c.in-Pairs.b.value) c.args.i c.in-Past-2.n
     (datum_of c.in-Row.first)
-    (row_inside c.deref.result.now c.in-Pairs.a.value c.args.i c.in_ok-n-in-Pairs.field-0 c.in-Row.first
+    (row_inside c.deref.result.now c.in-Pairs.a.value c.args.i c.in_ok-n-in-Pairs.field-0
+    c.in-Row.first
     c.deref.ensures c.in_ok-n-in-Pairs.ensures c.in-Row.is)
     (past_inside c.deref-in-Row.result.now c.in-Pairs.b.value c.args.i c.in-Past-2.n
     c.in_ok-n-in-Row.field-0 c.deref-in-Row.ensures c.in_ok-n-in-Row.ensures c.in-Past-2.is))
@@ -52,8 +53,10 @@ find-returns-in_ok-list_at-in-Some t c =
     let items = rows_in c.in-Lists.items.value in
     let list = datum_of-List c.in_ok-list_at-in-Some.field-0
     ∙ ap (λ ds. group (items_of ds)) (c.in_ok-list_at-in-Some.ensures
-    ∙ ap (λ x. slice_range (rows_in x) c.in-Some.span.from c.in-Some.span.to) c.deref-in-Some.ensures) in
-    ap (λ r. slice_get r c.args.i) (at-Lists c.args.column.now c.in-Lists.spans c.in-Lists.items c.in-Lists.is)
+    ∙ ap (λ x. slice_range (rows_in x) c.in-Some.span.from c.in-Some.span.to)
+    c.deref-in-Some.ensures) in
+    ap (λ r. slice_get r c.args.i) (at-Lists c.args.column.now c.in-Lists.spans c.in-Lists.items
+    c.in-Lists.is)
     ∙ found-map (group_at items) c.in-Lists.spans c.args.i c.in-Some.span _
     (c.in-Some.ensures ∙ ap (λ s. slice_get s c.args.i) c.as_slice-in-Lists.ensures) list
 
@@ -80,7 +83,8 @@ find-returns-else-i-n t c =
 
 pub find-returns-in-Row-3 : goal.find-returns-in-Row-3
 find-returns-in-Row-3 t c =
-    ap (λ r. slice_get r c.args.i) (at-Chain c.args.column.now c.in-Chain.a c.in-Chain.b c.in-Chain.is)
+    ap (λ r. slice_get r c.args.i) (at-Chain c.args.column.now c.in-Chain.a c.in-Chain.b
+    c.in-Chain.is)
     ∙ slice_get-append_first (rows_in c.in-Chain.a.value) (rows_in c.in-Chain.b.value) c.args.i
     (datum_of c.in-Row-3.value)
     (row_inside c.deref-in-Chain.result.now c.in-Chain.a.value c.args.i
@@ -90,7 +94,8 @@ find-returns-in-Row-3 t c =
 pub find-returns-in-Row-4 : goal.find-returns-in-Row-4
 find-returns-in-Row-4 t c =
     let n = c.in-Past-3.n in
-    ap (λ r. slice_get r c.args.i) (at-Chain c.args.column.now c.in-Chain.a c.in-Chain.b c.in-Chain.is)
+    ap (λ r. slice_get r c.args.i) (at-Chain c.args.column.now c.in-Chain.a c.in-Chain.b
+    c.in-Chain.is)
     ∙ found-behind (rows_in c.in-Chain.a.value) (rows_in c.in-Chain.b.value) c.args.i n
     (datum_of c.in-Row-4.value)
     (past_inside c.deref-in-Chain.result.now c.in-Chain.a.value c.args.i n

@@ -16,14 +16,18 @@ returns-then-done t c =
     let a = rows_in c.in-Pairs-deref.a.value in
     let b = rows_in c.in-Pairs-deref.b.value in
     let rows_are = sym (c.in_ok-settle.ensures ∙ c.in_ok-merges.ensures
-    ∙ ap (λ d. cond d (run_rows c.args.run.now ++ rows_in c.deref.result.now) (run_rows c.args.run.now)) c.if-branch.false)
+    ∙ ap (λ d. cond d (run_rows c.args.run.now ++ rows_in c.deref.result.now)
+    (run_rows c.args.run.now)) c.if-branch.false)
     ∙ run-Pairs c.settle.new.run c.in-Pairs.first c.in-Pairs.second c.in-Pairs.is in
     let more_are = ap rows_in (sym c.deref-in-Pairs.ensures)
-    ∙ at-Pairs c.deref-in-Pairs.result.now c.in-Pairs-deref.a c.in-Pairs-deref.b c.in-Pairs-deref.is in
+    ∙ at-Pairs c.deref-in-Pairs.result.now c.in-Pairs-deref.a c.in-Pairs-deref.b c.in-Pairs-deref.is
+    in
     let level = ap (λ x. length (run_rows x)) (sym c.deref-in-Pairs-deref.ensures)
-    ∙ c.if-not-is_level.ensures refl ∙ ap (λ x. length (run_rows x)) c.deref-in-Pairs-deref-2.ensures in
+    ∙ c.if-not-is_level.ensures refl ∙ ap (λ x. length (run_rows x))
+    c.deref-in-Pairs-deref-2.ensures in
     let grown = c.in-Ok.ensures
-    ∙ ap (λ d. cond d (run_rows c.deref_mut.result.now ++ a) (run_rows c.deref_mut.result.now)) c.if-done.true
+    ∙ ap (λ d. cond d (run_rows c.deref_mut.result.now ++ a) (run_rows c.deref_mut.result.now))
+    c.if-done.true
     ∙ ap (λ x. run_rows x ++ a) c.deref_mut.ensures.value in
     run-Pairs _ _ _ refl
     ∙ pairs_extended first second (run_rows c.extend.new.run) (run_rows c.extend-then-done.new.run)
@@ -39,13 +43,15 @@ returns-else-done t c =
     let second = run_rows c.in-Pairs.second.value in
     let a = rows_in c.in-Pairs-deref.a.value in
     let rows_are = sym (c.in_ok-settle.ensures ∙ c.in_ok-merges.ensures
-    ∙ ap (λ d. cond d (run_rows c.args.run.now ++ rows_in c.deref.result.now) (run_rows c.args.run.now))
+    ∙ ap (λ d. cond d (run_rows c.args.run.now ++ rows_in c.deref.result.now)
+    (run_rows c.args.run.now))
     c.if-branch.false)
     ∙ run-Pairs c.settle.new.run c.in-Pairs.first c.in-Pairs.second c.in-Pairs.is in
     run-Pairs _ _ _ refl
     ∙ ap (λ x. zip_with pair x second)
     (c.in-Ok.ensures
-    ∙ ap (λ d. cond d (run_rows c.deref_mut.result.now ++ a) (run_rows c.deref_mut.result.now)) c.if-done.false
+    ∙ ap (λ d. cond d (run_rows c.deref_mut.result.now ++ a) (run_rows c.deref_mut.result.now))
+    c.if-done.false
     ∙ ap run_rows c.deref_mut.ensures.value)
     ∙ sym rows_are
 
@@ -55,7 +61,8 @@ returns-in-Err t c =
     let second = run_rows c.in-Pairs.second.value in
     let a = rows_in c.in-Pairs-deref.a.value in
     let rows_are = sym (c.in_ok-settle.ensures ∙ c.in_ok-merges.ensures
-    ∙ ap (λ d. cond d (run_rows c.args.run.now ++ rows_in c.deref.result.now) (run_rows c.args.run.now))
+    ∙ ap (λ d. cond d (run_rows c.args.run.now ++ rows_in c.deref.result.now)
+    (run_rows c.args.run.now))
     c.if-branch.false)
     ∙ run-Pairs c.settle.new.run c.in-Pairs.first c.in-Pairs.second c.in-Pairs.is in
     run-Pairs _ _ _ refl

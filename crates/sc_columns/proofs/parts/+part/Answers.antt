@@ -63,7 +63,8 @@ returns-in_ok-held_part-in-Lists t c =
 pub returns-in_ok-try_clone-in-Same : goal.returns-in_ok-try_clone-in-Same
 returns-in_ok-try_clone-in-Same t c =
     IfOk-weaker c.same.result _ _ (λ r is. is
-    ∙ ap (λ v. replicate c.saturating_sub-count.result (datum_of v)) c.in_ok-try_clone-in-Same.ensures
+    ∙ ap (λ v. replicate c.saturating_sub-count.result (datum_of v))
+    c.in_ok-try_clone-in-Same.ensures
     ∙ part-replicate c.in-Same.n c.saturating_sub-count.result (datum_of c.in-Same.v.value)
     (rows_in c.args.column.now) c.args.from c.args.to
     (at-Same c.args.column.now c.in-Same.v c.in-Same.n c.in-Same.is) (omega arith)) c.same.ensures

@@ -29,7 +29,8 @@ write_items-returns-in_err-write_row t c =
     let before = c.loop-k.out.items in
     let between = c.write_separator.new.out.items in
     let within : c.loop-k.k < length (rows_in c.args.items.now) = omega arith in
-    refused _ c.from_residual-in_err-write_row.result old _ _ c.from_residual-in_err-write_row.ensures.1
+    refused _ c.from_residual-in_err-write_row.result old _ _
+    c.from_residual-in_err-write_row.ensures.1
     (kept_more old between _
     (kept_more old before between (kept_behind old _ before c.loop-k.invariant.bytes)
     (kept_behind before _ between c.in_ok-write_separator.ensures.bytes))
@@ -44,7 +45,8 @@ write_items-loop-k-preserved t c =
     let before = c.loop-k.out.items in
     let between = c.write_separator.new.out.items in
     let after = c.write_row.new.out.items in
-    items_written rows c.args.span.from k d.0 c.loop-k.auto.k d.1 c.args.out.now.items before between after
+    items_written rows c.args.span.from k d.0 c.loop-k.auto.k d.1 c.args.out.now.items before
+    between after
     c.loop-k.invariant c.in_ok-write_separator.ensures
     (written-there rows k d.0 between after d.1 (c.in_ok-write_row.ensures within))
 
@@ -65,7 +67,8 @@ write_row-returns-in_err-write_row-in-Pairs t c = λ h.
     let old = c.args.out.now.items in
     let m1 = c.extend_from_slice.new.self.items in
     let are = at-Pairs c.args.column.now c.in-Pairs.a c.in-Pairs.b c.in-Pairs.is in
-    let e = ap length are ∙ length-zip_with pair (rows_in c.in-Pairs.a.value) (rows_in c.in-Pairs.b.value) in
+    let e = ap length are ∙ length-zip_with pair (rows_in c.in-Pairs.a.value)
+    (rows_in c.in-Pairs.b.value) in
     let a = ap (λ x. length (rows_in x)) c.deref.ensures in
     refused _ c.from_residual-in_err-write_row-in-Pairs.result old _ _
     c.from_residual-in_err-write_row-in-Pairs.ensures.1
@@ -79,7 +82,8 @@ write_row-returns-in_err-extend_from_slice-in-Pairs-2 t c = λ h.
     let m1 = c.extend_from_slice.new.self.items in
     let m2 = c.write_row.new.out.items in
     let are = at-Pairs c.args.column.now c.in-Pairs.a c.in-Pairs.b c.in-Pairs.is in
-    let e = ap length are ∙ length-zip_with pair (rows_in c.in-Pairs.a.value) (rows_in c.in-Pairs.b.value) in
+    let e = ap length are ∙ length-zip_with pair (rows_in c.in-Pairs.a.value)
+    (rows_in c.in-Pairs.b.value) in
     let a = ap (λ x. length (rows_in x)) c.deref.ensures in
     let first = c.in_ok-write_row-in-Pairs.ensures (omega (arith, h, e, a)) in
     refused _ c.from_residual-in_err-extend_from_slice-in-Pairs-2.result old _ _
@@ -88,14 +92,16 @@ write_row-returns-in_err-extend_from_slice-in-Pairs-2 t c = λ h.
     ∙ kept_more old m1 m2 (kept_behind old _ m1 c.in_ok-extend_from_slice-in-Pairs.ensures.items)
     (kept_behind m1 _ m2 first.bytes))
 
-pub write_row-returns-in_err-write_row-in-Pairs-2 : goal.write_row-returns-in_err-write_row-in-Pairs-2
+pub write_row-returns-in_err-write_row-in-Pairs-2 :
+    goal.write_row-returns-in_err-write_row-in-Pairs-2
 write_row-returns-in_err-write_row-in-Pairs-2 t c = λ h.
     let old = c.args.out.now.items in
     let m1 = c.extend_from_slice.new.self.items in
     let m2 = c.write_row.new.out.items in
     let m3 = c.extend_from_slice-in-Pairs.new.self.items in
     let are = at-Pairs c.args.column.now c.in-Pairs.a c.in-Pairs.b c.in-Pairs.is in
-    let e = ap length are ∙ length-zip_with pair (rows_in c.in-Pairs.a.value) (rows_in c.in-Pairs.b.value) in
+    let e = ap length are ∙ length-zip_with pair (rows_in c.in-Pairs.a.value)
+    (rows_in c.in-Pairs.b.value) in
     let a = ap (λ x. length (rows_in x)) c.deref.ensures in
     let b = ap (λ x. length (rows_in x)) c.deref-in-Pairs.ensures in
     let first = c.in_ok-write_row-in-Pairs.ensures (omega (arith, h, e, a)) in
@@ -174,5 +180,6 @@ write_row-returns-in-Same t c = λ h.
     let are = at-Same c.args.column.now c.in-Same.value n c.in-Same.is in
     let lens = ap length are ∙ length-replicate n d in
     let text = ap printed (ap datum_of c.deref-in-Same.ensures)
-    ∙ sym (ap (λ r. printed_at r c.args.i) are ∙ printed-copies n c.args.i d (omega (arith, h, lens))) in
+    ∙ sym (ap (λ r. printed_at r c.args.i) are
+    ∙ printed-copies n c.args.i d (omega (arith, h, lens))) in
     writes-text c.write_value.result c.args.out.now.items _ _ _ text c.write_value.ensures

@@ -25,7 +25,8 @@ returns-then-done t c =
     let level = ap (λ x. length (run_rows x)) (sym c.deref.ensures)
     ∙ c.if-not-is_level.ensures refl ∙ ap (λ x. length (run_rows x)) c.deref-in-Pair.ensures in
     let first_grown = c.in-Ok.ensures
-    ∙ ap (λ d. cond d (run_rows c.deref_mut.result.now ++ datum_of c.deref-in-Pair-2.result.now ∷ [])
+    ∙ ap (λ d. cond d (run_rows c.deref_mut.result.now ++ datum_of c.deref-in-Pair-2.result.now ∷
+    [])
     (run_rows c.deref_mut.result.now)) c.if-done.true
     ∙ ap (λ x. run_rows x ++ datum_of c.deref-in-Pair-2.result.now ∷ []) c.deref_mut.ensures.value
     ∙ ap (λ v. first ++ datum_of v ∷ []) c.deref-in-Pair-2.ensures in
@@ -45,7 +46,8 @@ returns-else-done t c =
     run-Pairs _ _ _ refl
     ∙ ap (λ x. zip_with pair x second)
     (c.in-Ok.ensures
-    ∙ ap (λ d. cond d (run_rows c.deref_mut.result.now ++ datum_of c.deref-in-Pair-2.result.now ∷ [])
+    ∙ ap (λ d. cond d (run_rows c.deref_mut.result.now ++ datum_of c.deref-in-Pair-2.result.now ∷
+    [])
     (run_rows c.deref_mut.result.now)) c.if-done.false
     ∙ ap run_rows c.deref_mut.ensures.value)
     ∙ sym rows_are
