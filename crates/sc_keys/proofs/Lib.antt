@@ -1,0 +1,9 @@
+pub mod PlaceLemmas
+pub mod SplitLemmas
+pub mod CutLemmas
+pub mod ViewLemmas
+pub mod LentLemmas
+pub mod LawLemmas
+pub mod GroupLemmas
+pub mod KeyLemmas
+pub mod OrderLemmas

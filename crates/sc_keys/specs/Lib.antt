@@ -1,0 +1,5 @@
+pub mod Keyed
+pub mod Groups
+pub mod Splits
+pub mod Laws
+pub mod Lent

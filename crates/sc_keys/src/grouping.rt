@@ -1,0 +1,93 @@
+//! The groups of rows of one key.
+#![tactic(auto)]
+
+ghost use Rattle.std.specs.Prelude.{◌≡◌, IfOk, map};
+ghost use Rattle.std.specs.Ordering.{int_eq};
+ghost use Rattle.std.specs.Str.{bytes_eq};
+ghost use Rattle.sc_keys.specs.Groups.{AreGroups};
+ghost use Rattle.sc_part.specs.Bounds.{is_same_key};
+ghost use Rattle.sc_value.specs.Views.{key_data_of};
+
+use crate::keyed::Keys;
+use crate::lending::{LentKey, lent};
+use indexmap::IndexSet;
+use sc_value::{Key, Texts};
+use std::alloc::{AllocError, Global};
+
+/// The groups of rows of one key, counted from 0 in order of first appearance.
+#[derive(Drop)]
+pub struct Groups {
+    /// The number of each row's group.
+    pub numbers: Vec<u32>,
+    /// How many groups there are.
+    pub count: u32,
+}
+
+impl Keys {
+    /// The group of each key. More than 2^32 - 1 keys are answered as want of memory.
+    pub fn groups(&self, alloc: Global) -> Result<Groups, AllocError>
+        ensures { IfOk result (λ g. AreGroups is_same_key self.now g.numbers.items g.count) }
+    {
+        if let Some(ints) = self.ints() {
+            return group_ints(alloc, ints);
+        }
+        if let Some(texts) = self.texts() {
+            return group_texts(alloc, texts);
+        }
+        let keys = self.each(alloc)?;
+        group_keys(alloc, &keys)
+    }
+}
+
+/// The groups of numbers.
+fn group_ints(alloc: Global, keys: &[i64]) -> Result<Groups, AllocError>
+    ensures { IfOk result (λ g. AreGroups int_eq keys.now g.numbers.items g.count) }
+{
+    if keys.len() > u32::MAX as usize {
+        return Err(AllocError);
+    }
+    let mut known: IndexSet<i64> = IndexSet::new(alloc);
+    let mut numbers = Vec::with_capacity(alloc, keys.len())?;
+    for i in 0..keys.len() {
+        let (group, _) = known.insert_full(keys[i])?;
+        numbers.push(group as u32)?;
+    }
+    let count = known.len() as u32;
+    Ok(Groups { numbers, count })
+}
+
+/// The groups of texts.
+fn group_texts(alloc: Global, keys: &Texts) -> Result<Groups, AllocError>
+    ensures { IfOk result (λ g. AreGroups bytes_eq keys.now g.numbers.items g.count) }
+{
+    if keys.len() > u32::MAX as usize {
+        return Err(AllocError);
+    }
+    let mut known: IndexSet<&str> = IndexSet::new(alloc);
+    let mut numbers = Vec::with_capacity(alloc, keys.len())?;
+    for i in 0..keys.len() {
+        let (group, _) = known.insert_full(keys.get(i))?;
+        numbers.push(group as u32)?;
+    }
+    let count = known.len() as u32;
+    Ok(Groups { numbers, count })
+}
+
+/// The groups of keys of any kind.
+fn group_keys(alloc: Global, keys: &[Key]) -> Result<Groups, AllocError>
+    ensures { IfOk result
+        (λ g. AreGroups is_same_key (map key_data_of keys.now) g.numbers.items g.count) }
+{
+    if keys.len() > u32::MAX as usize {
+        return Err(AllocError);
+    }
+    let mut known: IndexSet<LentKey<'_>> = IndexSet::new(alloc);
+    let mut numbers = Vec::with_capacity(alloc, keys.len())?;
+    for i in 0..keys.len() {
+        let key = lent(&keys[i]);
+        let (group, _) = known.insert_full(key)?;
+        numbers.push(group as u32)?;
+    }
+    let count = known.len() as u32;
+    Ok(Groups { numbers, count })
+}

@@ -1,0 +1,6 @@
+pub mod OrderLemmas
+pub mod SortLemmas
+pub mod PlaceLemmas
+pub mod PairLemmas
+pub mod BoundLemmas
+mod RangeLemmas
