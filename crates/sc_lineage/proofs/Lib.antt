@@ -2,8 +2,11 @@ pub mod PlaceLemmas
 pub mod ByNodesLemmas
 pub mod ReadLemmas
 pub mod MeaningLemmas
+pub mod CountLemmas
 pub mod FoundLemmas
 pub mod NameLemmas
 pub mod NodeLemmas
 pub mod SoundLemmas
 pub mod WholeLemmas
+pub mod ShuffleLemmas
+pub mod LocalLemmas

@@ -7,26 +7,28 @@ use Rattle.std.proofs.Math.Nat.{div-le_of_le-mul}
 use native.Mathlib.Nat.{mul-le-mul_right}
 use Rattle.sc_base.specs.Lists.{at_or, numbers_from}
 use Rattle.sc_input.specs.Slices.{slice_start}
-use Rattle.sc_lineage.specs.NodeData.{NodeData, text_node, parallelize_node, each_node, union_node, coalesce_node, cache_node}
-use Rattle.sc_lineage.specs.Dependencies.{Dependency, one_to_one, range_behind, grouped, dependencies_of, parents_of, PlaceData, place, place_behind, places_from, places_read, reads_of}
+use Rattle.sc_lineage.specs.NodeData.{NodeData, text_node, parallelize_node, each_node, union_node, coalesce_node, cache_node, shuffle_node, meet_node}
+use Rattle.sc_lineage.specs.Dependencies.{Dependency, one_to_one, range_behind, grouped, shuffled, IsNarrow, dependencies_of, dependencies_by, unless_parted, parents_of, PlaceData, place, place_behind, places_from, places_read, reads_by, reads_of}
+use Rattle.sc_lineage.specs.Partitioners.{PartitionerData, no_partitioner, is_parted_by}
 use Rattle.sc_lineage.specs.ScriptData.{count_step}
 use Rattle.sc_lineage.specs.Views.{place_data_of}
 use Rattle.sc_lineage.specs.declared.dependencies.Place.{Place}
 use Rattle.sc_lineage.proofs.PlaceLemmas.{All-numbers_from, numbers_from-more}
 
 -- what holds of each node that a dependency names
-abbrev HoldsAtParents : (ℕ → Type 0) → Dependency → Type 0
+abbrev pub HoldsAtParents : (ℕ → Type 0) → Dependency → Type 0
 HoldsAtParents P (one_to_one parent) = P parent
 HoldsAtParents P (range_behind parent others) = P parent × All P others
 HoldsAtParents P (grouped parent n) = P parent
+HoldsAtParents P (shuffled parent by) = P parent
 
 -- what holds of each node that some dependencies name
-abbrev HoldAtParents : (ℕ → Type 0) → List Dependency → Type 0
+abbrev pub HoldAtParents : (ℕ → Type 0) → List Dependency → Type 0
 HoldAtParents P [] = Unit {0}
 HoldAtParents P (d ∷ ds) = HoldsAtParents P d × HoldAtParents P ds
 
 -- a node's dependencies name no other nodes than its parents
-hold_at_parents : (P : ℕ → Type 0) (node : NodeData) → All P (parents_of node)
+pub hold_at_parents : (P : ℕ → Type 0) (node : NodeData) → All P (parents_of node)
     → HoldAtParents P (dependencies_of node)
 hold_at_parents P (text_node name n) all = tt
 hold_at_parents P (parallelize_node rows n) all = tt
@@ -37,6 +39,42 @@ hold_at_parents P (union_node left right) all =
     (((first, All-nil P)), ((second, All-cons P left [] first (All-nil P)), tt))
 hold_at_parents P (coalesce_node parent n) all = (All-head P parent [] all, tt)
 hold_at_parents P (cache_node parent) all = (All-head P parent [] all, tt)
+hold_at_parents P (shuffle_node kind parent n) all = (All-head P parent [] all, tt)
+hold_at_parents P (meet_node kind left right n) all =
+    let first : P left = All-head P left (right ∷ []) all in
+    let second : P right = All-head P right [] (All-tail P left (right ∷ []) all) in
+    (first, (second, tt))
+
+-- a dependency that needs no shuffle is on the same parent
+holds_by : (P : ℕ → Type 0) (known : List PartitionerData) (d : Dependency) → HoldsAtParents P d
+    → HoldsAtParents P (unless_parted known d)
+holds_by P known (one_to_one parent) holds = holds
+holds_by P known (range_behind parent others) holds = holds
+holds_by P known (grouped parent n) holds = holds
+holds_by P known (shuffled parent by) holds =
+    decided (is_parted_by by (at_or known parent no_partitioner))
+  where
+    decided : (b : Bool)
+        → HoldsAtParents P (if b then one_to_one parent else shuffled parent by)
+    decided true = holds
+    decided false = holds
+
+pub hold_by : (P : ℕ → Type 0) (known : List PartitionerData) (ds : List Dependency)
+    → HoldAtParents P ds → HoldAtParents P (map (unless_parted known) ds)
+hold_by P known [] hold = tt
+hold_by P known (d ∷ ds) hold = (holds_by P known d hold.0, hold_by P known ds hold.1)
+
+-- of a narrow node nothing is skipped
+pub narrow_by : (known : List PartitionerData) (node : NodeData) → IsNarrow node
+    → dependencies_by known node ≡ dependencies_of node
+narrow_by known (text_node name n) narrow = refl
+narrow_by known (parallelize_node rows n) narrow = refl
+narrow_by known (each_node kind parent e) narrow = refl
+narrow_by known (union_node left right) narrow = refl
+narrow_by known (coalesce_node parent n) narrow = refl
+narrow_by known (cache_node parent) narrow = refl
+narrow_by known (shuffle_node kind parent n) narrow = absurd narrow
+narrow_by known (meet_node kind left right n) narrow = absurd narrow
 
 -- two numbers of partitions for each node
 module _ (counts others : ℕ → ℕ) where
@@ -56,19 +94,34 @@ module _ (counts others : ℕ → ℕ) where
   same_places p (grouped parent n) same =
       ap (λ count. places_from parent (slice_start count (min n count) p)
       (slice_start count (min n count) (p + 1))) same
+  same_places p (shuffled parent by) same = ap (places_from parent 0) same
 
   same_reads : (p : ℕ) (ds : List Dependency) → HoldAtParents (λ q. counts q ≡ others q) ds
-      → flat_map (places_read counts p) ds ≡ flat_map (places_read others p) ds
+      → map (places_read counts p) ds ≡ map (places_read others p) ds
   same_reads p [] same = refl
   same_reads p (d ∷ ds) same =
-      ap₂ (λ xs ys. xs ++ ys) (same_places p d same.0) (same_reads p ds same.1)
+      ap₂ (λ xs xss. xs ∷ xss) (same_places p d same.0) (same_reads p ds same.1)
 
   -- what a partition reads depends on the counts at the parents alone
-  pub reads_by_parents : (node : NodeData) (p : ℕ)
+  pub reads_by_parents : (known : List PartitionerData) (node : NodeData) (p : ℕ)
+      → All (λ q. counts q ≡ others q) (parents_of node)
+      → reads_by known counts node p ≡ reads_by known others node p
+  reads_by_parents known node p same =
+      same_reads p (dependencies_by known node)
+      (hold_by (λ q. counts q ≡ others q) known (dependencies_of node)
+      (hold_at_parents (λ q. counts q ≡ others q) node same))
+
+  same_runs : (p : ℕ) (ds : List Dependency) → HoldAtParents (λ q. counts q ≡ others q) ds
+      → flat_map (places_read counts p) ds ≡ flat_map (places_read others p) ds
+  same_runs p [] same = refl
+  same_runs p (d ∷ ds) same =
+      ap₂ (λ xs ys. xs ++ ys) (same_places p d same.0) (same_runs p ds same.1)
+
+  pub reads_of-parents : (node : NodeData) (p : ℕ)
       → All (λ q. counts q ≡ others q) (parents_of node)
       → reads_of counts node p ≡ reads_of others node p
-  reads_by_parents node p same =
-      same_reads p (dependencies_of node)
+  reads_of-parents node p same =
+      same_runs p (dependencies_of node)
       (hold_at_parents (λ q. counts q ≡ others q) node same)
 
 -- a number of partitions for each node
@@ -95,7 +148,7 @@ module _ (counts : ℕ → ℕ) where
       (All-numbers_from (λ i. P (place parent i)) from (to - from)
       (λ i first last. each i (omega arith) (omega arith)))
 
-  at_parents : (P : ℕ → Type 0) (p : ℕ) (d : Dependency) → HoldsAtParents P d
+  pub at_parents : (P : ℕ → Type 0) (p : ℕ) (d : Dependency) → HoldsAtParents P d
       → All (λ at. P at.node) (places_read counts p d)
   at_parents P p (one_to_one parent) holds =
       All-cons (λ at. P at.node) (place parent p) [] holds (All-nil (λ at. P at.node))
@@ -105,6 +158,8 @@ module _ (counts : ℕ → ℕ) where
   at_parents P p (grouped parent n) holds =
       from_at (λ at. P at.node) parent (slice_start (counts parent) (min n (counts parent)) p)
       (slice_start (counts parent) (min n (counts parent)) (p + 1)) (λ i from to. holds)
+  at_parents P p (shuffled parent by) holds =
+      from_at (λ at. P at.node) parent 0 (counts parent) (λ i from to. holds)
 
   all_at_parents : (P : ℕ → Type 0) (p : ℕ) (ds : List Dependency) → HoldAtParents P ds
       → All (λ at. P at.node) (flat_map (places_read counts p) ds)
@@ -119,11 +174,26 @@ module _ (counts : ℕ → ℕ) where
   reads_at_parents P node p holds =
       all_at_parents P p (dependencies_of node) (hold_at_parents P node holds)
 
+  sides_at_parents : (P : ℕ → Type 0) (p : ℕ) (ds : List Dependency) → HoldAtParents P ds
+      → All (All (λ at. P at.node)) (map (places_read counts p) ds)
+  sides_at_parents P p [] holds = All-nil (All (λ at. P at.node))
+  sides_at_parents P p (d ∷ ds) holds =
+      All-cons (All (λ at. P at.node)) (places_read counts p d) (map (places_read counts p) ds)
+      (at_parents P p d holds.0) (sides_at_parents P p ds holds.1)
+
+  pub reads_by_at_parents : (P : ℕ → Type 0) (known : List PartitionerData) (node : NodeData)
+      (p : ℕ) → All P (parents_of node)
+      → All (All (λ at. P at.node)) (reads_by known counts node p)
+  reads_by_at_parents P known node p holds =
+      sides_at_parents P p (dependencies_by known node)
+      (hold_by P known (dependencies_of node) (hold_at_parents P node holds))
+
   -- a partition of this number reads only partitions that are there, by a dependency
   abbrev HasPartition : ℕ → Dependency → Type 0
   HasPartition p (one_to_one parent) = p < counts parent
   HasPartition p (range_behind parent before) = Unit {0}
   HasPartition p (grouped parent n) = p < min n (counts parent)
+  HasPartition p (shuffled parent by) = Unit {0}
 
   -- the same for some dependencies
   abbrev HavePartition : ℕ → List Dependency → Type 0
@@ -148,6 +218,8 @@ module _ (counts : ℕ → ℕ) where
       from_at IsThere parent (slice_start (counts parent) (min n (counts parent)) p)
       (slice_start (counts parent) (min n (counts parent)) (p + 1))
       (λ i from to. omega (arith, ends))
+  there p (shuffled parent by) has =
+      from_at IsThere parent 0 (counts parent) (λ i from to. omega arith)
 
   all_there : (p : ℕ) (ds : List Dependency) → HavePartition p ds
       → All IsThere (flat_map (places_read counts p) ds)
@@ -168,6 +240,8 @@ have_partition before (each_node kind parent e) p within = (within, tt)
 have_partition before (union_node left right) p within = (tt, (tt, tt))
 have_partition before (coalesce_node parent n) p within = (within, tt)
 have_partition before (cache_node parent) p within = (within, tt)
+have_partition before (shuffle_node kind parent n) p within = (tt, tt)
+have_partition before (meet_node kind left right n) p within = (tt, (tt, tt))
 
 -- a partition that is there reads only partitions that are there
 pub reads_within : (before : List ℕ) (node : NodeData) (p : ℕ) → p < count_step before node
@@ -193,6 +267,8 @@ counts_by_parents before others (coalesce_node parent n) same =
     ap (min n) (All-head (λ q. at_or before q 0 ≡ at_or others q 0) parent [] same)
 counts_by_parents before others (cache_node parent) same =
     All-head (λ q. at_or before q 0 ≡ at_or others q 0) parent [] same
+counts_by_parents before others (shuffle_node kind parent n) same = refl
+counts_by_parents before others (meet_node kind left right n) same = refl
 
 -- one partition more is read
 pub places_from-more : (places more : List Place) (at : Place) (node from i : ℕ) → from ≤ i

@@ -6,7 +6,10 @@ use Rattle.std.specs.Str.{IsUtf8}
 use Rattle.sc_base.specs.Outside.{Files}
 use Rattle.sc_lineage.specs.NodeData.{NodeData}
 use Rattle.sc_lineage.specs.ScriptData.{ActionData, ScriptData, count_step, declared_counts, ReadsBefore, AreWellPlaced, IsCount, node_of_action, partition_limit, IsSoundScript, AreTexts}
-use Rattle.sc_lineage.specs.Views.{node_data_of}
+use Rattle.sc_lineage.specs.ByNodes.{by_nodes}
+use Rattle.sc_lineage.specs.Partitioners.{partitioner_step, partitioners_of}
+use Rattle.sc_lineage.specs.Views.{node_data_of, partitioner_data_of}
+use Rattle.sc_lineage.specs.declared.partitioners.Partitioner.{Partitioner}
 use Rattle.sc_lineage.specs.declared.nodes.Node.{Node}
 use Rattle.sc_lineage.proofs.ByNodesLemmas.{by_nodes-push}
 
@@ -52,39 +55,58 @@ module _ (script : ScriptData) (node : NodeData) where
 abbrev script_of : List Node → List ActionData → ScriptData
 script_of nodes actions = record { nodes = map node_data_of nodes; actions = actions }
 
--- what a script keeps of its nodes, its actions and its numbers of partitions
-abbrev Keeps : List Node → List ActionData → List ℕ → Type 0
-Keeps nodes actions counts =
+-- what a script keeps of its nodes, its actions, its numbers of partitions and its partitioners
+abbrev Keeps : List Node → List ActionData → List ℕ → List Partitioner → Type 0
+Keeps nodes actions counts partitioners =
     IsSoundScript (script_of nodes actions) × (counts ≡ declared_counts (map node_data_of nodes))
+    × (map partitioner_data_of partitioners ≡ partitioners_of (map node_data_of nodes))
 
--- a node is added, with its number of partitions
-pub defined : (script : ScriptData) (nodes more : List Node) (actions : List ActionData)
-    (node : Node) (counts sums : List ℕ) (count : ℕ) → script_of nodes actions ≡ script
-    → Keeps nodes actions counts → more ≡ nodes ++ node ∷ [] → sums ≡ counts ++ count ∷ []
-    → ReadsBefore (length script.nodes) (node_data_of node)
-    → IsCount (partition_limit script)
-    (count_step (declared_counts script.nodes) (node_data_of node))
-    → count ≡ count_step (declared_counts script.nodes) (node_data_of node)
-    → Keeps more actions sums
-defined script nodes more actions node counts sums count view keeps are sum before within counted =
-    let new = node_data_of node in
-    let Sound : ScriptData → Type 0 = λ s. IsSoundScript s in
-    let nodes_are : map node_data_of more ≡ script.nodes ++ new ∷ [] =
-    ap (map node_data_of) are ∙ map-append node_data_of nodes (node ∷ [])
-    ∙ ap (λ (s : ScriptData). s.nodes ++ new ∷ []) view in
-    let longer_is : script_of more actions ≡ longer script new =
-    ap (λ (ns : List NodeData). record { nodes = ns; actions = actions }) nodes_are
-    ∙ ap (λ (s : ScriptData). record { nodes = script.nodes ++ new ∷ []; actions = s.actions })
-    view in
-    let sound = sound-push script new (subst Sound view keeps.0) before within in
-    let counts_are : sums ≡ declared_counts (map node_data_of more) =
-    sum
-    ∙ ap (λ ns. ns ++ count ∷ []) keeps.1
-    ∙ ap (λ (s : ScriptData). declared_counts s.nodes ++ count ∷ []) view
-    ∙ ap (λ n. declared_counts script.nodes ++ n ∷ []) counted
-    ∙ sym (by_nodes-push count_step script.nodes new)
-    ∙ ap declared_counts (sym nodes_are) in
-    (subst Sound (sym longer_is) sound, counts_are)
+-- A node is added, with its number of partitions and its partitioner.
+module _ (script : ScriptData) (nodes more : List Node) (actions : List ActionData) (node : Node)
+    (counts sums : List ℕ) (count : ℕ) (known others : List Partitioner)
+    (partitioner : Partitioner) (view : script_of nodes actions ≡ script)
+    (keeps : Keeps nodes actions counts known) (are : more ≡ nodes ++ node ∷ []) where
+  abbrev new : NodeData
+  new = node_data_of node
+
+  nodes_are : map node_data_of more ≡ script.nodes ++ new ∷ []
+  nodes_are =
+      ap (map node_data_of) are ∙ map-append node_data_of nodes (node ∷ [])
+      ∙ ap (λ (s : ScriptData). s.nodes ++ new ∷ []) view
+
+  -- what is found for the nodes, one more behind
+  found_more : {A : Type 0} (step : List A → NodeData → A) (found behind : List A) (one : A)
+      → found ≡ by_nodes step (map node_data_of nodes) → behind ≡ found ++ one ∷ []
+      → one ≡ step (by_nodes step script.nodes) new
+      → behind ≡ by_nodes step (map node_data_of more)
+  found_more step found behind one before sum is =
+      sum
+      ∙ ap (λ xs. xs ++ one ∷ []) before
+      ∙ ap (λ (s : ScriptData). by_nodes step s.nodes ++ one ∷ []) view
+      ∙ ap (λ x. by_nodes step script.nodes ++ x ∷ []) is
+      ∙ sym (by_nodes-push step script.nodes new)
+      ∙ ap (by_nodes step) (sym nodes_are)
+
+  pub defined : sums ≡ counts ++ count ∷ [] → others ≡ known ++ partitioner ∷ []
+      → ReadsBefore (length script.nodes) new
+      → IsCount (partition_limit script) (count_step (declared_counts script.nodes) new)
+      → count ≡ count_step (declared_counts script.nodes) new
+      → partitioner_data_of partitioner ≡ partitioner_step (partitioners_of script.nodes) new
+      → Keeps more actions sums others
+  defined sum sum_known before within counted rule =
+      let Sound : ScriptData → Type 0 = λ s. IsSoundScript s in
+      let longer_is : script_of more actions ≡ longer script new =
+      ap (λ (ns : List NodeData). record { nodes = ns; actions = actions }) nodes_are
+      ∙ ap (λ (s : ScriptData). record { nodes = script.nodes ++ new ∷ []; actions = s.actions })
+      view in
+      let sound = sound-push script new (subst Sound view keeps.0) before within in (
+        subst Sound (sym longer_is) sound,
+        found_more count_step counts sums count keeps.1 sum counted,
+        found_more partitioner_step (map partitioner_data_of known)
+            (map partitioner_data_of others) (partitioner_data_of partitioner) keeps.2
+            (ap (map partitioner_data_of) sum_known
+            ∙ map-append partitioner_data_of known (partitioner ∷ [])) rule,
+      )
 
 pub AreTexts-append : (inputs : Files) (input : List ℕ × List ℕ) → AreTexts inputs → IsUtf8 input.1
     → AreTexts (inputs ++ input ∷ [])

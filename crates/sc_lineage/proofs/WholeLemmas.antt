@@ -7,13 +7,14 @@ use Rattle.std.proofs.lemmas.Nat.{le-div}
 use Rattle.std.proofs.lemmas.Option.{slice_get_within}
 use Rattle.sc_base.specs.Lists.{at_or, numbers_from, numbers_below}
 use Rattle.sc_input.specs.Slices.{slice_start}
-use Rattle.sc_lineage.specs.NodeData.{NodeData, text_node, parallelize_node, each_node, union_node, coalesce_node, cache_node}
-use Rattle.sc_lineage.specs.Dependencies.{PlaceData, parents_of, place, place_behind, places_from, reads_of}
+use Rattle.sc_lineage.specs.NodeData.{NodeData, text_node, parallelize_node, each_node, union_node, coalesce_node, cache_node, shuffle_node, meet_node}
+use Rattle.sc_lineage.specs.Dependencies.{IsNarrow, PlaceData, parents_of, place, place_behind, places_from, reads_of}
 use Rattle.sc_lineage.specs.Laws.{ReadsAreWhole}
-use Rattle.sc_lineage.specs.Meaning.{stream_count, meanings, part_count}
-use Rattle.sc_lineage.specs.ScriptData.{count_step, declared_counts}
-use Rattle.sc_lineage.proofs.PlaceLemmas.{numbers_from-more}
-use Rattle.sc_lineage.proofs.MeaningLemmas.{count_is_declared, part_count-step, part_count_some, reads_by_declared}
+use Rattle.sc_lineage.specs.Meaning.{stream_count, meanings_by, part_count_by}
+use Rattle.sc_lineage.specs.ScriptData.{count_step}
+use Rattle.sc_lineage.proofs.PlaceLemmas.{at_or-map_any, numbers_from-more}
+use Rattle.sc_lineage.proofs.MeaningLemmas.{parts_of_narrow, part_count-step, reads_by_counts}
+use Rattle.sc_lineage.proofs.CountLemmas.{count_is_some}
 
 -- numbers, and those behind them
 numbers_from-append : (first m n : ℕ)
@@ -182,32 +183,37 @@ no_reads [] = refl
 no_reads (p ∷ numbers) = no_reads numbers
 
 -- by the counts of the nodes before one
-reads_once : (counts : List ℕ) (node : NodeData) → 1 ≤ count_step counts node
+reads_once : (counts : List ℕ) (node : NodeData) → IsNarrow node → 1 ≤ count_step counts node
     → flat_map (reads_of (λ q. at_or counts q 0) node) (numbers_below (count_step counts node))
     ≡ flat_map (λ parent. places_from parent 0 (at_or counts parent 0)) (parents_of node)
-reads_once counts (text_node name n) some = no_reads (numbers_below n)
-reads_once counts (parallelize_node rows n) some = no_reads (numbers_below n)
-reads_once counts (each_node kind parent e) some =
+reads_once counts (text_node name n) narrow some = no_reads (numbers_below n)
+reads_once counts (parallelize_node rows n) narrow some = no_reads (numbers_below n)
+reads_once counts (each_node kind parent e) narrow some =
     let all = places_from parent 0 (at_or counts parent 0) in
     each_once parent (at_or counts parent 0) ∙ sym (append-nil all)
-reads_once counts (union_node left right) some =
+reads_once counts (union_node left right) narrow some =
     both_once left right (at_or counts left 0) (at_or counts right 0)
-reads_once counts (coalesce_node parent n) some =
+reads_once counts (coalesce_node parent n) narrow some =
     let all = places_from parent 0 (at_or counts parent 0) in
     runs_once parent (at_or counts parent 0) (min n (at_or counts parent 0)) some
     ∙ sym (append-nil all)
-reads_once counts (cache_node parent) some =
+reads_once counts (cache_node parent) narrow some =
     let all = places_from parent 0 (at_or counts parent 0) in
     each_once parent (at_or counts parent 0) ∙ sym (append-nil all)
+reads_once counts (shuffle_node kind parent n) narrow some = absurd narrow
+reads_once counts (meet_node kind left right n) narrow some = absurd narrow
 
 pub reads_are_whole : ReadsAreWhole
-reads_are_whole work k node sound is =
-    let counts = declared_counts work.script.nodes in
-    let same : part_count work k ≡ count_step counts node = part_count-step work k node sound is in
-    let known : k < length work.script.nodes = slice_get_within work.script.nodes k node is in
-    ap (flat_map (reads_of (stream_count (meanings work)) node)) (ap numbers_below same)
+reads_are_whole known work k node sound narrow is =
+    let found = meanings_by known work in
+    let counts = map length found in
+    let same : part_count_by known work k ≡ count_step counts node =
+    part_count-step known work k node sound is ∙ parts_of_narrow found counts node narrow in
+    let at : k < length work.script.nodes = slice_get_within work.script.nodes k node is in
+    let some = count_is_some known work sound k at in
+    ap (flat_map (reads_of (stream_count found) node)) (ap numbers_below same)
     ∙ ap (λ (f : ℕ → List PlaceData). flat_map f (numbers_below (count_step counts node)))
-    (λ i. λ p. reads_by_declared work node p i)
-    ∙ reads_once counts node (omega (arith, part_count_some work k sound known))
+    (λ i. λ p. reads_by_counts found node p i)
+    ∙ reads_once counts node narrow (omega arith)
     ∙ ap (λ (f : ℕ → List PlaceData). flat_map f (parents_of node))
-    (λ i. λ parent. places_from parent 0 (sym (count_is_declared work parent) i))
+    (λ i. λ parent. places_from parent 0 (at_or-map_any length found parent [] i))

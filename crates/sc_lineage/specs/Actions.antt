@@ -12,7 +12,7 @@ use Rattle.sc_expr.specs.declared.exprs.Raise.{Raise}
 use Rattle.sc_lineage.specs.declared.nodes.DriverFault.{DriverFault}
 use Rattle.sc_lineage.specs.declared.nodes.DriverFault.TheVariants.{EmptyCollection, Raised}
 use Rattle.sc_lineage.specs.declared.streams.Stream.{Stream}
-use Rattle.sc_lineage.specs.Meaning.{node_streams}
+use Rattle.sc_lineage.specs.Meaning.{local_streams, node_streams}
 use Rattle.sc_lineage.specs.ScriptData.{ActionData, collect_action, count_action, reduce_action, WorkData, node_of_action}
 use Rattle.sc_lineage.specs.Streams.{whole_stream, ended_stream, raises}
 
@@ -89,11 +89,15 @@ outcome_of_results action results =
 abbrev pub outcome_from : ActionData → List Stream → ActionOutcome
 outcome_from action streams = outcome_of_results action (map (result_of action) streams)
 
--- the results of the partitions of an action's node
+-- the results of the partitions of an action's node, by the sequential meaning
 abbrev pub action_results : WorkData → ActionData → List Stream
 action_results work action = map (result_of action) (node_streams work (node_of_action action))
 
--- what an action gives
+-- the results that are computed for the partitions of an action's node
+abbrev pub local_results : WorkData → ActionData → List Stream
+local_results work action = map (result_of action) (local_streams work (node_of_action action))
+
+-- what an action gives, by the sequential meaning
 abbrev pub action_outcome : WorkData → ActionData → ActionOutcome
 action_outcome work action = outcome_from action (node_streams work (node_of_action action))
 

@@ -1,11 +1,14 @@
 pub mod NodeData
 pub mod ByNodes
+pub mod Partitioners
 pub mod Dependencies
 pub mod ScriptData
 pub mod ScriptCode
 pub mod Views
 pub mod Streams
 pub mod Narrow
+pub mod Keyed
+pub mod Shuffles
 pub mod Meaning
 pub mod Actions
 pub mod Targets

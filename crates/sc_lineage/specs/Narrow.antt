@@ -1,5 +1,5 @@
--- What each operation gives: the stream of one partition of a node, from the streams that the
--- partition reads. It knows nothing of where these come from.
+-- What each narrow operation gives: the stream of one partition of a node, from the streams that
+-- the partition reads. It knows nothing of where these come from.
 use Rattle.std.specs.Prelude.{ℕ, List, [], ◌∷◌, map, None, unwrap_or, if◌then◌else◌}
 use Rattle.sc_base.specs.Lists.{content_of}
 use Rattle.sc_base.specs.Outside.{Files}
@@ -12,7 +12,7 @@ use Rattle.sc_expr.specs.Meaning.{one_value, value_of_expr}
 use Rattle.sc_lineage.specs.declared.nodes.Elementwise.{Elementwise}
 use Rattle.sc_lineage.specs.declared.nodes.Elementwise.TheVariants as by
 use Rattle.sc_lineage.specs.declared.streams.Stream.{Stream}
-use Rattle.sc_lineage.specs.NodeData.{NodeData, text_node, parallelize_node, each_node, union_node, coalesce_node, cache_node}
+use Rattle.sc_lineage.specs.NodeData.{NodeData, text_node, parallelize_node, each_node, union_node, coalesce_node, cache_node, shuffle_node, meet_node}
 use Rattle.sc_lineage.specs.Streams.{whole_stream, ended_stream, each_gives, joined_streams}
 
 -- an expression at a row
@@ -49,7 +49,8 @@ abbrev pub of_first : (Stream → Stream) → List Stream → Stream
 of_first f [] = ended_stream None
 of_first f (s ∷ ss) = f s
 
--- the stream of partition p of a node, from inputs and from the streams that it reads
+-- The stream of partition p of a narrow node, from inputs and from the streams that it reads. A
+-- shuffle is none, and has nothing here.
 abbrev pub narrow_stream : Files → NodeData → ℕ → List Stream → Stream
 narrow_stream inputs (text_node name n) p read =
     whole_stream (map text (slice_of (lines_in inputs name) n p))
@@ -58,3 +59,5 @@ narrow_stream inputs (each_node kind parent e) p read = of_first (each_stream ki
 narrow_stream inputs (union_node left right) p read = joined_streams read
 narrow_stream inputs (coalesce_node parent n) p read = joined_streams read
 narrow_stream inputs (cache_node parent) p read = of_first (λ s. s) read
+narrow_stream inputs (shuffle_node kind parent n) p read = ended_stream None
+narrow_stream inputs (meet_node kind left right n) p read = ended_stream None

@@ -6,7 +6,7 @@ use Rattle.sc_base.specs.Lists.{at_or, firsts}
 use Rattle.sc_base.specs.Outside.{Files}
 use Rattle.sc_expr.specs.ExprData.{ExprData}
 use Rattle.sc_lineage.specs.ByNodes.{by_nodes}
-use Rattle.sc_lineage.specs.NodeData.{NodeData, text_node, parallelize_node, each_node, union_node, coalesce_node, cache_node}
+use Rattle.sc_lineage.specs.NodeData.{NodeData, text_node, parallelize_node, each_node, union_node, coalesce_node, cache_node, shuffle_node, meet_node}
 use Rattle.sc_lineage.specs.Dependencies.{parents_of}
 
 -- what is done with a node
@@ -37,6 +37,8 @@ count_step before (each_node kind parent e) = at_or before parent 0
 count_step before (union_node left right) = at_or before left 0 + at_or before right 0
 count_step before (coalesce_node parent n) = min n (at_or before parent 0)
 count_step before (cache_node parent) = at_or before parent 0
+count_step before (shuffle_node kind parent n) = n
+count_step before (meet_node kind left right n) = n
 
 -- the numbers of partitions of nodes, as the grammar counts them
 abbrev pub declared_counts : List NodeData → List ℕ
@@ -83,6 +85,8 @@ names_of_node (each_node kind parent e) = []
 names_of_node (union_node left right) = []
 names_of_node (coalesce_node parent n) = []
 names_of_node (cache_node parent) = []
+names_of_node (shuffle_node kind parent n) = []
+names_of_node (meet_node kind left right n) = []
 
 -- the inputs that a script names, each once and in order of first naming
 abbrev pub input_names : ScriptData → List (List ℕ)

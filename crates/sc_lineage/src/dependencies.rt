@@ -3,7 +3,7 @@
 
 ghost use Rattle.std.specs.Prelude.{◌≡◌, ◌<◌, ◌≤◌, [], ◌∷◌, IfOk, map};
 ghost use Rattle.sc_base.specs.Lists.{at_or};
-ghost use Rattle.sc_lineage.specs.Dependencies.{place, places_from, reads_of};
+ghost use Rattle.sc_lineage.specs.Dependencies.{IsNarrow, place, places_from, reads_of};
 ghost use Rattle.sc_lineage.specs.ScriptData.{count_step};
 ghost use Rattle.sc_lineage.specs.Views.{node_data_of, place_data_of};
 
@@ -20,12 +20,13 @@ pub struct Place {
     pub partition: u32,
 }
 
-/// The partitions that partition `p` of a node reads, in order, where `counts` has the number of
-/// partitions of each node before it. The node has more than `p` partitions.
+/// The partitions that partition `p` of a narrow node reads, in order, where `counts` has the
+/// number of partitions of each node before it. The node has more than `p` partitions.
 ///
 /// After `getParents` of Spark's narrow dependencies.
 pub fn reads(alloc: Global, node: &Node, counts: &[u32], p: u32) -> Result<Vec<Place>, AllocError>
-    requires { p < count_step counts.now (node_data_of node.now) }
+    requires narrow { IsNarrow (node_data_of node.now) }
+    requires partition { p < count_step counts.now (node_data_of node.now) }
     ensures { IfOk result (λ v. map place_data_of v.items
         ≡ reads_of (λ parent. at_or counts.now parent 0) (node_data_of node.now) p) }
 {
@@ -46,11 +47,12 @@ pub fn reads(alloc: Global, node: &Node, counts: &[u32], p: u32) -> Result<Vec<P
             let (from, to) = slice(u64::from(count), u64::from(runs), u64::from(p));
             run_of_places(alloc, *parent, from as u32, to as u32)
         }
+        Node::Shuffle { .. } | Node::Meet { .. } => unreachable!(),
     }
 }
 
 /// The number of partitions of a node, where `counts` has it; else none.
-pub(crate) fn count_at(counts: &[u32], node: NodeId) -> u32
+pub fn count_at(counts: &[u32], node: NodeId) -> u32
     ensures { result ≡ at_or counts.now node 0 }
 {
     match counts.get(node as usize) {

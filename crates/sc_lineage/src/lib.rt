@@ -17,17 +17,20 @@
 
 mod dependencies;
 mod inputs;
+mod keyed_types;
 mod laws;
 mod nodes;
+mod partitioners;
 mod scripts;
 mod streams;
 mod types;
 mod works;
 
-pub use dependencies::{Place, reads};
+pub use dependencies::{Place, count_at, reads};
 pub use inputs::Input;
 pub use laws::meaning_is_lawful;
-pub use nodes::{Action, DriverFault, Elementwise, Node, NodeId};
+pub use nodes::{Action, DriverFault, Elementwise, Meeting, Node, NodeId, Shuffling};
+pub use partitioners::{Partitioner, is_parted_by};
 pub use scripts::{PARTITION_LIMIT, Script};
 pub use streams::Stream;
 pub use types::{action_type, row_type};

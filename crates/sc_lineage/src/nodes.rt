@@ -24,6 +24,31 @@ pub enum Elementwise {
     FlatMapValues,
 }
 
+/// What a shuffle of one parent does with its rows.
+#[derive(Drop)]
+pub enum Shuffling {
+    /// Puts the values under each key together.
+    ReduceByKey {
+        /// The expression over two values.
+        expr: Expr,
+    },
+    /// Gathers the values under each key.
+    GroupByKey,
+    /// Sorts by key: the partitions are ranges of keys.
+    SortByKey,
+    /// Deals the rows out in turn.
+    Repartition,
+}
+
+/// What rows of two parents give that have the same key.
+#[derive(Clone, Copy, Debug, PartialEq, Eq)]
+pub enum Meeting {
+    /// The values of both sides, gathered under each key.
+    Cogroup,
+    /// Each value of the left side with each of the right.
+    Join,
+}
+
 /// A node of the lineage: an RDD with what it is made of.
 #[derive(Drop)]
 pub enum Node {
@@ -68,6 +93,26 @@ pub enum Node {
     Cache {
         /// The node whose partitions they are.
         parent: NodeId,
+    },
+    /// The rows of a parent, shuffled.
+    Shuffle {
+        /// What is done with them.
+        kind: Shuffling,
+        /// The node whose rows they are.
+        parent: NodeId,
+        /// The number of partitions; of a sort the most that it has.
+        partitions: u32,
+    },
+    /// The rows of two parents that have the same keys.
+    Meet {
+        /// What they give.
+        kind: Meeting,
+        /// The node whose rows stand first.
+        left: NodeId,
+        /// The node whose rows stand behind them.
+        right: NodeId,
+        /// The number of partitions.
+        partitions: u32,
     },
 }
 

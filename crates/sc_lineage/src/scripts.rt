@@ -3,10 +3,12 @@
 
 ghost use Rattle.std.specs.Prelude.{◌≡◌, ◌<◌, ◌++◌, [], ◌∷◌, if◌then◌else◌, is_ok, length, map};
 ghost use Rattle.sc_lineage.specs.ScriptData.{ReadsBefore, IsCount, IsSoundScript, count_step, declared_count, declared_counts, node_of_action, partition_limit};
-ghost use Rattle.sc_lineage.specs.Views.{action_data_of, node_data_of};
+ghost use Rattle.sc_lineage.specs.Partitioners.{partitioners_of};
+ghost use Rattle.sc_lineage.specs.Views.{action_data_of, node_data_of, partitioner_data_of};
 
 use crate::dependencies::count_at;
 use crate::nodes::{Action, Node};
+use crate::partitioners::{Partitioner, partitioner_of};
 use std::alloc::{AllocError, Global};
 use std::marker::Model;
 
@@ -19,14 +21,16 @@ pub const PARTITION_LIMIT: u32 = 1024;
 pub struct Script {
     nodes: Vec<Node>,
     counts: Vec<u32>,
+    partitioners: Vec<Partitioner>,
     actions: Vec<Action>,
 }
 
 impl Model for Script {
     ghost use Rattle.std.specs.Prelude.{◌≡◌, map};
     ghost use Rattle.sc_lineage.specs.ScriptData.{ScriptData, IsSoundScript, declared_counts};
+    ghost use Rattle.sc_lineage.specs.Partitioners.{partitioners_of};
     ghost use Rattle.sc_lineage.specs.ScriptCode.{script_code};
-    ghost use Rattle.sc_lineage.specs.Views.{action_data_of, node_data_of};
+    ghost use Rattle.sc_lineage.specs.Views.{action_data_of, node_data_of, partitioner_data_of};
 
     ghost Value = { ScriptData };
 
@@ -40,7 +44,9 @@ impl Model for Script {
     ghost invariant = { λ s. IsSoundScript (record {
       nodes = map node_data_of s.nodes.items;
       actions = map action_data_of s.actions.items;
-    }) × (s.counts.items ≡ declared_counts (map node_data_of s.nodes.items)) };
+    }) × (s.counts.items ≡ declared_counts (map node_data_of s.nodes.items))
+        × (map partitioner_data_of s.partitioners.items
+        ≡ partitioners_of (map node_data_of s.nodes.items)) };
 }
 
 impl Script {
@@ -52,6 +58,7 @@ impl Script {
         Script {
             nodes: Vec::new(alloc),
             counts: Vec::new(alloc),
+            partitioners: Vec::new(alloc),
             actions: Vec::new(alloc),
         }
     }
@@ -68,6 +75,13 @@ impl Script {
         ensures { result.now ≡ declared_counts self.now.nodes }
     {
         self.counts.as_slice()
+    }
+
+    /// The partitioner of each node.
+    pub fn partitioners(&self) -> &[Partitioner]
+        ensures { map partitioner_data_of result.now ≡ partitioners_of self.now.nodes }
+    {
+        self.partitioners.as_slice()
     }
 
     /// The actions, in order.
@@ -104,6 +118,7 @@ impl Script {
             Node::Each { parent, .. } | Node::Cache { parent } => count_at(counts, *parent),
             Node::Union { left, right } => count_at(counts, *left) + count_at(counts, *right),
             Node::Coalesce { parent, partitions } => count_at(counts, *parent).min(*partitions),
+            Node::Shuffle { partitions, .. } | Node::Meet { partitions, .. } => *partitions,
         }
     }
 
@@ -117,9 +132,12 @@ impl Script {
         ensures actions { self.new.actions ≡ self.old.actions }
     {
         let count = self.count_of(&node);
+        let partitioner = partitioner_of(self.partitioners(), &node);
         self.counts.reserve(1)?;
+        self.partitioners.reserve(1)?;
         self.nodes.push(node)?;
         self.counts.push_reserved(count);
+        self.partitioners.push_reserved(partitioner);
         Ok(())
     }
 

@@ -10,6 +10,7 @@ ghost use Rattle.sc_lineage.specs.declared.nodes.Elementwise.TheVariants.{Filter
 ghost use Rattle.sc_lineage.specs.RowTypes.{row_type as type_of_rows, action_type as type_of_action, each_type as type_of_each, item_type as type_of_items, folds_type, items_over, literals_type as type_of_literals, over_value, type_over, where_same as where_equal};
 ghost use Rattle.sc_lineage.specs.Views.{action_data_of, node_data_of};
 
+use crate::keyed_types::{met_type, shuffled_type};
 use crate::nodes::{Action, Elementwise, Node, NodeId};
 use sc_base::OrMemory;
 use sc_columns::Rows;
@@ -40,6 +41,20 @@ pub fn row_type(alloc: Global, types: &[Ty], node: &Node) -> Result<Ty, TypeErro
         }
         Node::Coalesce { parent, .. } | Node::Cache { parent } => {
             Ok(type_at(types, *parent)?.copy(alloc)?)
+        }
+        Node::Shuffle { kind, parent, .. } => {
+            let row = type_at(types, *parent)?;
+            shuffled_type(alloc, kind, row)
+        }
+        Node::Meet {
+            kind,
+            left,
+            right,
+            ..
+        } => {
+            let first = type_at(types, *left)?;
+            let second = type_at(types, *right)?;
+            met_type(alloc, *kind, first, second)
         }
     }
 }
@@ -163,7 +178,7 @@ fn with_key(alloc: Global, key: &Ty, value: Ty) -> Result<Ty, TypeError>
 }
 
 /// The type of what an expression gives of two rows, where it is theirs.
-fn fold_type(alloc: Global, expr: &Expr, row: &Ty) -> Result<Ty, TypeError>
+pub(crate) fn fold_type(alloc: Global, expr: &Expr, row: &Ty) -> Result<Ty, TypeError>
     ensures { Finds type_data_of result
         (folds_type (expr_data_of expr.now) (type_data_of row.now)) }
 {
@@ -172,7 +187,7 @@ fn fold_type(alloc: Global, expr: &Expr, row: &Ty) -> Result<Ty, TypeError>
 }
 
 /// A type again, where another one is the same.
-fn where_same(alloc: Global, a: &Ty, b: &Ty) -> Result<Ty, TypeError>
+pub(crate) fn where_same(alloc: Global, a: &Ty, b: &Ty) -> Result<Ty, TypeError>
     ensures { Finds type_data_of result
         (where_equal (type_data_of a.now) (type_data_of b.now)) }
 {

@@ -1,22 +1,15 @@
 //! A script with its inputs.
 #![tactic(auto)]
 
-ghost use Rattle.std.specs.Prelude.{◌≡◌, ◌<◌, All, IfOk, List, ℕ, Some, length, map, slice_get};
+ghost use Rattle.std.specs.Prelude.{◌≡◌, map};
 ghost use Rattle.std.specs.Option.{option_map};
 ghost use Rattle.sc_base.specs.Lists.{content_of};
 ghost use Rattle.sc_value.specs.Lines.{text_lines};
-ghost use Rattle.sc_lineage.specs.Dependencies.{reads_of};
-ghost use Rattle.sc_lineage.specs.Meaning.{meanings, part_count, stream_count};
-ghost use Rattle.sc_lineage.specs.NodeData.{NodeData};
 ghost use Rattle.sc_lineage.specs.ScriptData.{name_of_input, input_names, AreTexts, IsSoundWork};
-ghost use Rattle.sc_lineage.specs.Views.{place_data_of};
 
-use crate::dependencies::{Place, reads};
 use crate::inputs::Input;
-use crate::nodes::NodeId;
 use crate::scripts::Script;
 use sc_value::{Name, Texts};
-use std::alloc::{AllocError, Global};
 use std::marker::Model;
 
 /// A script with the inputs that it names: by its type each of them is there, once, and is text.
@@ -66,31 +59,6 @@ impl Work {
             ≡ option_map text_lines (content_of self.now.inputs name.now) }
     {
         find(&self.inputs, name)
-    }
-
-    /// The number of partitions of a node.
-    pub fn part_count(&self, node: NodeId) -> u32
-        requires { node < length self.now.script.nodes }
-        ensures { result ≡ part_count self.now node }
-    {
-        self.script.counts()[node as usize]
-    }
-
-    /// The partitions that partition `p` of a node reads, in order. Each is one of an earlier node,
-    /// so what follows them comes to an end.
-    pub fn places_read(&self, alloc: Global, node: NodeId, p: u32) -> Result<Vec<Place>, AllocError>
-        requires node { node < length self.now.script.nodes }
-        requires partition { p < part_count self.now node }
-        ensures places { (kind : NodeData) → slice_get self.now.script.nodes node ≡ Some kind
-            → IfOk result (λ v. map place_data_of v.items
-            ≡ reads_of (stream_count (meanings self.now)) kind p) }
-        ensures before { IfOk result (λ v. All (λ at. at.node < node) v.items) }
-        ensures within { IfOk result
-            (λ v. All (λ at. at.partition < part_count self.now at.node) v.items) }
-    {
-        self.is_sound();
-        let script = &self.script;
-        reads(alloc, &script.nodes()[node as usize], script.counts(), p)
     }
 
     /// What every work keeps.

@@ -1,5 +1,6 @@
 use Rattle.std.proofs.Common.{◌∙◌, [], ◌∷◌, ◌++◌, map, ap}
-use Rattle.sc_lineage.specs.Views.{action_data_of}
+use Rattle.sc_lineage.specs.Partitioners.{partitioner_step}
+use Rattle.sc_lineage.specs.Views.{action_data_of, node_data_of}
 use Rattle.sc_lineage.proofs.SoundLemmas.{defined}
 use Rattle.sc_lineage.proofs.scripts.Script.define.Goals as goal
 
@@ -7,9 +8,15 @@ pub invariant_of-self-2 : goal.invariant_of-self-2
 invariant_of-self-2 c =
     let before = c.self.inside in
     let count = c.count_of-count.result in
+    let partitioner = c.partitioner_of-partitioner.result in
     defined c.args.self.now before.nodes.items c.push.new.self.items
     (map action_data_of before.actions.items) c.args.node before.counts.items
-    c.push_reserved.new.self.items count c.self.view_is c.self.invariant
+    c.push_reserved.new.self.items count before.partitioners.items
+    c.push_reserved-2.new.self.items partitioner c.self.view_is c.self.invariant
     c.in_ok-push.ensures.items
     (c.push_reserved.ensures.items ∙ ap (λ ns. ns ++ count ∷ []) c.in_ok-reserve.ensures.items)
+    (c.push_reserved-2.ensures.items
+    ∙ ap (λ ps. ps ++ partitioner ∷ []) c.in_ok-reserve-2.ensures.items)
     c.requires.before c.requires.count c.count_of-count.ensures
+    (c.partitioner_of-partitioner.ensures
+    ∙ ap (λ ps. partitioner_step ps (node_data_of c.args.node)) c.partitioners.ensures)
