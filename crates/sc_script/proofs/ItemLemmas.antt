@@ -8,7 +8,7 @@ use Rattle.sc_expr.specs.declared.exprs.Expr.{Expr}
 use Rattle.sc_value.specs.Datum.{Datum}
 use Rattle.sc_script.specs.Items.{expr_from, exprs_from, literal_in, literals_in, with_expr, with_literal}
 use Rattle.sc_script.specs.Views.{arg_data_of, args_of}
-use Rattle.sc_script.specs.declared.items.Place.{Place}
+use Rattle.sc_script.specs.declared.arguments.Place.{Place}
 use Rattle.sc_script.specs.declared.trees.Arg.{Arg}
 use Rattle.sc_script.proofs.Taken.{taken-more, taken-all, taken-stopped}
 

@@ -6,7 +6,7 @@ use Rattle.sc_script.proofs.TokenFronts.{token_at_begun, begun_by_read, BeginsWi
 use Rattle.sc_script.proofs.TokenLemmas.{HasTokens-unique, tokens_exist}
 use Rattle.sc_script.specs.Lines.{KeepsLimits}
 use Rattle.sc_script.specs.Parsing.{EndsEarly, IsTokensFault, AreTokensOf}
-use Rattle.sc_script.specs.Limits.{depth_limit, line_limit, word_limit}
+use Rattle.sc_script.specs.Limits.{depth_limit, line_limit}
 use Rattle.sc_script.specs.Tokens.{TokenData, opening, closing, equals, int_token, text_token, word_token, sign_token, is_blank, HasTokens, at_end, at_no_token, behind_blank, behind_token, depth_of, IsShort, AreShort, IsWithinLimits}
 use Rattle.sc_script.specs.TokenReading.{token_at, without_blanks, begins_with_blank, depth_after, IsShortFront, IsFaultOf, Finds, front_of}
 use Rattle.sc_script.specs.declared.tokens.Token.{Token}

@@ -7,10 +7,10 @@ use Rattle.sc_value.specs.Datum.{Datum, number, text}
 use Rattle.sc_expr.specs.declared.exprs.Head.{Head}
 use Rattle.sc_expr.specs.declared.exprs.Variable.TheVariants.{X, A, B}
 use Rattle.sc_expr.specs.ExprData.{ExprData, int_expr, bool_expr, text_expr, variable_expr, call_expr, ExprsData, no_exprs, more_exprs}
-use Rattle.sc_lineage.specs.NodeData.{NodeData, text_node, parallelize_node, each_node, union_node, coalesce_node, cache_node}
+use Rattle.sc_lineage.specs.NodeData.{ShufflingData, reduce_by_key, group_by_key, sort_by_key, repartition, NodeData, text_node, parallelize_node, each_node, union_node, coalesce_node, cache_node, shuffle_node, meet_node}
 use Rattle.sc_lineage.specs.ScriptData.{ActionData, collect_action, count_action, reduce_action}
-use Rattle.sc_script.specs.declared.items.Place.{Place}
-use Rattle.sc_script.specs.declared.items.Place.TheVariants.{Row, Two}
+use Rattle.sc_script.specs.declared.arguments.Place.{Place}
+use Rattle.sc_script.specs.declared.arguments.Place.TheVariants.{Row, Two}
 use Rattle.sc_script.specs.declared.tables.Operation.{Operation}
 use Rattle.sc_script.specs.declared.tables.Operation.TheVariants as by
 use Rattle.sc_script.specs.declared.tables.ActionName.{ActionName}
@@ -139,6 +139,21 @@ abbrev pub of_two : {X Y Z : Type 0} → (X → Y → Z) → Option X → Option
 of_two f (Some x) (Some y) = Some (f x y)
 of_two f x y = None
 
+-- likewise of three
+abbrev pub of_three : {W X Y Z : Type 0}
+    → (W → X → Y → Z) → Option W → Option X → Option Y → Option Z
+of_three f (Some w) (Some x) (Some y) = Some (f w x y)
+of_three f w x y = None
+
+-- a shuffle into so many partitions that puts the values under each key together
+abbrev pub reduced_node : ℕ → ℕ → ExprData → NodeData
+reduced_node parent n e = shuffle_node (reduce_by_key e) parent n
+
+-- the shuffle that arguments make where it takes no expression
+abbrev pub shuffle_from : ℕ → List (List ℕ) → ShufflingData → ArgsData → Option NodeData
+shuffle_from limit names kind args =
+    of_two (shuffle_node kind) (node_arg_at names args 0) (count_arg_at limit args 1)
+
 -- the node that an operation makes of arguments
 abbrev pub node_from : ℕ → List (List ℕ) → Operation → ArgsData → Option NodeData
 node_from limit names by.Text args =
@@ -151,7 +166,16 @@ node_from limit names by.Union args =
     of_two union_node (node_arg_at names args 0) (node_arg_at names args 1)
 node_from limit names by.Coalesce args =
     of_two coalesce_node (node_arg_at names args 0) (count_arg_at limit args 1)
+node_from limit names by.Repartition args = shuffle_from limit names repartition args
 node_from limit names by.Cache args = option_map cache_node (node_arg_at names args 0)
+node_from limit names by.ReduceByKey args =
+    of_three reduced_node (node_arg_at names args 0) (count_arg_at limit args 1)
+    (expr_arg_at Two args 2)
+node_from limit names by.GroupByKey args = shuffle_from limit names group_by_key args
+node_from limit names by.SortByKey args = shuffle_from limit names sort_by_key args
+node_from limit names (by.Meet kind) args =
+    of_three (meet_node kind) (node_arg_at names args 0) (node_arg_at names args 1)
+    (count_arg_at limit args 2)
 
 -- the action that is done with arguments
 abbrev pub action_from : List (List ℕ) → ActionName → ArgsData → Option ActionData

@@ -4,6 +4,7 @@ use Rattle.std.specs.Str.{bytes_eq}
 use Rattle.sc_expr.specs.declared.exprs.Head.{Head}
 use Rattle.sc_expr.specs.declared.exprs.Head.TheVariants as heads
 use Rattle.sc_lineage.specs.declared.nodes.Elementwise.TheVariants as each
+use Rattle.sc_lineage.specs.declared.nodes.Meeting.TheVariants as meet
 use Rattle.sc_script.specs.declared.tables.Operation.{Operation}
 use Rattle.sc_script.specs.declared.tables.Operation.TheVariants as by
 use Rattle.sc_script.specs.declared.tables.ActionName.{ActionName}
@@ -33,7 +34,13 @@ operations =
     ∷ (codes "flatMapValues", by.Each each.FlatMapValues)
     ∷ (codes "union", by.Union)
     ∷ (codes "coalesce", by.Coalesce)
+    ∷ (codes "repartition", by.Repartition)
     ∷ (codes "cache", by.Cache)
+    ∷ (codes "reduceByKey", by.ReduceByKey)
+    ∷ (codes "groupByKey", by.GroupByKey)
+    ∷ (codes "sortByKey", by.SortByKey)
+    ∷ (codes "cogroup", by.Meet meet.Cogroup)
+    ∷ (codes "join", by.Meet meet.Join)
     ∷ []
 
 -- the actions
@@ -90,7 +97,12 @@ operation_kinds by.Parallelize = kinds.Count ∷ kinds.Literals ∷ []
 operation_kinds (by.Each kind) = kinds.Node ∷ kinds.Expr ∷ []
 operation_kinds by.Union = kinds.Node ∷ kinds.Node ∷ []
 operation_kinds by.Coalesce = kinds.Node ∷ kinds.Count ∷ []
+operation_kinds by.Repartition = kinds.Node ∷ kinds.Count ∷ []
 operation_kinds by.Cache = kinds.Node ∷ []
+operation_kinds by.ReduceByKey = kinds.Node ∷ kinds.Count ∷ kinds.Expr ∷ []
+operation_kinds by.GroupByKey = kinds.Node ∷ kinds.Count ∷ []
+operation_kinds by.SortByKey = kinds.Node ∷ kinds.Count ∷ []
+operation_kinds (by.Meet kind) = kinds.Node ∷ kinds.Node ∷ kinds.Count ∷ []
 
 -- what an action takes
 abbrev pub action_kinds : ActionName → List ArgKind

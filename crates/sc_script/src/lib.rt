@@ -12,6 +12,7 @@
 //! What a script means is the lineage's; nothing here runs.
 #![tactic(auto)]
 
+mod arguments;
 mod counts;
 mod defined;
 mod faults;

@@ -7,7 +7,7 @@ ghost use Rattle.sc_script.specs.Views.{head_data_of};
 
 use crate::trees;
 use sc_expr::Head;
-use sc_lineage::Elementwise;
+use sc_lineage::{Elementwise, Meeting};
 
 /// What a definition may be by.
 #[derive(Clone, Copy, Debug, PartialEq, Eq)]
@@ -22,8 +22,18 @@ pub enum Operation {
     Union,
     /// The partitions of a node, put together.
     Coalesce,
+    /// The rows of a node, dealt out in turn.
+    Repartition,
     /// The partitions of a node, worth keeping.
     Cache,
+    /// The values under each key, put together by an expression.
+    ReduceByKey,
+    /// The values under each key, gathered.
+    GroupByKey,
+    /// The rows of a node, sorted by key.
+    SortByKey,
+    /// The rows of two nodes that have the same keys.
+    Meet(Meeting),
 }
 
 /// What an action may be.
@@ -74,7 +84,13 @@ pub fn operation_named(word: &str) -> Option<Operation>
         "flatMapValues" => Some(Operation::Each(Elementwise::FlatMapValues)),
         "union" => Some(Operation::Union),
         "coalesce" => Some(Operation::Coalesce),
+        "repartition" => Some(Operation::Repartition),
         "cache" => Some(Operation::Cache),
+        "reduceByKey" => Some(Operation::ReduceByKey),
+        "groupByKey" => Some(Operation::GroupByKey),
+        "sortByKey" => Some(Operation::SortByKey),
+        "cogroup" => Some(Operation::Meet(Meeting::Cogroup)),
+        "join" => Some(Operation::Meet(Meeting::Join)),
         _ => None,
     }
 }
@@ -150,8 +166,13 @@ pub fn operation_takes(operation: Operation) -> &'static [ArgKind]
         Operation::Parallelize => &[ArgKind::Count, ArgKind::Literals],
         Operation::Each(_) => &[ArgKind::Node, ArgKind::Expr],
         Operation::Union => &[ArgKind::Node, ArgKind::Node],
-        Operation::Coalesce => &[ArgKind::Node, ArgKind::Count],
+        Operation::Coalesce
+        | Operation::Repartition
+        | Operation::GroupByKey
+        | Operation::SortByKey => &[ArgKind::Node, ArgKind::Count],
         Operation::Cache => &[ArgKind::Node],
+        Operation::ReduceByKey => &[ArgKind::Node, ArgKind::Count, ArgKind::Expr],
+        Operation::Meet(_) => &[ArgKind::Node, ArgKind::Node, ArgKind::Count],
     }
 }
 

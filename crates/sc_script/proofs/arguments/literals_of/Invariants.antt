@@ -2,7 +2,7 @@ use Rattle.std.proofs.Common.{◌≡◌}
 use Rattle.sc_script.specs.Items.{literals_in}
 use Rattle.sc_script.specs.Views.{args_left}
 use Rattle.sc_script.proofs.ItemLemmas.{literals_with}
-use Rattle.sc_script.proofs.items.literals_of.Given as goal
+use Rattle.sc_script.proofs.arguments.literals_of.Given as goal
 
 abbrev pub invariant-loop-arg : goal.invariant-loop-arg
 invariant-loop-arg l =

@@ -7,7 +7,7 @@ use Rattle.sc_script.specs.Items.{literal_in, literals_in}
 use Rattle.sc_script.specs.Views.{arg_data_of, args_left}
 use Rattle.sc_script.proofs.ItemLemmas.{literals-more, literals-all, literals-stopped}
 use Rattle.sc_script.proofs.Taken.{not_found}
-use Rattle.sc_script.proofs.items.literals_of.Goals as goal
+use Rattle.sc_script.proofs.arguments.literals_of.Goals as goal
 
 pub returns-in_err-literal : goal.returns-in_err-literal
 returns-in_err-literal c =

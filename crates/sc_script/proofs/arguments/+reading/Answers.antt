@@ -10,7 +10,7 @@ use Rattle.sc_script.specs.Items.{expr_from, exprs_from}
 use Rattle.sc_script.specs.Views.{arg_data_of, args_of}
 use Rattle.sc_script.proofs.ItemLemmas.{exprs-more, exprs-all, exprs-stopped}
 use Rattle.sc_script.proofs.Taken.{not_found}
-use Rattle.sc_script.proofs.items.+reading.Goals as goal
+use Rattle.sc_script.proofs.arguments.+reading.Goals as goal
 
 pub exprs_of-returns-in_err-expr_of : goal.exprs_of-returns-in_err-expr_of
 exprs_of-returns-in_err-expr_of t c =
