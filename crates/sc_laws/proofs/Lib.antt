@@ -1,0 +1,13 @@
+mod StreamLemmas
+mod NarrowLemmas
+mod CoalesceLemmas
+mod SideLemmas
+mod EachLemmas
+mod KeyLemmas
+mod BucketLemmas
+mod PlacedLemmas
+mod SkipLemmas
+mod QuietLemmas
+mod SameLemmas
+mod AgreeLemmas
+mod OutcomeLemmas
