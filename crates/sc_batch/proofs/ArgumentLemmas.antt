@@ -45,7 +45,8 @@ one_row h rest inner (Ok a) is = ap (with_outcome (λ v. v ∷ []) (of_one h a))
 one_row h rest inner (Err r) is = refl
 
 each_one : (h : Head) (f : Datum → Outcome) (ds : List Datum) (end : Option Raise)
-    → until_raise (map (of_one h) (each_until_raise f ds end).rows) (each_until_raise f ds end).raise
+    → until_raise (map (of_one h) (each_until_raise f ds end).rows)
+    (each_until_raise f ds end).raise
     ≡ each_until_raise (λ d. one_outcome h (f d)) ds end
 each_one h f [] end = refl
 each_one h f (d ∷ ds) end =
@@ -115,7 +116,8 @@ each-two h e f ds rest end first second given first_is rest_is second_is is =
     ∙ each_two h e f ds end
 
 -- a head that evaluates all its arguments, as a call of it
-pub each-strict : (h : Head) (es : ExprsData) (ds : List Datum) (end : Option Raise) (given : Stream)
+pub each-strict : (h : Head) (es : ExprsData) (ds : List Datum) (end : Option Raise)
+    (given : Stream)
     → is_lazy h ≡ false
     → given ≡ each_until_raise
     (λ d. strict_outcome (head_value h) (all_values (outcomes_of (one_value d) es))) ds end

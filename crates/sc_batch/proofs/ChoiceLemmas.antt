@@ -36,7 +36,8 @@ module _ (marks : List Bool) (ays nos rest : Stream) (end : Option Raise)
   first_row (Err r) = refl
 
   second_row : (o : Outcome)
-      → stream_from (merged (false ∷ marks) ays.rows ays.raise (with_outcome (λ v. v ∷ []) o nos).rows
+      → stream_from (merged (false ∷ marks) ays.rows ays.raise
+      (with_outcome (λ v. v ∷ []) o nos).rows
       (with_outcome (λ v. v ∷ []) o nos).raise end)
       ≡ with_outcome (λ v. v ∷ []) o rest
   second_row (Ok n) = ap (with_rows (n ∷ [])) is
@@ -45,7 +46,8 @@ module _ (marks : List Bool) (ays nos rest : Stream) (end : Option Raise)
 -- where the test gave this truth value
 chosen_by : (b : Bool) (e f : Datum → Outcome) (d : Datum) (ays nos : List Datum)
     (marks : List Bool) (rest : Stream) (end : Option Raise)
-    → stream_from (merged marks (each_until_raise e ays None).rows (each_until_raise e ays None).raise
+    → stream_from (merged marks (each_until_raise e ays None).rows
+    (each_until_raise e ays None).raise
     (each_until_raise f nos None).rows (each_until_raise f nos None).raise end) ≡ rest
     → stream_from (merged (b ∷ marks)
     (each_until_raise e (if b then d ∷ ays else ays) None).rows
@@ -58,7 +60,8 @@ chosen_by true e f d ays nos marks rest end is =
 chosen_by false e f d ays nos marks rest end is =
     second_row marks (each_until_raise e ays None) (each_until_raise f nos None) rest end is (f d)
 
-chosen_row : (e f : Datum → Outcome) (d : Datum) (ds : List Datum) (rest test : Stream) (o : Outcome)
+chosen_row : (e f : Datum → Outcome) (d : Datum) (ds : List Datum) (rest test : Stream)
+    (o : Outcome)
     → chosen_parts e f ds test ≡ rest
     → chosen_parts e f (d ∷ ds) (with_outcome (λ v. v ∷ []) o test)
     ≡ with_outcome (λ v. v ∷ []) (chosen o (e d) (f d)) rest
@@ -96,7 +99,8 @@ each-chosen c e f ds rest some others marks unmarked end test ays nos given
     nos_are ∙ ap (λ l. each_until_raise f l None)
     (others_are ∙ ap (λ bs. kept bs rest) (unmarked_are ∙ ap (map not) marks_are)
     ∙ ap (kept (map not m)) r) in
-    is ∙ ap (λ bs. stream_from (merged bs ays.rows ays.raise nos.rows nos.raise test.raise)) marks_are
+    is ∙ ap (λ bs. stream_from (merged bs ays.rows ays.raise nos.rows nos.raise test.raise))
+    marks_are
     ∙ ap (λ (s : Stream). stream_from (merged m s.rows s.raise nos.rows nos.raise test.raise)) y
     ∙ ap (λ (s : Stream). stream_from (merged m (each_until_raise e (kept m left) None).rows
     (each_until_raise e (kept m left) None).raise s.rows s.raise test.raise)) n
@@ -157,7 +161,8 @@ module _ {X : Type 0} (marks : List Bool) (ays : List X) (yend : Option Raise) (
       → IsMergedTo marks ays yend nos nend end after (i + 1) j (k + 1)
   merged-second x after within mark at more =
       one_more x after _ more
-      (ap (λ m. merged m (drop j ays) yend (drop k nos) nend end) (mark_at marks i false within mark)
+      (ap (λ m. merged m (drop j ays) yend (drop k nos) nend end)
+      (mark_at marks i false within mark)
       ∙ ap (λ ys. merged (false ∷ drop (i + 1) marks) (drop j ays) yend ys nend end)
       (item_at nos k x at))
 
@@ -206,7 +211,8 @@ merged-map k (false ∷ marks) ays (n ∷ nos) yend nend end =
 
 -- a merge of typed columns, as one of their rows
 pub merged_typed : {X : Type 0} (k : X → Datum) (marks : List Bool) (ays nos : List X)
-    (first second : List Datum) (yend nend end : Option Raise) → first ≡ map k ays → second ≡ map k nos
+    (first second : List Datum) (yend nend end : Option Raise) → first ≡ map k ays → second
+    ≡ map k nos
     → stream_from (as_rows k (merged marks ays yend nos nend end))
     ≡ stream_from (merged marks first yend second nend end)
 merged_typed k marks ays nos first second yend nend end are also =

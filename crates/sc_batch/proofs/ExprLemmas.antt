@@ -15,7 +15,8 @@ use Rattle.sc_batch.specs.Choices.{outcomes_in}
 
 -- what a text stands for as an expression
 pub expr_data_of-Text : (t : List ℕ) → expr_data_of (Text t) ≡ text_expr t
-expr_data_of-Text t = ap expr_data_of (sym (rolls-Text t)) ∙ fold-roll-Expr ExprData expr_step (layers.Text t)
+expr_data_of-Text t = ap expr_data_of (sym (rolls-Text t))
+    ∙ fold-roll-Expr ExprData expr_step (layers.Text t)
 
 -- expressions of which there is one
 pub one_of : (xs : List Expr) (x : Expr) → length xs ≡ 1 → x ≡ get_or xs 0 x → xs ≡ x ∷ []

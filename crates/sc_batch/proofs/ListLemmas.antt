@@ -48,7 +48,8 @@ each-len rows lists end are =
     ∙ of_typed_one (of_one heads.Len) (group_at lists.items) lists.spans rows end are.are
 
 -- the sum of a range of numbers
-sum : (ns : List ℤ) (s : Span) → of_one heads.Sum (group_at (map number ns) s) ≡ Ok (number (span_sum ns s))
+sum : (ns : List ℤ) (s : Span) → of_one heads.Sum (group_at (map number ns) s)
+    ≡ Ok (number (span_sum ns s))
 sum ns s =
     let n = s.to - s.from in
     ap (λ ds. Ok (number (sum_onto (pos 0) ds)))
@@ -66,7 +67,8 @@ each-sum ns rows lists end are items =
     (are.are ∙ ap (λ ds. map (group_at ds) lists.spans) items)
 
 -- the item at a place
-item-found : (ds : List Datum) (k : ℕ) → k < length ds → item_at ds k ≡ Ok (get_or ds k (truth false))
+item-found : (ds : List Datum) (k : ℕ) → k < length ds → item_at ds k
+    ≡ Ok (get_or ds k (truth false))
 item-found [] k within = absurd (omega arith)
 item-found (d ∷ ds) zero within = refl
 item-found (d ∷ ds) (suc k) within = item-found ds k (omega arith)
@@ -128,7 +130,8 @@ abbrev pub nths : List Datum → List ℤ → List Outcome
 nths rows ks = zip_with (of_two heads.Nth) rows (map number ks)
 
 module _ (rows : List Datum) (lists : Lists) (are : AreLists rows lists) (ks : List ℤ)
-    (i : ℕ) (s : Span) (z : ℤ) (span : slice_get lists.spans i ≡ Some s) (at : slice_get ks i ≡ Some z) where
+    (i : ℕ) (s : Span) (z : ℤ) (span : slice_get lists.spans i ≡ Some s)
+    (at : slice_get ks i ≡ Some z) where
   range : IsRange (length lists.items) s
   range =
       let here : get_or lists.spans i s ≡ s = get_or_from_slice_get lists.spans i s s span in
@@ -137,7 +140,8 @@ module _ (rows : List Datum) (lists : Lists) (are : AreLists rows lists) (ks : L
 
   here : slice_get (nths rows ks) i ≡ Some (nth_value (slice_range lists.items s.from s.to) z)
   here =
-      slice_get-zip_with (of_two heads.Nth) rows (map number ks) i (group_at lists.items s) (number z)
+      slice_get-zip_with (of_two heads.Nth) rows (map number ks) i (group_at lists.items s)
+      (number z)
       (ap (λ ds. slice_get ds i) are.are ∙ at-map (group_at lists.items) lists.spans i s span)
       (at-map number ks i z at)
       ∙ ap (λ ds. Some (nth_value ds z)) (list_of-items_of (slice_range lists.items s.from s.to))
@@ -149,7 +153,8 @@ module _ (rows : List Datum) (lists : Lists) (are : AreLists rows lists) (ks : L
   nth-found p places after is more =
       let found = there lists.items s range z p is in
       let d = get_or lists.items p (truth false) in
-      adds_value (nths rows ks) i _ d (picked lists.items places) (picked lists.items after) here found.1
+      adds_value (nths rows ks) i _ d (picked lists.items places) (picked lists.items after) here
+      found.1
       (ap (picked lists.items) more
       ∙ filter_map-append (slice_get lists.items) places (p ∷ [])
       ∙ ap (λ o. picked lists.items places ++ cons_option o [])
@@ -158,9 +163,11 @@ module _ (rows : List Datum) (lists : Lists) (are : AreLists rows lists) (ks : L
   pub nth-place : (p : ℕ) (places after : List ℕ) → place_in s z ≡ Some p → after ≡ places ++ p ∷ []
       → ArePlaces lists.items places → ArePlaces lists.items after
   nth-place p places after is more all =
-      rw more (All-push (λ q. q < length lists.items) places p all (there lists.items s range z p is).0)
+      rw more (All-push (λ q. q < length lists.items) places p all
+      (there lists.items s range z p is).0)
 
   -- a place that is none
   pub nth-missing : (out : List Datum) → place_in s z ≡ None
       → IfSome (slice_get (nths rows ks) i) (AddsOutcome out out (Some OutOfRange))
-  nth-missing out is = adds_raise (nths rows ks) i _ OutOfRange out here (missing lists.items s range z is)
+  nth-missing out is = adds_raise (nths rows ks) i _ OutOfRange out here
+      (missing lists.items s range z is)

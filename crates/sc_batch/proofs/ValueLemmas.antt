@@ -86,7 +86,8 @@ zipped_more f xs ys out after i x y at also before more =
     more ∙ ap (λ o. o ++ f x y ∷ []) before
     ∙ ap (λ z. take i (zip_with f xs ys) ++ z ∷ [])
     (sym (get_or_from_slice_get (zip_with f xs ys) i (f x y) (f x y) here))
-    ∙ sym (take_more (zip_with f xs ys) i (f x y) (slice_get_within (zip_with f xs ys) i (f x y) here))
+    ∙ sym (take_more (zip_with f xs ys) i (f x y)
+    (slice_get_within (zip_with f xs ys) i (f x y) here))
 
 pub zipped_all : {X Y Z : Type 0} (f : X → Y → Z) (xs : List X) (ys : List Y) (out : List Z) (i : ℕ)
     → out ≡ take i (zip_with f xs ys) → min (length xs) (length ys) ≤ i → out ≡ zip_with f xs ys
@@ -104,17 +105,20 @@ pub adds_raise : (os : List Outcome) (i : ℕ) (o : Outcome) (r : Raise) (before
     → slice_get os i ≡ Some o → o ≡ Err r
     → IfSome (slice_get os i) (AddsOutcome before before (Some r))
 adds_raise os i o r before at is =
-    some_fact (AddsOutcome before before (Some r)) (slice_get os i) (Err r) (at ∙ ap Some is) (refl, refl)
+    some_fact (AddsOutcome before before (Some r)) (slice_get os i) (Err r) (at ∙ ap Some is)
+    (refl, refl)
 
 -- the parts of pairs
 firsts : (xs ys : List Datum) (end : Option Raise) → length xs ≡ length ys
-    → record { rows = xs; raise = end } ≡ until_raise (map (of_one heads.Fst) (zip_with pair xs ys)) end
+    → record { rows = xs; raise = end } ≡ until_raise (map (of_one heads.Fst) (zip_with pair xs ys))
+    end
 firsts [] ys end len = refl
 firsts (x ∷ xs) [] end len = absurd (omega arith)
 firsts (x ∷ xs) (y ∷ ys) end len = ap (with_rows (x ∷ [])) (firsts xs ys end (omega arith))
 
 seconds : (xs ys : List Datum) (end : Option Raise) → length xs ≡ length ys
-    → record { rows = ys; raise = end } ≡ until_raise (map (of_one heads.Snd) (zip_with pair xs ys)) end
+    → record { rows = ys; raise = end } ≡ until_raise (map (of_one heads.Snd) (zip_with pair xs ys))
+    end
 seconds [] [] end len = refl
 seconds [] (y ∷ ys) end len = absurd (omega arith)
 seconds (x ∷ xs) [] end len = absurd (omega arith)
@@ -134,7 +138,8 @@ each-second rows both end pairs =
 
 -- pairs of two columns
 pub each-pair : (xs ys : List Datum) (end : Option Raise)
-    → record { rows = zip_with pair xs ys; raise = end } ≡ until_raise (zip_with (of_two heads.Pair) xs ys) end
+    → record { rows = zip_with pair xs ys; raise = end }
+    ≡ until_raise (zip_with (of_two heads.Pair) xs ys) end
 each-pair [] ys end = refl
 each-pair (x ∷ xs) [] end = refl
 each-pair (x ∷ xs) (y ∷ ys) end = ap (with_rows (pair x y ∷ [])) (each-pair xs ys end)

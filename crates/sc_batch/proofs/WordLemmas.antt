@@ -84,7 +84,8 @@ up_to us ts end = record {
   raise = cond (ltb (length us) (length ts)) (Some OutOfRange) end;
 }
 
-item_row : (t : List ℕ) (us ts : List (List ℕ)) (end : Option Raise) (rest : Stream) (o : Option (List ℕ))
+item_row : (t : List ℕ) (us ts : List (List ℕ)) (end : Option Raise) (rest : Stream)
+    (o : Option (List ℕ))
     → up_to us ts end ≡ rest
     → up_to (in_front o us) (t ∷ ts) end ≡ with_outcome (λ v. v ∷ []) (found o) rest
 item_row t us ts end rest None is =
@@ -100,7 +101,8 @@ nth_stream : (g : List ℕ → List (List ℕ)) (k : ℕ) (ts : List (List ℕ))
     ≡ until_raise (map (λ t. of_two heads.Nth (texts_value (g t)) (number (pos k))) ts) end
 nth_stream g k [] end = refl
 nth_stream g k (t ∷ ts) end =
-    let rest = until_raise (map (λ (u : List ℕ). of_two heads.Nth (texts_value (g u)) (number (pos k))) ts) end in
+    let rest = until_raise (map (λ (u : List ℕ). of_two heads.Nth (texts_value (g u))
+    (number (pos k))) ts) end in
     item_row t (until_none (λ u. slice_get (g u) k) ts) ts end rest (slice_get (g t) k)
     (nth_stream g k ts end)
     ∙ ap (λ o. with_outcome (λ v. v ∷ []) o rest) (sym (nth_of_texts (g t) k))

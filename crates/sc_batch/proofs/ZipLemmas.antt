@@ -16,7 +16,8 @@ at-map f xs i x is = slice_get-map f xs i ∙ ap (option_map f) is
 pub some_fact : {X : Type 0} (P : X → Type 0) (o : Option X) (x : X) → o ≡ Some x → P x → IfSome o P
 some_fact {X = X} P o x is p = subst (λ (q : Option X). IfSome q P) (sym is) p
 
-pub fact_of_some : {X : Type 0} (P : X → Type 0) (o : Option X) (x : X) → o ≡ Some x → IfSome o P → P x
+pub fact_of_some : {X : Type 0} (P : X → Type 0) (o : Option X) (x : X) → o ≡ Some x → IfSome o P
+    → P x
 fact_of_some {X = X} P o x is p = subst (λ (q : Option X). IfSome q P) is p
 
 -- a range from the front
@@ -48,7 +49,8 @@ zip_with-replicate f (x ∷ xs) (suc n) y = ap (λ zs. f x y ∷ zs) (zip_with-r
 pub take-min : {X : Type 0} (xs : List X) (n : ℕ) → take (min (length xs) n) xs ≡ take n xs
 take-min [] zero = refl
 take-min [] (suc n) = ap (λ m. take m []) (let e : min 0 (suc n) ≡ 0 = omega arith in e)
-take-min (x ∷ xs) zero = ap (λ m. take m (x ∷ xs)) (let e : min (suc (length xs)) 0 ≡ 0 = omega arith in e)
+take-min (x ∷ xs) zero = ap (λ m. take m (x ∷ xs))
+    (let e : min (suc (length xs)) 0 ≡ 0 = omega arith in e)
 take-min (x ∷ xs) (suc n) =
     ap (λ m. take m (x ∷ xs))
     (let e : min (suc (length xs)) (suc n) ≡ suc (min (length xs) n) = omega arith in e)

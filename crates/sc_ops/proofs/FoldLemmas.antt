@@ -1,5 +1,5 @@
 -- Rows put together, in two runs and number by number.
-use Rattle.std.proofs.Common.{◌≡◌, ◌∙◌, ℕ, ℤ, ◌+◌, List, [], ◌∷◌, ◌++◌, Some, Ok, Err, fold, length, map, drop, refl, ap, sym}
+use Rattle.std.proofs.Common.{◌≡◌, ◌∙◌, ℕ, ℤ, ◌+◌, List, [], ◌∷◌, ◌++◌, Some, Ok, Err, fold, map, drop, refl, ap, sym}
 use Rattle.std.proofs.lemmas.List.{drop_more}
 use Rattle.std.proofs.lemmas.Option.{slice_get_within, get_or_from_slice_get}
 use Rattle.std.specs.List.{slice_get}
@@ -18,7 +18,6 @@ use Rattle.sc_expr.specs.Meaning.{two_values, value_of_expr}
 use Rattle.sc_expr.specs.declared.exprs.Raise.{Raise}
 use Rattle.sc_lineage.specs.Actions.{fold_from, folded}
 use Rattle.sc_ops.specs.Folds.{FoldsInts, put_together}
-use Rattle.sc_ops.specs.Runs.{IsRunAt}
 use Rattle.sc_ops.specs.declared.int_folds.IntFold.{IntFold}
 
 -- two runs of rows
@@ -92,26 +91,20 @@ folded-held e f value n first last rows items folds is same are done =
     ∙ ap (folded e (number first)) are ∙ folded-ints e f first items folds
     ∙ ap (λ m. Ok (number m)) (sym done)
 
-run_put : (e : ExprData) (a : Datum) (rows run : List Datum) (from : ℕ) → IsRunAt rows from run
-    → folded e a (drop from rows)
-    ≡ fold_from (λ c. folded e c (drop (from + length run) rows)) (folded e a run)
-run_put e a rows run from at =
-    ap (folded e a) at.are ∙ folded-append e a run (drop (from + length run) rows)
+run_put : (e : ExprData) (a : Datum) (rows run rest : List Datum) → rows ≡ run ++ rest
+    → folded e a rows ≡ fold_from (λ c. folded e c rest) (folded e a run)
+run_put e a rows run rest are = ap (folded e a) are ∙ folded-append e a run rest
 
--- one run more
-pub folded-run : (e : ExprData) (a c first : Datum) (rows run : List Datum) (from : ℕ)
-    → IsRunAt rows from run
-    → folded e a run ≡ Ok c → folded e first (drop 1 rows) ≡ folded e a (drop from rows)
-    → folded e first (drop 1 rows) ≡ folded e c (drop (from + length run) rows)
-folded-run e a c first rows run from at is so_far =
-    so_far ∙ run_put e a rows run from at
-    ∙ ap (fold_from (λ b. folded e b (drop (from + length run) rows))) is
+-- rows in front of others
+pub folded-run : (e : ExprData) (a c : Datum) (rows run rest : List Datum) (whole : Outcome)
+    → rows ≡ run ++ rest
+    → folded e a run ≡ Ok c → whole ≡ folded e a rows → whole ≡ folded e c rest
+folded-run e a c rows run rest whole are is so_far =
+    so_far ∙ run_put e a rows run rest are ∙ ap (fold_from (λ b. folded e b rest)) is
 
--- a run that raises
-pub folded-run_raised : (e : ExprData) (a first : Datum) (rows run : List Datum) (from : ℕ)
-    (r : Raise) → IsRunAt rows from run
-    → folded e a run ≡ Err r → folded e first (drop 1 rows) ≡ folded e a (drop from rows)
-    → folded e first (drop 1 rows) ≡ Err r
-folded-run_raised e a first rows run from r at is so_far =
-    so_far ∙ run_put e a rows run from at
-    ∙ ap (fold_from (λ b. folded e b (drop (from + length run) rows))) is
+-- rows in front of others raise
+pub folded-run_raised : (e : ExprData) (a : Datum) (rows run rest : List Datum) (whole : Outcome)
+    (r : Raise) → rows ≡ run ++ rest
+    → folded e a run ≡ Err r → whole ≡ folded e a rows → whole ≡ Err r
+folded-run_raised e a rows run rest whole r are is so_far =
+    so_far ∙ run_put e a rows run rest are ∙ ap (fold_from (λ b. folded e b rest)) is

@@ -1,7 +1,7 @@
--- What rows give one after another: from a stream of values, in two runs, and from a place on.
-use Rattle.std.proofs.Common.{◌≡◌, ◌∙◌, ℕ, ◌+◌, ◌≤◌, true, false, List, [], ◌∷◌, ◌++◌, Option, Some, None, Ok, Err, length, map, take, drop, refl, ap, sym, arith}
+-- What rows give one after another: from a stream of values, and in two runs.
+use Rattle.std.proofs.Common.{◌≡◌, ◌∙◌, ℕ, ◌≤◌, true, false, List, [], ◌∷◌, ◌++◌, Option, Some, None, Ok, Err, length, map, take, drop, refl, ap, sym, arith}
 use Rattle.std.proofs.lemmas.Bool.{false≢true}
-use Rattle.std.proofs.lemmas.List.{append_assoc, append-nil, drop_all, take-append-drop}
+use Rattle.std.proofs.lemmas.List.{append_assoc, take-append-drop}
 use Rattle.std.specs.Option.{is_some}
 use Rattle.sc_value.specs.Datum.{Datum}
 use Rattle.sc_expr.specs.Heads.{Outcome}
@@ -9,7 +9,6 @@ use Rattle.sc_expr.specs.declared.exprs.Raise.{Raise}
 use Rattle.sc_lineage.specs.declared.streams.Stream.{Stream}
 use Rattle.sc_lineage.specs.Streams.{with_rows, with_outcome, each_gives, each_until_raise, unless_raised, joined_streams}
 use Rattle.sc_ops.specs.Given.{all_given}
-use Rattle.sc_ops.specs.Runs.{IsRunAt}
 
 -- what rows give with a stream of values beside them
 abbrev pub given_beside : (Datum → Datum → List Datum) → List Datum → Stream → Stream
@@ -90,65 +89,55 @@ joined_streams-append (s ∷ ss) ts =
         ap (with_rows rows) is ∙ with_rows-unless_raised rows first.rows first.raise rest
     behind rows (Some r) first rest whole is = refl
 
--- one run of rows from a place on
-rest_of : (given : Datum → Datum → List Datum) (f : Datum → Outcome) (rows run : List Datum)
-    (end : Option Raise) (from : ℕ)
-    → IsRunAt rows from run
-    → each_gives given f (drop from rows) end
+-- rows in front of others
+rest_of : (given : Datum → Datum → List Datum) (f : Datum → Outcome) (rows run rest : List Datum)
+    (end : Option Raise)
+    → rows ≡ run ++ rest
+    → each_gives given f rows end
     ≡ unless_raised (each_gives given f run None).rows (each_gives given f run None).raise
-    (each_gives given f (drop (from + length run) rows) end)
-rest_of given f rows run end from at =
-    ap (λ ds. each_gives given f ds end) at.are
-    ∙ each_gives-append given f run (drop (from + length run) rows) end
+    (each_gives given f rest end)
+rest_of given f rows run rest end are =
+    ap (λ ds. each_gives given f ds end) are ∙ each_gives-append given f run rest end
 
 raise_or_none : (end : Option Raise) (P : Option Raise → Type 0) → is_some end ≡ false → P None
     → P end
 raise_or_none None P no_raise at = at
 raise_or_none (Some r) P no_raise at = absurd (false≢true (sym no_raise))
 
--- a run that raises nothing
+-- rows in front of others raise nothing
 pub run-more : (given : Datum → Datum → List Datum) (f : Datum → Outcome)
-    (rows run out after : List Datum) (end : Option Raise) (from : ℕ) (s whole : Stream)
-    → IsRunAt rows from run → s ≡ each_gives given f run None → is_some s.raise ≡ false
+    (rows run rest out after : List Datum) (end : Option Raise) (s whole : Stream)
+    → rows ≡ run ++ rest → s ≡ each_gives given f run None → is_some s.raise ≡ false
     → after ≡ out ++ s.rows
-    → whole ≡ with_rows out (each_gives given f (drop from rows) end)
-    → whole ≡ with_rows after (each_gives given f (drop (from + length run) rows) end)
-run-more given f rows run out after end from s whole at is none added so_far =
-    let rest = each_gives given f (drop (from + length run) rows) end in
-    so_far ∙ ap (with_rows out) (rest_of given f rows run end from at)
-    ∙ ap (λ (t : Stream). with_rows out (unless_raised t.rows t.raise rest)) (sym is)
-    ∙ raise_or_none s.raise (λ o. with_rows out (unless_raised s.rows o rest)
-    ≡ with_rows (out ++ s.rows) rest) none
-    (with_rows-unless_raised out s.rows None rest)
-    ∙ ap (λ ds. with_rows ds rest) (sym added)
+    → whole ≡ with_rows out (each_gives given f rows end)
+    → whole ≡ with_rows after (each_gives given f rest end)
+run-more given f rows run rest out after end s whole are is none added so_far =
+    let behind = each_gives given f rest end in
+    so_far ∙ ap (with_rows out) (rest_of given f rows run rest end are)
+    ∙ ap (λ (t : Stream). with_rows out (unless_raised t.rows t.raise behind)) (sym is)
+    ∙ raise_or_none s.raise (λ o. with_rows out (unless_raised s.rows o behind)
+    ≡ with_rows (out ++ s.rows) behind) none
+    (with_rows-unless_raised out s.rows None behind)
+    ∙ ap (λ ds. with_rows ds behind) (sym added)
 
 raise_stays : (end : Option Raise) (before rows : List Datum) (rest : Stream) → is_some end ≡ true
     → with_rows before (unless_raised rows end rest) ≡ record { rows = before ++ rows; raise = end }
 raise_stays None before rows rest raised = absurd (false≢true raised)
 raise_stays (Some r) before rows rest raised = refl
 
--- a run that raises
+-- rows in front of others raise
 pub run-raised : (given : Datum → Datum → List Datum) (f : Datum → Outcome)
-    (rows run out after : List Datum) (end : Option Raise) (from : ℕ) (s whole : Stream)
-    → IsRunAt rows from run → s ≡ each_gives given f run None → is_some s.raise ≡ true
+    (rows run rest out after : List Datum) (end : Option Raise) (s whole : Stream)
+    → rows ≡ run ++ rest → s ≡ each_gives given f run None → is_some s.raise ≡ true
     → after ≡ out ++ s.rows
-    → whole ≡ with_rows out (each_gives given f (drop from rows) end)
+    → whole ≡ with_rows out (each_gives given f rows end)
     → record { rows = after; raise = s.raise } ≡ whole
-run-raised given f rows run out after end from s whole at is some added so_far =
-    let rest = each_gives given f (drop (from + length run) rows) end in
-    sym (so_far ∙ ap (with_rows out) (rest_of given f rows run end from at)
-    ∙ ap (λ (t : Stream). with_rows out (unless_raised t.rows t.raise rest)) (sym is)
-    ∙ raise_stays s.raise out s.rows rest some
+run-raised given f rows run rest out after end s whole are is some added so_far =
+    let behind = each_gives given f rest end in
+    sym (so_far ∙ ap (with_rows out) (rest_of given f rows run rest end are)
+    ∙ ap (λ (t : Stream). with_rows out (unless_raised t.rows t.raise behind)) (sym is)
+    ∙ raise_stays s.raise out s.rows behind some
     ∙ ap (λ ds. record { rows = ds; raise = s.raise }) (sym added))
-
--- all rows
-pub runs-all : (given : Datum → Datum → List Datum) (f : Datum → Outcome) (rows out : List Datum)
-    (end : Option Raise) (from : ℕ) (whole : Stream)
-    → length rows ≤ from → whole ≡ with_rows out (each_gives given f (drop from rows) end)
-    → record { rows = out; raise = end } ≡ whole
-runs-all given f rows out end from whole past so_far =
-    sym (so_far ∙ ap (λ ds. with_rows out (each_gives given f ds end)) (drop_all from rows past)
-    ∙ ap (λ ds. record { rows = ds; raise = end }) (append-nil out))
 
 -- the first half of some streams raises
 pub joined-raised : (ss : List Stream) (i : ℕ) (first : Stream) → first ≡ joined_streams (take i ss)

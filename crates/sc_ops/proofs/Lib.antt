@@ -1,3 +1,4 @@
+pub mod BatchLemmas
 pub mod FoldLemmas
 pub mod GivenLemmas
 pub mod KindLemmas

@@ -1,28 +1,8 @@
--- What is read of rows: a run of them, or one after another.
-use Rattle.std.proofs.Common.{◌≡◌, ◌∙◌, ℕ, ◌+◌, ◌<◌, ◌≤◌, List, [], ◌∷◌, ◌++◌, Some, length, map, take, drop, ap, sym, arith}
+-- What is read of rows one after another.
+use Rattle.std.proofs.Common.{◌≡◌, ◌∙◌, ℕ, ◌+◌, ◌≤◌, List, [], ◌∷◌, ◌++◌, Some, length, map, take, ap, sym}
 use Rattle.std.proofs.lemmas.List.{map_more, take_all}
-use Rattle.std.proofs.lemmas.List.Folds.{drop_split}
 use Rattle.std.proofs.lemmas.Option.{slice_get_within, get_or_from_slice_get}
-use Rattle.std.specs.List.{slice_get, slice_range}
-use Rattle.sc_value.specs.Datum.{Datum}
-use Rattle.sc_value.proofs.SpanLemmas.{length-slice_range}
-use Rattle.sc_ops.specs.Runs.{IsRunAt}
-
--- rows from a place up to another
-pub run_at : (rows run : List Datum) (from len : ℕ) → 0 < len → from + len ≤ length rows
-    → run ≡ slice_range rows from (from + len) → IsRunAt rows from run
-run_at rows run from len some within is =
-    let many : length run ≡ len =
-    ap length is ∙ length-slice_range rows from (from + len) within ∙ omega arith in
-    record {
-      some = omega arith;
-      within = omega arith;
-      are = (let split : drop from rows
-          ≡ slice_range rows from (from + len) ++ drop (from + len) rows =
-          drop_split rows from (from + len) (omega arith) in
-          split ∙ ap (λ ds. ds ++ drop (from + len) rows) (sym is)
-          ∙ ap (λ n. run ++ drop (from + n) rows) (sym many));
-    }
+use Rattle.std.specs.List.{slice_get}
 
 -- one more was read
 pub read-more : {X Y : Type 0} (f : X → Y) (xs : List X) (ys after : List Y) (x : X) (y : Y) (i : ℕ)

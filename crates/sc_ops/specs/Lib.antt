@@ -1,4 +1,3 @@
 pub mod Folds
 pub mod Given
-pub mod Runs
 pub mod Slices

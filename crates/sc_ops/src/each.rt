@@ -1,7 +1,7 @@
 //! An operation on each row of a stream.
 #![tactic(auto)]
 
-ghost use Rattle.std.specs.Prelude.{◌≡◌, IfOk, map};
+ghost use Rattle.std.specs.Prelude.{◌≡◌, ◌<◌, IfOk, map};
 ghost use Rattle.sc_value.specs.Kept.{kept};
 ghost use Rattle.sc_value.specs.Views.{datum_of};
 ghost use Rattle.sc_expr.specs.Heads.{truth_in};
@@ -10,7 +10,7 @@ ghost use Rattle.sc_lineage.specs.Narrow.{at_row, each_stream as stream_of_each,
 ghost use Rattle.sc_lineage.specs.Streams.{each_gives};
 ghost use Rattle.sc_lineage.specs.declared.nodes.Elementwise.TheVariants.{Filter, FlatMap};
 
-use crate::batches::{BATCH_ROWS, batch_at};
+use crate::batches::{BATCH_ROWS, RUN_ROWS, batches};
 use crate::keyed::{flat_map_values, map_values};
 use sc_batch::eval_rows;
 use sc_columns::{Rows, RowsBuilder};
@@ -32,18 +32,49 @@ pub fn each_stream(
     if rows.len() <= BATCH_ROWS {
         return each_batch(alloc, kind, expr, &rows.joined(alloc)?, input.raise);
     }
+    let batches = batches(alloc, rows, rows_at_once(kind, expr))?;
     let mut out = RowsBuilder::new(alloc);
-    let mut from = 0;
-    while from < rows.len() {
-        let batch = batch_at(alloc, rows, from)?;
-        let given = each_batch(alloc, kind, expr, &batch, None)?;
+    for i in 0..batches.len() {
+        let given = each_batch(alloc, kind, expr, &batches[i], None)?;
         out.append(alloc, &given.rows)?;
         if given.raise.is_some() {
             return finished(alloc, out, given.raise);
         }
-        from += batch.len();
     }
     finished(alloc, out, input.raise)
+}
+
+/// How many rows are taken at a time: many where each goes through one head, which makes no column
+/// in between.
+fn rows_at_once(kind: Elementwise, expr: &Expr) -> usize
+    ensures { 0 < result }
+{
+    match kind {
+        Elementwise::Map => {
+            if is_nested(expr) {
+                BATCH_ROWS
+            } else {
+                RUN_ROWS
+            }
+        }
+        _ => BATCH_ROWS,
+    }
+}
+
+/// Whether an expression calls a head with what another one gives.
+fn is_nested(expr: &Expr) -> bool {
+    match expr {
+        Expr::Call(_, args) => args.iter().any(|arg| is_call(arg)),
+        _ => false,
+    }
+}
+
+/// Whether an expression is a head with arguments.
+fn is_call(expr: &Expr) -> bool {
+    match expr {
+        Expr::Call(_, _) => true,
+        _ => false,
+    }
 }
 
 /// Rows that are done, with what ended them.

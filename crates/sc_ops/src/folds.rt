@@ -9,7 +9,7 @@ ghost use Rattle.sc_expr.specs.Views.{expr_data_of};
 ghost use Rattle.sc_lineage.specs.Actions.{folded, folded_stream, row_of_outcome};
 ghost use Rattle.sc_ops.specs.Folds.{fold_of};
 
-use crate::batches::batch_at;
+use crate::batches::{BATCH_ROWS, batches};
 use crate::int_folds::fold_as_ints;
 use crate::streams::ended;
 use sc_base::OrMemory;
@@ -72,12 +72,10 @@ fn fold_behind(alloc: Global, expr: &Expr, first: Value, rows: &Rows) -> Result<
     ensures { Answers datum_of (λ r. r) result
         (folded (expr_data_of expr.now) (datum_of first) (drop 1 rows.now)) }
 {
+    let rest = batches(alloc, &rows.part(alloc, 1, rows.len())?, BATCH_ROWS)?;
     let mut value = first;
-    let mut from = 1;
-    while from < rows.len() {
-        let batch = batch_at(alloc, rows, from)?;
-        value = fold_batch(alloc, expr, value, &batch)?;
-        from += batch.len();
+    for i in 0..rest.len() {
+        value = fold_batch(alloc, expr, value, &rest[i])?;
     }
     Ok(value)
 }

@@ -13,8 +13,8 @@ use crate::streams::{ended, share};
 use sc_lineage::{Node, NodeId, Stream, Work};
 use std::alloc::{AllocError, Global};
 
-/// The stream of partition `p` of a node, where `inputs` are the streams of the parents' partitions
-/// that it reads, in order.
+/// The stream of partition `p` of a narrow node, where `inputs` are the streams of the parents'
+/// partitions that it reads, in order. A node that is made by a shuffle has nothing here.
 pub fn run_node(
     alloc: Global,
     work: &Work,
@@ -59,5 +59,6 @@ fn run(
             Some(input) => share(input),
             None => ended(alloc, None),
         },
+        Node::Shuffle { .. } | Node::Meet { .. } => ended(alloc, None),
     }
 }

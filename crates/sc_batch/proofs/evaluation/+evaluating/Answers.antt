@@ -61,7 +61,8 @@ eval_chosen-returns t c =
     (c.in_ok-filter.ensures ∙ ap (λ m. kept m rest) c.deref-2.ensures.value)
     (c.in_ok-filter-2.ensures ∙ ap (λ m. kept m rest) c.deref-3.ensures.value)
     c.in_ok-yes.ensures c.in_ok-no.ensures
-    (c.in_ok-choose.ensures ∙ ap (λ m. stream_from (merged m ays.rows ays.raise nos.rows nos.raise test.raise))
+    (c.in_ok-choose.ensures ∙ ap (λ m. stream_from
+    (merged m ays.rows ays.raise nos.rows nos.raise test.raise))
     c.deref-4.ensures.value)
 
 pub eval_column-returns-in_ok-constant-in-Text : goal.eval_column-returns-in_ok-constant-in-Text
@@ -91,7 +92,8 @@ eval_strict-returns-in_ok-one_column-in-len1 t c =
     (λ d. strict_outcome (head_value h) (all_values (outcomes_in es d))) c.args.rows.now c.args.end)
     (sym (sym c.as_slice.ensures.value ∙ one))
 
-pub eval_strict-returns-in_ok-two_columns-in-len2 : goal.eval_strict-returns-in_ok-two_columns-in-len2
+pub eval_strict-returns-in_ok-two_columns-in-len2 :
+    goal.eval_strict-returns-in_ok-two_columns-in-len2
 eval_strict-returns-in_ok-two_columns-in-len2 t c =
     let h = c.args.head in
     let xs = c.as_slice.result.now in

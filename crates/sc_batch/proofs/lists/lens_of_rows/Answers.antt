@@ -14,5 +14,6 @@ returns-in-Some c =
     let are = fact_of_some (AreLists rows) c.in_ok-lists.field-0 lists c.in-Some.is
     c.in_ok-lists.ensures in
     IfOk-weaker c.span_lens.result _ _ (λ s is. is
-    ∙ ap (λ ss. record { rows = map number (map span_len ss); raise = c.args.end }) c.as_slice.ensures
+    ∙ ap (λ ss. record { rows = map number (map span_len ss); raise = c.args.end })
+    c.as_slice.ensures
     ∙ each-len rows lists c.args.end are) c.span_lens.ensures

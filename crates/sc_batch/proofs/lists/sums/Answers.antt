@@ -15,5 +15,6 @@ returns-in-Some-as_ints c =
     let are = fact_of_some (AreLists rows) c.in_ok-lists.field-0 lists c.in-Some.is
     c.in_ok-lists.ensures in
     IfOk-weaker c.span_sums.result _ _ (λ s is. is
-    ∙ ap (λ ss. record { rows = map number (map (span_sum ns) ss); raise = c.args.end }) c.as_slice.ensures
+    ∙ ap (λ ss. record { rows = map number (map (span_sum ns) ss); raise = c.args.end })
+    c.as_slice.ensures
     ∙ each-sum ns rows lists c.args.end are c.in-Some-as_ints.ensures) c.span_sums.ensures

@@ -10,7 +10,8 @@ use Rattle.sc_batch.proofs.lists.word_counts.Goals as goal
 pub loop-i-preserved : goal.loop-i-preserved
 loop-i-preserved c =
     let out = c.loop-i.out.items in
-    mapped_more count_of_words c.args.texts.now out c.push.new.self.items c.loop-i.i c.get.result.now
+    mapped_more count_of_words c.args.texts.now out c.push.new.self.items c.loop-i.i
+    c.get.result.now
     c.get.ensures c.loop-i.invariant
     (c.in_ok-push.ensures.items ∙ ap (λ n. out ++ n ∷ [])
     (count_as_number c.word_count-count.result (omega arith) ∙ ap pos c.word_count-count.ensures))

@@ -14,7 +14,8 @@ loop-i-preserved c =
     elim c.if-marks-i.branch [
       | then-marks-i+else-from_yes-len+in_ok-push w ↦
           rw (w.from_yes-is, w.from_no-is, w.out-is) (record {
-            are = merged-first marks ays c.args.yes_end nos c.args.no_end c.args.end out.texts c.loop-i.i
+            are = merged-first marks ays c.args.yes_end nos c.args.no_end c.args.end out.texts
+                c.loop-i.i
                 c.loop-i.from_yes c.loop-i.from_no c.loop-i.invariant.are w.at.result.now
                 w.push.new.self.texts within w.if-marks-i.true w.at.ensures
                 (w.in_ok-push.ensures.texts
@@ -23,9 +24,12 @@ loop-i-preserved c =
           })
       | else-marks-i+else-from_no-len+in_ok-push-2 w ↦
           rw (w.from_yes-is, w.from_no-is, w.out-is) (record {
-            are = merged-second marks ays c.args.yes_end nos c.args.no_end c.args.end out.texts c.loop-i.i
-                c.loop-i.from_yes c.loop-i.from_no c.loop-i.invariant.are w.at-else-marks-i.result.now
-                w.push-else-marks-i.new.self.texts within w.if-marks-i.false w.at-else-marks-i.ensures
+            are = merged-second marks ays c.args.yes_end nos c.args.no_end c.args.end out.texts
+                c.loop-i.i
+                c.loop-i.from_yes c.loop-i.from_no c.loop-i.invariant.are
+                w.at-else-marks-i.result.now
+                w.push-else-marks-i.new.self.texts within w.if-marks-i.false
+                w.at-else-marks-i.ensures
                 (w.in_ok-push-2.ensures.texts
                 ∙ ap (λ o. out.texts ++ (o ++ w.at-else-marks-i.result.now) ∷ [])
                 c.loop-i.invariant.none_open);

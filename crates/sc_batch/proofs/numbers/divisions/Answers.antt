@@ -47,7 +47,8 @@ loop-i-preserved c =
     omega (arith, length-zip_with f (list_in c.args.m) (list_in c.args.n)) in
     rows-more os c.args.end out (map number c.push.new.self.items) None c.loop-i.i within
     c.loop-i.invariant
-    (adds_value os c.loop-i.i _ (number c.in-Some.q) out (map number c.push.new.self.items) here given
+    (adds_value os c.loop-i.i _ (number c.in-Some.q) out (map number c.push.new.self.items) here
+    given
     (ap (map number) c.in_ok-push-in-Some.ensures.items
     ∙ map_push number c.loop-i.out.items _
     ∙ ap (λ z. out ++ number z ∷ []) (to_z-of_z w64 c.in-Some.q q))) refl
@@ -57,7 +58,8 @@ returns c =
     let xs = list_in c.args.m in
     let ys = list_in c.args.n in
     let os = zip_with (division c.args.rest) xs ys in
-    let past : length os ≤ c.loop-i.i = omega (arith, length-zip_with (division c.args.rest) xs ys) in
+    let past : length os ≤ c.loop-i.i = omega (arith, length-zip_with (division c.args.rest) xs ys)
+    in
     IfOk-weaker c.ints-2.result _ _ (λ s is. is
     ∙ rows-all os c.args.end (map number c.loop-i.out.items) c.loop-i.i past c.loop-i.invariant)
     c.ints-2.ensures

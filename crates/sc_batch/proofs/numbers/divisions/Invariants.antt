@@ -7,4 +7,5 @@ use Rattle.sc_batch.proofs.numbers.divisions.Given as goal
 
 abbrev pub invariant-loop-i : goal.invariant-loop-i
 invariant-loop-i l =
-    IsDoneTo (zip_with (division l.rest) (list_in l.m) (list_in l.n)) l.end (map number l.out.items) l.i
+    IsDoneTo (zip_with (division l.rest) (list_in l.m) (list_in l.n)) l.end (map number l.out.items)
+    l.i

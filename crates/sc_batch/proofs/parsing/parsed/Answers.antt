@@ -36,7 +36,8 @@ returns-in-Err c =
     let out = map number c.loop-i.out.items in
     let r = c.raise_of.result in
     let here = at-map f c.args.texts.now c.loop-i.i c.get.result.now c.get.ensures in
-    let raised = ap number_value (sym c.parse_int.ensures ∙ c.in-Err.is) ∙ ap Err (sym c.raise_of.ensures) in
+    let raised = ap number_value (sym c.parse_int.ensures ∙ c.in-Err.is)
+    ∙ ap Err (sym c.raise_of.ensures) in
     let within : c.loop-i.i < length os = omega (arith, length-map c.args.texts.now f) in
     let same = rows-raised os c.args.end out out (Some r) c.loop-i.i within c.loop-i.invariant
     (adds_raise os c.loop-i.i _ r out here raised) refl in

@@ -42,7 +42,8 @@ returns-in-None c =
     c.loop-i.invariant.done
     (nth-missing rows lists c.requires ks i s z span c.at.ensures out none) refl in
     IfOk-weaker c.picked.result _ _ (λ t is. is
-    ∙ ap (λ ps. record { rows = picked lists.items ps; raise = Some OutOfRange }) c.deref.ensures.value
+    ∙ ap (λ ps. record { rows = picked lists.items ps; raise = Some OutOfRange })
+    c.deref.ensures.value
     ∙ same) c.picked.ensures
 
 pub loop-i-preserved : goal.loop-i-preserved

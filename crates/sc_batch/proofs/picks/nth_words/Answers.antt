@@ -14,7 +14,8 @@ returns c =
     ∙ ap (λ m. min m n) c.len.ensures) in
     let ends = c.ended-raise.ensures
     ∙ ap (λ m. cond (ltb m c.len-3.result) (Some OutOfRange) c.args.end) c.len-2.ensures
-    ∙ ap (λ m. cond (ltb (length c.in_ok-found.found) m) (Some OutOfRange) c.args.end) c.len-3.ensures in
+    ∙ ap (λ m. cond (ltb (length c.in_ok-found.found) m) (Some OutOfRange) c.args.end)
+    c.len-3.ensures in
     IfOk-weaker c.texts.result _ _ (λ s is. is
     ∙ each-nth words_of c.args.place.at n all c.in_ok-some.some c.in_ok-found.found c.args.end
     c.ended-raise.result some_are c.in_ok-found.ensures ends) c.texts.ensures

@@ -5,4 +5,5 @@ use Rattle.sc_batch.proofs.TextLemmas.{AreWritten}
 use Rattle.sc_batch.proofs.texts.concatenated.Given as goal
 
 abbrev pub invariant-loop-i : goal.invariant-loop-i
-invariant-loop-i l = AreWritten l.out (take l.i (zip_with joined (texts_in l.first) (texts_in l.second)))
+invariant-loop-i l = AreWritten l.out (take l.i
+    (zip_with joined (texts_in l.first) (texts_in l.second)))

@@ -45,7 +45,8 @@ returns-in_ok-texts-in-Concat c =
     let xs = texts_in c.args.first in
     let ys = texts_in c.args.second in
     c.in_ok-texts-in-Concat.ensures
-    ∙ ap (λ ts. record { rows = map text ts; raise = c.args.end }) c.in_ok-concatenated-in-Concat.ensures
+    ∙ ap (λ ts. record { rows = map text ts; raise = c.args.end })
+    c.in_ok-concatenated-in-Concat.ensures
     ∙ each-zipped (λ x y. of_two heads.Concat (text x) (text y)) text joined (λ x y. refl)
     xs ys c.args.end
     ∙ ap (λ h. until_raise (zip_with (λ x y. of_two h (text x) (text y)) xs ys) c.args.end)

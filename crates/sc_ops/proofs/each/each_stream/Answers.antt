@@ -1,8 +1,8 @@
-use Rattle.std.proofs.Common.{◌≡◌, ◌∙◌, ℕ, ◌+◌, drop, sym, subst}
+use Rattle.std.proofs.Common.{◌∙◌, ◌+◌, arith, drop, sym}
 use Rattle.std.proofs.lemmas.Result.{IfOk-weaker}
 use Rattle.sc_expr.specs.Views.{expr_data_of}
 use Rattle.sc_lineage.specs.Narrow.{at_row, each_stream, element_of, given_of}
-use Rattle.sc_lineage.specs.Streams.{each_gives, with_rows}
+use Rattle.sc_ops.proofs.BatchLemmas.{all_rows, next_batch}
 use Rattle.sc_ops.proofs.GivenLemmas.{run-more, run-raised}
 use Rattle.sc_ops.proofs.each.each_stream.Goals as goal
 
@@ -11,24 +11,28 @@ returns-then-is_some c =
     let e = expr_data_of c.args.expr.now in
     let kind = c.args.kind in
     let input = c.args.input.now in
-    let same = run-raised (given_of kind) (λ d. at_row e (element_of kind d)) input.rows
-    c.in_ok-batch.batch c.loop-from.out c.append.new.self
-    input.raise c.loop-from.from c.in_ok-given.given (each_stream kind e input)
-    c.in_ok-batch.ensures c.in_ok-given.ensures (sym c.if-is_some.ensures) c.in_ok-append.ensures
-    c.loop-from.invariant in
+    let batches = c.in_ok-batches.batches.items in
+    let i = c.loop-i.i in
+    let batch = c.index.result.now in
+    let same = run-raised (given_of kind) (λ d. at_row e (element_of kind d))
+    (all_rows (drop i batches)) batch (all_rows (drop (i + 1) batches))
+    c.loop-i.out c.append.new.self input.raise c.in_ok-given.given (each_stream kind e input)
+    (next_batch batches batch i (omega arith) c.index.ensures)
+    c.in_ok-given.ensures (sym c.if-is_some.ensures) c.in_ok-append.ensures
+    c.loop-i.invariant in
     IfOk-weaker c.finished.result _ _ (λ s is. is ∙ same) c.finished.ensures
 
-pub loop-from-preserved : goal.loop-from-preserved
-loop-from-preserved c =
+pub loop-i-preserved : goal.loop-i-preserved
+loop-i-preserved c =
     let e = expr_data_of c.args.expr.now in
     let kind = c.args.kind in
     let input = c.args.input.now in
-    let P = λ (n : ℕ). each_stream kind e input ≡ with_rows c.append.new.self
-    (each_gives (given_of kind)
-    (λ d. at_row e (element_of kind d)) (drop (c.loop-from.from + n) input.rows) input.raise) in
-    subst P (sym c.len-in-loop-from-2.ensures)
-    (run-more (given_of kind) (λ d. at_row e (element_of kind d)) input.rows c.in_ok-batch.batch
-    c.loop-from.out c.append.new.self
-    input.raise c.loop-from.from c.in_ok-given.given (each_stream kind e input)
-    c.in_ok-batch.ensures c.in_ok-given.ensures (sym c.if-is_some.ensures) c.in_ok-append.ensures
-    c.loop-from.invariant)
+    let batches = c.in_ok-batches.batches.items in
+    let i = c.loop-i.i in
+    let batch = c.index.result.now in
+    run-more (given_of kind) (λ d. at_row e (element_of kind d))
+    (all_rows (drop i batches)) batch (all_rows (drop (i + 1) batches))
+    c.loop-i.out c.append.new.self input.raise c.in_ok-given.given (each_stream kind e input)
+    (next_batch batches batch i (omega arith) c.index.ensures)
+    c.in_ok-given.ensures (sym c.if-is_some.ensures) c.in_ok-append.ensures
+    c.loop-i.invariant
