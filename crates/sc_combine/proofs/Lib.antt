@@ -1,0 +1,12 @@
+pub mod PairLemmas
+pub mod DealLemmas
+pub mod LeaderLemmas
+pub mod SideLemmas
+pub mod FirstLemmas
+pub mod SpanLemmas
+pub mod GroupLemmas
+pub mod CrossLemmas
+pub mod MeetLemmas
+pub mod FoldLemmas
+pub mod RowLemmas
+pub mod CombineLemmas

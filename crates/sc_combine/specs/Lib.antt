@@ -1,0 +1,6 @@
+pub mod Deals
+pub mod Groupings
+pub mod Crossings
+pub mod Spans
+pub mod Combining
+pub mod IntFolds

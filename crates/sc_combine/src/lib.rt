@@ -1,0 +1,32 @@
+//! What the operations by key do with rows: the map side of a shuffle, the deal among buckets, and
+//! what a partition makes of the rows of its bucket.
+//!
+//! [`map_side`] and [`reduce_side`] are those of the definitions of `sc_lineage`
+//! (`specs/Shuffles.antt`), and [`meet`] is `met` of `specs/Keyed.antt`. A [`Dealt`] holds the rows
+//! of one map partition by bucket: they are picked once, and the rows of a bucket are a range of
+//! them that shares. [`bounds_between`] finds what divides the keys of a sort into ranges.
+//!
+//! Rows go by columns: keys are grouped or sorted as they lie, and columns are picked by row
+//! number. Rows that aren't held as pairs go one by one. A row number has 32 bits, so more rows
+//! than that are answered as want of memory, which is the only refusal that has no cause.
+//!
+//! It knows nothing of partitions' places, of tasks, or of where rows are stored. Keys, groups and
+//! splits come from `sc_keys`.
+#![tactic(auto)]
+
+mod bounding;
+mod columns;
+mod combining;
+mod crossing;
+mod dealing;
+mod grouping;
+mod int_folds;
+mod meeting;
+mod shuffles;
+mod sides;
+mod sorting;
+
+pub use bounding::bounds_between;
+pub use dealing::Dealt;
+pub use meeting::meet;
+pub use shuffles::{map_side, reduce_side};
