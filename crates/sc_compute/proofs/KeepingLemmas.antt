@@ -2,19 +2,19 @@
 use Rattle.std.proofs.Common.{◌≡◌, ℕ, Bool, true, false, cond, nat_eq, Option, Some, None, refl, sym, subst}
 use Rattle.std.proofs.lemmas.Bool.{and_parts, eqb-true}
 use Rattle.std.specs.Option.{IfSome}
-use Rattle.sc_lineage.specs.Meaning.{partition_stream}
+use Rattle.sc_lineage.specs.Meaning.{local_stream}
 use Rattle.sc_lineage.specs.ScriptData.{WorkData}
 use Rattle.sc_compute.specs.Keeping.{same_place}
 use Rattle.sc_compute.specs.declared.kept.Kept.{Kept}
 
 -- what is kept of a partition is its stream
 abbrev pub IsRight : WorkData → ℕ → ℕ → Option Kept → Type 0
-IsRight work node p kept = IfSome kept (λ k. k.stream ≡ partition_stream work node p)
+IsRight work node p kept = IfSome kept (λ k. k.stream ≡ local_stream work node p)
 
 module _ (work : WorkData) (before after : ℕ × ℕ → Option Kept) (node p : ℕ)
     (right : (n q : ℕ) → IsRight work n q (before (n, q))) where
   -- one is put in
-  pub right-inserted : (kept : Kept) → kept.stream ≡ partition_stream work node p
+  pub right-inserted : (kept : Kept) → kept.stream ≡ local_stream work node p
       → ((at : ℕ × ℕ) → after at ≡ cond (same_place (node, p) at) (Some kept) (before at))
       → (n q : ℕ) → IsRight work n q (after (n, q))
   right-inserted kept is updates n q =
@@ -24,8 +24,8 @@ module _ (work : WorkData) (before after : ℕ × ℕ → Option Kept) (node p :
           → IsRight work n q (cond b (Some kept) (before (n, q)))
       here true same =
           let parts = and_parts (nat_eq node n) (nat_eq p q) same in
-          let P : ℕ → Type 0 = λ m. kept.stream ≡ partition_stream work m p in
-          let Q : ℕ → Type 0 = λ m. kept.stream ≡ partition_stream work n m in
+          let P : ℕ → Type 0 = λ m. kept.stream ≡ local_stream work m p in
+          let Q : ℕ → Type 0 = λ m. kept.stream ≡ local_stream work n m in
           subst Q (eqb-true p q parts.1) (subst P (eqb-true node n parts.0) is)
       here false other = right n q
 

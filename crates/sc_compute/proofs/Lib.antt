@@ -1,3 +1,11 @@
 pub mod KeepingLemmas
 pub mod OutcomeLemmas
+pub mod SideLemmas
+pub mod DirectLemmas
+pub mod MadeLemmas
+pub mod OwnLemmas
 pub mod PartitionLemmas
+pub mod StreamLemmas
+pub mod StageLemmas
+pub mod NodeLemmas
+pub mod MakingLemmas

@@ -4,29 +4,30 @@ use Rattle.std.proofs.lemmas.List.{drop_more, drop_all, flat_map_more, get_or-ma
 use Rattle.std.specs.List.{position_from}
 use Rattle.std.specs.Option.{is_some}
 use Rattle.sc_value.specs.Datum.{Datum}
-use Rattle.sc_lineage.specs.Actions.{all_rows, action_results, first_raise, outcome_of_rows, result_of, unless_never}
-use Rattle.sc_lineage.specs.Meaning.{node_streams, part_count}
+use Rattle.sc_lineage.specs.Actions.{all_rows, local_results, first_raise, outcome_of_rows, result_of, unless_never}
+use Rattle.sc_lineage.specs.Meaning.{local_streams}
 use Rattle.sc_lineage.specs.ScriptData.{ActionData, WorkData, node_of_action}
 use Rattle.sc_lineage.specs.Streams.{ended_stream, raises}
 use Rattle.sc_lineage.specs.Targets.{own_value, result_target}
 use Rattle.sc_lineage.specs.declared.streams.Stream.{Stream}
 use Rattle.sc_lineage.proofs.PlaceLemmas.{at_or-get_or}
 use Rattle.sc_compute.specs.Evaluations.{Gives, Settles}
+use Rattle.sc_compute.specs.Stages.{local_count}
 use Rattle.sc_compute.specs.declared.evaluation.Evaluated.{Evaluated}
 use Rattle.sc_compute.specs.declared.evaluation.Evaluated.TheVariants.{Prints, Faults, Never}
 
 -- there are as many results as partitions
 pub length-results : (work : WorkData) (action : ActionData)
-    → length (action_results work action) ≡ part_count work (node_of_action action)
+    → length (local_results work action) ≡ local_count work (node_of_action action)
 length-results work action =
-    length-map (node_streams work (node_of_action action)) (result_of action)
+    length-map (local_streams work (node_of_action action)) (result_of action)
 
 -- the result of a partition
 pub result_at : (work : WorkData) (action : ActionData) (p : ℕ) (d : Stream)
-    → p < part_count work (node_of_action action)
-    → get_or (action_results work action) p d ≡ own_value work (result_target action p)
+    → p < local_count work (node_of_action action)
+    → get_or (local_results work action) p d ≡ own_value work (result_target action p)
 result_at work action p d within =
-    let streams = node_streams work (node_of_action action) in
+    let streams = local_streams work (node_of_action action) in
     get_or-map (result_of action) streams p (ended_stream None) d within
     ∙ ap (result_of action) (sym (at_or-get_or streams p (ended_stream None)))
 
@@ -66,20 +67,20 @@ raises-none results p past so_far =
 
 -- an action whose first result that raises is this one
 pub gives-never : (work : WorkData) (action : ActionData) (p : ℕ)
-    → first_raise (action_results work action) ≡ Some p → Gives work action (Never p)
+    → first_raise (local_results work action) ≡ Some p → Gives work action (Never p)
 gives-never work action p first =
-    let outcome = outcome_of_rows action (all_rows (action_results work action)) in
+    let outcome = outcome_of_rows action (all_rows (local_results work action)) in
     (ap (λ o. unless_never o outcome) first, first)
 
 -- an action of which no result raises
 pub gives-settled : (work : WorkData) (action : ActionData) (rows : List Datum) (e : Evaluated)
-    → first_raise (action_results work action) ≡ None
-    → rows ≡ all_rows (action_results work action) → Settles (outcome_of_rows action rows) e
+    → first_raise (local_results work action) ≡ None
+    → rows ≡ all_rows (local_results work action) → Settles (outcome_of_rows action rows) e
     → Gives work action e
 gives-settled work action rows (Prints printed) none all settles =
-    let outcome = outcome_of_rows action (all_rows (action_results work action)) in
+    let outcome = outcome_of_rows action (all_rows (local_results work action)) in
     ap (λ o. unless_never o outcome) none ∙ ap (outcome_of_rows action) (sym all) ∙ settles
 gives-settled work action rows (Faults fault) none all settles =
-    let outcome = outcome_of_rows action (all_rows (action_results work action)) in
+    let outcome = outcome_of_rows action (all_rows (local_results work action)) in
     ap (λ o. unless_never o outcome) none ∙ ap (outcome_of_rows action) (sym all) ∙ settles
 gives-settled work action rows (Never p) none all settles = absurd settles

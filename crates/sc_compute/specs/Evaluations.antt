@@ -1,16 +1,20 @@
 -- What the evaluation of an action answers.
 use Rattle.std.specs.Prelude.{◌≡◌, Some}
-use Rattle.sc_lineage.specs.Actions.{ActionOutcome, prints, faults, never, action_outcome, action_results, first_raise}
+use Rattle.sc_lineage.specs.Actions.{ActionOutcome, prints, faults, never, first_raise, local_results, outcome_of_results}
 use Rattle.sc_lineage.specs.ScriptData.{ActionData, WorkData}
 use Rattle.sc_compute.specs.declared.evaluation.Evaluated.{Evaluated}
 use Rattle.sc_compute.specs.declared.evaluation.Evaluated.TheVariants.{Prints, Faults, Never}
 
+-- what an action gives, by the results that are computed for its partitions
+abbrev pub local_outcome : WorkData → ActionData → ActionOutcome
+local_outcome work action = outcome_of_results action (local_results work action)
+
 -- an action gives this: its text, its fault, or nothing ever, with the first partition that raises
 abbrev pub Gives : WorkData → ActionData → Evaluated → Type 0
-Gives work action (Prints printed) = action_outcome work action ≡ prints printed
-Gives work action (Faults fault) = action_outcome work action ≡ faults fault
+Gives work action (Prints printed) = local_outcome work action ≡ prints printed
+Gives work action (Faults fault) = local_outcome work action ≡ faults fault
 Gives work action (Never p) =
-    (action_outcome work action ≡ never) × (first_raise (action_results work action) ≡ Some p)
+    (local_outcome work action ≡ never) × (first_raise (local_results work action) ≡ Some p)
 
 -- an answer tells this outcome, which isn't that of a partition that raises
 abbrev pub Settles : ActionOutcome → Evaluated → Type 0

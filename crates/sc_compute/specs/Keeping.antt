@@ -1,7 +1,7 @@
 -- Streams that are kept for those that read them later.
 use Rattle.std.specs.Prelude.{ℕ, ◌≡◌, ◌&&◌, Bool, IfSome, nat_eq}
 use Rattle.std.specs.HashMap.{get}
-use Rattle.sc_lineage.specs.Meaning.{partition_stream}
+use Rattle.sc_lineage.specs.Meaning.{local_stream}
 use Rattle.sc_lineage.specs.ScriptData.{WorkData}
 use Rattle.sc_compute.specs.declared.kept.KeptStreams.{KeptStreams}
 
@@ -13,4 +13,4 @@ same_place a b = nat_eq a.0 b.0 && nat_eq a.1 b.1
 abbrev pub KeepsRight : WorkData → KeptStreams → Type 0
 KeepsRight work kept = (node p : ℕ)
     → IfSome (get same_place kept.streams (node, p))
-    (λ k. k.stream ≡ partition_stream work node p)
+    (λ k. k.stream ≡ local_stream work node p)

@@ -1,3 +1,5 @@
+pub mod Stages
+pub mod Reading
 pub mod Evaluations
 pub mod Gathering
 pub mod Keeping

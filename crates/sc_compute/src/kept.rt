@@ -2,7 +2,7 @@
 #![tactic(auto)]
 
 ghost use Rattle.std.specs.Prelude.{◌≡◌, IfOk, IfSome};
-ghost use Rattle.sc_lineage.specs.Meaning.{partition_stream};
+ghost use Rattle.sc_lineage.specs.Meaning.{local_stream};
 ghost use Rattle.sc_lineage.specs.ScriptData.{WorkData};
 ghost use Rattle.sc_compute.specs.Keeping.{KeepsRight};
 
@@ -46,7 +46,7 @@ impl KeptStreams {
     pub fn take(&mut self, at: Place) -> Result<Option<Stream>, AllocError>
         ensures right { (work : WorkData) → KeepsRight work self.old → KeepsRight work self.new }
         ensures stream { (work : WorkData) → KeepsRight work self.old → IfOk result
-            (λ o. IfSome o (λ s. s ≡ partition_stream work at.node at.partition)) }
+            (λ o. IfSome o (λ s. s ≡ local_stream work at.node at.partition)) }
     {
         let Some(kept) = self.remove(at) else {
             return Ok(None);
@@ -63,7 +63,7 @@ impl KeptStreams {
 
     /// Keeps the stream of a partition, where it is to be read again.
     pub fn keep(&mut self, at: Place, stream: &Stream) -> Result<(), AllocError>
-        ensures { (work : WorkData) → stream.now ≡ partition_stream work at.node at.partition
+        ensures { (work : WorkData) → stream.now ≡ local_stream work at.node at.partition
             → KeepsRight work self.old → KeepsRight work self.new }
     {
         let readers = self.readers_of(at.node);
@@ -87,14 +87,14 @@ impl KeptStreams {
     fn remove(&mut self, at: Place) -> Option<Kept>
         ensures right { (work : WorkData) → KeepsRight work self.old → KeepsRight work self.new }
         ensures stream { (work : WorkData) → KeepsRight work self.old
-            → IfSome result (λ k. k.stream ≡ partition_stream work at.node at.partition) }
+            → IfSome result (λ k. k.stream ≡ local_stream work at.node at.partition) }
     {
         self.streams.remove(&(at.node, at.partition))
     }
 
     /// Keeps the stream of a partition.
     fn insert(&mut self, at: Place, kept: Kept) -> Result<(), AllocError>
-        ensures { (work : WorkData) → kept.stream ≡ partition_stream work at.node at.partition
+        ensures { (work : WorkData) → kept.stream ≡ local_stream work at.node at.partition
             → KeepsRight work self.old → KeepsRight work self.new }
     {
         self.streams.insert((at.node, at.partition), kept)?;

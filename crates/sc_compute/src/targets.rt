@@ -6,9 +6,11 @@ ghost use Rattle.sc_lineage.specs.Actions.{result_of};
 ghost use Rattle.sc_lineage.specs.ScriptData.{node_of_action};
 ghost use Rattle.sc_lineage.specs.Targets.{own_value};
 ghost use Rattle.sc_lineage.specs.Views.{action_data_of};
-ghost use Rattle.sc_compute.specs.Tasks.{IsTargetOf, target_data_of};
+ghost use Rattle.sc_compute.specs.Stages.{AreRight, HasMade};
+ghost use Rattle.sc_compute.specs.Tasks.{IsTargetOf, node_of_target, target_data_of};
 
 use crate::partitions::partition_stream;
+use crate::stages::Stages;
 use sc_lineage::{Action, NodeId, Place, Stream, Work};
 use sc_ops::fold_stream;
 use std::alloc::{AllocError, Global};
@@ -25,15 +27,22 @@ pub enum Target<'a> {
     },
 }
 
-/// What a target is to have computed.
-pub fn compute(alloc: Global, work: &Work, target: Target<'_>) -> Result<Stream, AllocError>
-    requires { IsTargetOf work.now (target_data_of target) }
+/// What a target is to have computed, where all was made for its node.
+pub fn compute(
+    alloc: Global,
+    work: &Work,
+    stages: &Stages,
+    target: Target<'_>,
+) -> Result<Stream, AllocError>
+    requires target { IsTargetOf work.now (target_data_of target) }
+    requires right { AreRight work.now stages.now }
+    requires made { HasMade stages.now (node_of_target (target_data_of target)) }
     ensures { IfOk result (λ s. s ≡ own_value work.now (target_data_of target.entry)) }
 {
     match target {
         Target::Result { action, partition } => {
             let node = node_of(action);
-            let stream = partition_stream(alloc, work, Place { node, partition })?;
+            let stream = partition_stream(alloc, work, stages, Place { node, partition })?;
             result(alloc, action, stream)
         }
     }

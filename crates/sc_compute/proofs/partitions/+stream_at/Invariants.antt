@@ -1,5 +1,5 @@
 use Rattle.std.proofs.Common.{◌≡◌, map, take}
-use Rattle.sc_lineage.specs.Meaning.{partition_stream}
+use Rattle.sc_lineage.specs.Meaning.{local_stream}
 use Rattle.sc_compute.specs.Keeping.{KeepsRight}
 use Rattle.sc_compute.proofs.partitions.+stream_at.Given as goal
 
@@ -10,5 +10,5 @@ abbrev pub invariant-loop-place : goal.invariant-loop-place
 invariant-loop-place l = record {
   right : KeepsRight l.work l.kept;
   streams : l.inputs.items
-      ≡ map (λ at. partition_stream l.work at.node at.partition) (take l.place-index l.place-items);
+      ≡ map (λ at. local_stream l.work at.node at.partition) (take l.place-index l.place-items);
 }

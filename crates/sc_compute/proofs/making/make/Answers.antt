@@ -1,0 +1,149 @@
+use Rattle.std.proofs.Common.{◌≡◌, ◌∙◌, [], ◌∷◌, Some, ap, sym, subst, arith}
+use Rattle.std.proofs.lemmas.List.Elements.{All-head, All-tail}
+use Rattle.sc_lineage.specs.NodeData.{shuffle_node, meet_node}
+use Rattle.sc_lineage.specs.ScriptData.{count_step}
+use Rattle.sc_lineage.specs.Views.{node_data_of, shuffling_data_of}
+use Rattle.sc_compute.specs.Stages.{AreSides, local_count}
+use Rattle.sc_compute.specs.declared.stages.Sides.TheVariants as sides
+use Rattle.sc_compute.proofs.NodeLemmas.{IsNode, IsReady, count_fits, count_is, narrow_else, narrow_is, narrow_sides, node_is, parents_ready, some_parts}
+use Rattle.sc_compute.proofs.making.make.Goals as goal
+
+pub make_input-requires : goal.make_input-requires
+make_input-requires c =
+    let work = c.args.work.now in
+    let stages = c.args.stages.now in
+    let parent = c.in-Shuffle.parent in
+    let node = shuffle_node (shuffling_data_of c.in-Shuffle.kind) parent c.in-Shuffle.partitions in
+    let at : IsNode work c.args.node node = record {
+      sound = c.is_sound.ensures.script;
+      known = c.requires.known;
+      is = c.node_in.ensures.found ∙ ap (λ n. Some (node_data_of n)) c.in-Shuffle.is;
+    } in
+    let ready =
+    All-head (IsReady work stages) parent []
+    (parents_ready at stages c.requires.parents) in
+    record {
+      known = ready.0;
+      right = c.requires.right;
+      parent_made = ready.1;
+      some_partitions = some_parts at;
+    }
+
+pub make_input-requires-in-Meet : goal.make_input-requires-in-Meet
+make_input-requires-in-Meet c =
+    let work = c.args.work.now in
+    let stages = c.args.stages.now in
+    let left = c.in-Meet.left in
+    let right = c.in-Meet.right in
+    let node = meet_node c.in-Meet.kind left right c.in-Meet.partitions in
+    let at : IsNode work c.args.node node = record {
+      sound = c.is_sound.ensures.script;
+      known = c.requires.known;
+      is = c.node_in.ensures.found ∙ ap (λ n. Some (node_data_of n)) c.in-Meet.is;
+    } in
+    let ready =
+    All-head (IsReady work stages) left (right ∷ [])
+    (parents_ready at stages c.requires.parents) in
+    record {
+      known = ready.0;
+      right = c.requires.right;
+      parent_made = ready.1;
+      some_partitions = some_parts at;
+    }
+
+pub make_input-requires-in-Meet-2 : goal.make_input-requires-in-Meet-2
+make_input-requires-in-Meet-2 c =
+    let work = c.args.work.now in
+    let stages = c.args.stages.now in
+    let left = c.in-Meet.left in
+    let right = c.in-Meet.right in
+    let node = meet_node c.in-Meet.kind left right c.in-Meet.partitions in
+    let at : IsNode work c.args.node node = record {
+      sound = c.is_sound.ensures.script;
+      known = c.requires.known;
+      is = c.node_in.ensures.found ∙ ap (λ n. Some (node_data_of n)) c.in-Meet.is;
+    } in
+    let ready =
+    All-head (IsReady work stages) right []
+    (All-tail (IsReady work stages) left (right ∷ [])
+    (parents_ready at stages c.requires.parents)) in
+    record {
+      known = ready.0;
+      right = c.requires.right;
+      parent_made = ready.1;
+      some_partitions = some_parts at;
+    }
+
+pub narrow_count-requires : goal.narrow_count-requires
+narrow_count-requires c =
+    let work = c.args.work.now in
+    let node = node_data_of c.node_in.result.now in
+    let at : IsNode work c.args.node node = record {
+      sound = c.is_sound.ensures.script;
+      known = c.requires.known;
+      is = c.node_in.ensures.found;
+    } in
+    let narrow =
+    narrow_else c.node_in.result.now c.in_default.not-Shuffle c.in_default.not-Meet in
+    let count : count_step c.counts.result.now node ≡ local_count work c.args.node =
+    ap (λ counts. count_step counts node) c.counts.ensures
+    ∙ narrow_is at c.args.stages.now c.requires.right narrow c.requires.parents in
+    let few = count_fits at in
+    record { narrow = narrow; fits = omega (arith, count, few) }
+
+pub returns-in_ok-count-in-Shuffle : goal.returns-in_ok-count-in-Shuffle
+returns-in_ok-count-in-Shuffle c =
+    let work = c.args.work.now in
+    let input = c.in_ok-count-in-Shuffle.input in
+    let node =
+    shuffle_node (shuffling_data_of c.in-Shuffle.kind) c.in-Shuffle.parent c.in-Shuffle.partitions
+    in
+    let at : IsNode work c.args.node node = record {
+      sound = c.is_sound.ensures.script;
+      known = c.requires.known;
+      is = c.node_in.ensures.found ∙ ap (λ n. Some (node_data_of n)) c.in-Shuffle.is;
+    } in
+    record {
+      count = c.in_ok-count-in-Shuffle.ensures.count
+          ∙ sym (count_is at);
+      are = subst (λ n. AreSides work n (sides.One input))
+          (sym (node_is at))
+          c.in_ok-count-in-Shuffle.ensures.input;
+    }
+
+pub returns-in_ok-second-in-Meet : goal.returns-in_ok-second-in-Meet
+returns-in_ok-second-in-Meet c =
+    let work = c.args.work.now in
+    let first = c.in_ok-first-in-Meet.first in
+    let second = c.in_ok-second-in-Meet.second in
+    let node = meet_node c.in-Meet.kind c.in-Meet.left c.in-Meet.right c.in-Meet.partitions in
+    let at : IsNode work c.args.node node = record {
+      sound = c.is_sound.ensures.script;
+      known = c.requires.known;
+      is = c.node_in.ensures.found ∙ ap (λ n. Some (node_data_of n)) c.in-Meet.is;
+    } in
+    record {
+      count = sym (count_is at);
+      are = subst (λ n. AreSides work n (sides.Two first second))
+          (sym (node_is at))
+          (c.in_ok-first-in-Meet.ensures.input, c.in_ok-second-in-Meet.ensures.input);
+    }
+
+pub returns-in_default : goal.returns-in_default
+returns-in_default c =
+    let work = c.args.work.now in
+    let node = node_data_of c.node_in.result.now in
+    let at : IsNode work c.args.node node = record {
+      sound = c.is_sound.ensures.script;
+      known = c.requires.known;
+      is = c.node_in.ensures.found;
+    } in
+    let narrow =
+    narrow_else c.node_in.result.now c.in_default.not-Shuffle c.in_default.not-Meet in
+    record {
+      count = c.narrow_count.ensures ∙ ap (λ counts. count_step counts node) c.counts.ensures
+          ∙ narrow_is at c.args.stages.now c.requires.right narrow c.requires.parents;
+      are = subst (λ n. AreSides work n sides.Narrow)
+          (sym (node_is at))
+          (narrow_sides work node narrow);
+    }

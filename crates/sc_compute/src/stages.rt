@@ -1,0 +1,125 @@
+//! What is made for the nodes of a work before their partitions can be computed.
+#![tactic(auto)]
+
+ghost use Rattle.std.specs.Prelude.{◌≡◌, ◌<◌, All, IfOk, OnOk, ℕ, length, option_map};
+ghost use Rattle.sc_lineage.specs.Dependencies.{parents_of as parents_in};
+ghost use Rattle.sc_compute.specs.Stages.{AreRight, AreSides, HasMade, local_count, made_in, node_at};
+
+use crate::making::make;
+use crate::nodes::node_in;
+use crate::parents::parents_of;
+use sc_combine::Dealt;
+use sc_expr::Raise;
+use sc_lineage::{NodeId, Work};
+use std::alloc::{AllocError, Global};
+use std::collections::HashMap;
+
+/// What a shuffle reads of a parent.
+#[derive(Drop)]
+pub enum Input {
+    /// Of its partition of the same number alone, since the rows lie so already.
+    Own,
+    /// Of each of its partitions what went into the shuffle, by bucket.
+    Dealt(Vec<Dealt>),
+    /// The first raise of what went into the shuffle.
+    Raised(Raise),
+}
+
+/// What the sides of a node are read from.
+#[derive(Drop)]
+pub enum Sides {
+    /// The node isn't made by a shuffle.
+    Narrow,
+    /// A shuffle of one parent.
+    One(Input),
+    /// A shuffle of two parents, the left one first.
+    Two(Input, Input),
+}
+
+/// What was made for the nodes of a work so far: how many partitions each has, and what went into
+/// its shuffles, each of which is computed once, whatever reads it.
+#[derive(Drop)]
+pub struct Stages {
+    /// By node; 0 where nothing was made.
+    counts: Vec<u32>,
+    /// By node, where something was made.
+    sides: HashMap<NodeId, Sides>,
+}
+
+impl Stages {
+    /// Nothing yet.
+    pub fn new(alloc: Global, work: &Work) -> Result<Stages, AllocError>
+        ensures { IfOk result (AreRight work.now) }
+    {
+        Ok(Stages {
+            counts: vec![in alloc; 0; work.script().nodes().len()]?,
+            sides: HashMap::new(alloc),
+        })
+    }
+
+    /// The number of partitions of each node for which something was made.
+    pub(crate) fn counts(&self) -> &[u32]
+        ensures { result.now ≡ self.now.counts.items }
+    {
+        self.counts.as_slice()
+    }
+
+    /// What the sides of a node are read from, where it was made.
+    pub(crate) fn sides(&self, node: NodeId) -> Option<&Sides>
+        ensures { option_map (λ s. s.now) result ≡ made_in self.now node }
+    {
+        self.sides.get(&node)
+    }
+
+    /// Makes what the partitions of a node need: its number of partitions and its shuffles, and the
+    /// same for all nodes that it reads. What was made before stays.
+    pub fn prepare(&mut self, alloc: Global, work: &Work, node: NodeId) -> Result<(), AllocError>
+        requires known { node < length work.now.script.nodes }
+        requires right { AreRight work.now self.old }
+        ensures right { AreRight work.now self.new }
+        ensures made { OnOk result (HasMade self.new node) }
+        ensures kept { (k : ℕ) → HasMade self.old k → HasMade self.new k }
+    {
+        if self.sides.contains_key(&node) {
+            return Ok(());
+        }
+        work.is_sound();
+        let parents = parents_of(node_in(work, node));
+        if let Some(parent) = parents.first {
+            self.prepare(alloc, work, parent)?;
+        }
+        if let Some(parent) = parents.second {
+            self.prepare(alloc, work, parent)?;
+        }
+        self.prepare_behind(alloc, work, node)
+    }
+
+    /// Makes what the partitions of a node need, where the same was made for its parents.
+    fn prepare_behind(&mut self, alloc: Global, work: &Work, node: NodeId) -> Result<(), AllocError>
+        requires known { node < length work.now.script.nodes }
+        requires right { AreRight work.now self.old }
+        requires parents { All (HasMade self.old) (parents_in (node_at work.now node)) }
+        ensures right { AreRight work.now self.new }
+        ensures made { OnOk result (HasMade self.new node) }
+        ensures kept { (k : ℕ) → HasMade self.old k → HasMade self.new k }
+    {
+        let (count, sides) = make(alloc, work, self, node)?;
+        self.put(work, node, count, sides)
+    }
+
+    /// Keeps what was made for a node.
+    fn put(&mut self, work: &Work, node: NodeId, count: u32, sides: Sides) -> Result<(), AllocError>
+        requires known { node < length work.now.script.nodes }
+        requires right { AreRight work.now self.old }
+        requires parents { All (HasMade self.old) (parents_in (node_at work.now node)) }
+        requires count { count ≡ local_count work.now node }
+        requires are { AreSides work.now (node_at work.now node) sides }
+        ensures right { AreRight work.now self.new }
+        ensures made { OnOk result (HasMade self.new node) }
+        ensures kept { (k : ℕ) → HasMade self.old k → HasMade self.new k }
+    {
+        self.sides.insert(node, sides)?;
+        self.counts[node as usize] = count;
+        Ok(())
+    }
+}
