@@ -53,7 +53,8 @@ module _ (names : List (List ℕ)) (name : List ℕ) where
           let e : name ≡ other = (bytes_eq-Decides name other).0 is in
           let old : is_new names other ≡ false =
           ap (λ (n : List ℕ). is_new names n) (sym e) ∙ ap not known in
-          more ∙ sym (ap (λ b. cond b (other ∷ filter (is_new names) rest) (filter (is_new names) rest)) old)
+          more ∙ sym (ap (λ b. cond b (other ∷ filter (is_new names) rest)
+          (filter (is_new names) rest)) old)
       by_same false is more =
           ap (λ ns. cond (is_new names other) (other ∷ ns) ns) more
 

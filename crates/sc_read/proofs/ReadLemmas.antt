@@ -109,7 +109,8 @@ module _ (script : ScriptData) (start : SourceState) (before : List Read) where
         first = record {
           named = names-more (input_names script) inputs input so_far.first.named next;
           are_shown = AreShown-append start.shown inputs input so_far.first.are_shown
-              (subst (λ (files : Option Files). IsShown files name bytes) was.shown taken.file.shown);
+              (subst (λ (files : Option Files). IsShown files name bytes) was.shown
+              taken.file.shown);
         };
         kept = taken.kept ∙ ap (λ (rs : List Read). rs ++ input_read input ∷ []) so_far.kept
             ∙ append_assoc before (map input_read inputs) (input_read input ∷ [])
@@ -150,7 +151,8 @@ module _ (script : ScriptData) (start : SourceState) (before : List Read) where
             x.2.asked;
         cause = unreadable-since source later name why was so_far.quiet x.2.cause;
       })
-  stops-taking source later now after inputs name (Fault (stops.NotText n)) so_far was texts next x =
+  stops-taking source later now after inputs name (Fault (stops.NotText n)) so_far was texts
+      next x =
       subst (λ m. StopsAtText script start later before after m) (sym x.0) (record {
         inputs = inputs;
         bytes = x.1.0;

@@ -34,7 +34,9 @@ fn note_names(alloc: Global, names: &mut Vec<Name>, node: &Node) -> Result<(), A
         | Node::Each { .. }
         | Node::Union { .. }
         | Node::Coalesce { .. }
-        | Node::Cache { .. } => Ok(()),
+        | Node::Cache { .. }
+        | Node::Shuffle { .. }
+        | Node::Meet { .. } => Ok(()),
     }
 }
 

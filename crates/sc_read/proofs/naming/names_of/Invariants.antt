@@ -7,5 +7,6 @@ use Rattle.sc_read.proofs.naming.names_of.Given as goal
 
 abbrev pub invariant-loop-node : goal.invariant-loop-node
 invariant-loop-node l =
-    with_names l.names.items (flat_map names_of_node (map node_data_of (drop l.node-index l.node-items)))
+    with_names l.names.items (flat_map names_of_node
+    (map node_data_of (drop l.node-index l.node-items)))
     ≡ with_names [] (flat_map names_of_node (map node_data_of l.node-items))
