@@ -36,7 +36,8 @@ module _ (law : HaveOneReading) (run : RunData) (taken : Taken) (fault : ScriptF
 
   tells_fault_here : (status : Status) → Ends run status
       → IsUnlessMemory (statuses.Script fault) status
-  tells_fault_here statuses.Done ends = absurd (none ends.work.script ends.work.inputs ends.read.read)
+  tells_fault_here statuses.Done ends = absurd
+      (none ends.work.script ends.work.inputs ends.read.read)
   tells_fault_here statuses.Usage ends = let e = ends.nothing_read in absurd cc
   tells_fault_here (statuses.Script f) ends =
       inl (ap (λ (x : ScriptFault). statuses.Script x)
@@ -145,7 +146,8 @@ has_text : (work : WorkData) (actions : List ActionData) (k i : ℕ) (action : A
     → All (HasText work) (take k actions) → i < k → slice_get actions i ≡ Some action
     → HasText work action
 has_text work actions k i action all below is =
-    let taken : slice_get (take k actions) i ≡ Some action = slice_get-take actions k i action below is in
+    let taken : slice_get (take k actions) i ≡ Some action =
+    slice_get-take actions k i action below is in
     subst (λ a. HasText work a)
     (get_or_from_slice_get (take k actions) i action action taken)
     (All-get_or (HasText work) (take k actions) i action
@@ -181,7 +183,8 @@ one_first work k i a b texts is bare texts' is' bare' = by_order (in_order k i)
     by_order : (k < i) ⊎ ((k ≡ i) ⊎ (i < k)) → k ≡ i
     by_order (inl less) = absurd (bare (has_text work work.script.actions i k a texts' less is))
     by_order (inr (inl same)) = same
-    by_order (inr (inr more)) = absurd (bare' (has_text work work.script.actions k i b texts more is'))
+    by_order (inr (inr more)) =
+        absurd (bare' (has_text work work.script.actions k i b texts more is'))
 
 never_without : (work : WorkData) (a : ActionData) → action_outcome work a ≡ never
     → HasText work a → ⊥
@@ -247,11 +250,13 @@ module _ (law : HaveOneReading) (run : RunData) (work : WorkData) (k : ℕ) (act
   tells_never_here : (status : Status) → Ends run status
       → (partition : ℕ) × IsUnlessEarlier (statuses.TaskLimit k 0 partition) status
   tells_never_here statuses.Done ends =
-      absurd (not_all law run work k action read first no_text ends.work ends.read ends.prints.texts)
+      absurd (not_all law run work k action read first no_text ends.work ends.read
+      ends.prints.texts)
   tells_never_here statuses.Usage ends =
       let e = ends.nothing_read in let was = read.read.is in absurd cc
   tells_never_here (statuses.Script f) ends =
-      absurd (not_faulty law run work k action read first no_text ends.bytes f [] ends.is ends.faults)
+      absurd (not_faulty law run work k action read first no_text ends.bytes f [] ends.is
+      ends.faults)
   tells_never_here (statuses.Input name missing) ends =
       absurd (not_next law run work k action read first no_text name ends.is_next)
   tells_never_here (statuses.TaskLimit i a p) ends =
@@ -273,7 +278,8 @@ module _ (law : HaveOneReading) (run : RunData) (work : WorkData) (k : ℕ) (act
   tells_never_here statuses.WriteFault ends = (0, inr refl)
   tells_never_here statuses.OutOfMemory ends = (0, inl (inr refl))
   tells_never_here (statuses.NotText name) ends =
-      absurd (not_bad law run work k action read first no_text ends.script ends.inputs name ends.bytes
+      absurd (not_bad law run work k action read first no_text ends.script ends.inputs name
+      ends.bytes
       ends.read ends.no_text)
 
 pub tells_never : HaveOneReading → (run : RunData) (status : Status) → Ends run status
@@ -290,7 +296,8 @@ module _ (law : HaveOneReading) (run : RunData) (work : WorkData) (k : ℕ) (act
   tells_driver_here : (status : Status) → Ends run status
       → IsUnlessEarlier (statuses.DriverFault k fault) status
   tells_driver_here statuses.Done ends =
-      absurd (not_all law run work k action read first no_text_either ends.work ends.read ends.prints.texts)
+      absurd (not_all law run work k action read first no_text_either ends.work ends.read
+      ends.prints.texts)
   tells_driver_here statuses.Usage ends =
       let e = ends.nothing_read in let was = read.read.is in absurd cc
   tells_driver_here (statuses.Script f) ends =

@@ -50,5 +50,9 @@ ends_well run statuses.WriteFault ends good = good.no_write_fault ends.stops.ros
 ends_well run statuses.OutOfMemory ends good = tt
 ends_well run (statuses.NotText name) ends good =
     ends.no_text (AreTexts-last ends.inputs name ends.bytes
-    (good.texts (record { script = ends.read.bytes; inputs = ends.inputs ++ (name, ends.bytes) ∷ [] })
+    (good.texts (record {
+      script = ends.read.bytes;
+      inputs =
+          ends.inputs ++ (name, ends.bytes) ∷ [];
+    })
     ends.read.is))

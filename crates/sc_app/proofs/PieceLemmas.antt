@@ -15,7 +15,8 @@ concat-texts : {X : Type 0} (text : X → Option (List ℕ)) (xs : List X)
     ≡ flat_map (λ x. unwrap_or (text x) []) xs
 concat-texts text [] = refl
 concat-texts text (x ∷ xs) =
-    put (text x) (filter_map (λ y. some_text (text y)) xs) (flat_map (λ y. unwrap_or (text y) []) xs)
+    put (text x) (filter_map (λ y. some_text (text y)) xs)
+    (flat_map (λ y. unwrap_or (text y) []) xs)
     (concat-texts text xs)
   where
     put : (t : Option (List ℕ)) (ts : List (List ℕ)) (bytes : List ℕ) → concat ts ≡ bytes

@@ -62,7 +62,8 @@ module _ (law : HaveOneReading) (rs : List Read) where
   no_fault bytes is fault script inputs e faults was =
       let same : was.bytes ≡ bytes =
       same_script rs was.bytes bytes (map input_read inputs) is was.is e in
-      let one = (law bytes).only (Ok script) (subst (λ b. ReadsScript b script) same was.is_script) in
+      let one = (law bytes).only (Ok script) (subst (λ b. ReadsScript b script) same was.is_script)
+      in
       let other = (law bytes).only (Err fault) faults in
       cc (one, other)
 

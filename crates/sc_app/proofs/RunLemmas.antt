@@ -222,7 +222,8 @@ module _ (words : List (List ℕ)) (name : List ℕ)
           ends = record {
             is_next = inr (script, x.inputs, has_read x.inputs more x.kept, x.is_next);
             cause = told_cause start after n why
-                (unreadable-since script start reads before after n why was taken.file.quiet x.cause);
+                (unreadable-since script start reads before after n why was taken.file.quiet
+                x.cause);
             nothing_written = refl;
           };
           usage = usage-none status words (record { script = name }) is_command (λ e. cc);
@@ -261,7 +262,8 @@ module _ (words : List (List ℕ)) (name : List ℕ)
         }
 
     -- all inputs were read
-    module _ (after : SourceState) (more : List Read) (work : WorkData) (same : work.script ≡ script)
+    module _ (after : SourceState) (more : List Read) (work : WorkData)
+        (same : work.script ≡ script)
         (inputs : TakesInputs script before after reads more work.inputs)
         (sound : IsSoundWork work) where
       has_work : HasReadWork more work

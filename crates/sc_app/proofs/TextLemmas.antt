@@ -12,5 +12,6 @@ pub four_pieces : (a b c d d' : List ℕ) → d ≡ d' → a ++ (b ++ (c ++ d)) 
 four_pieces a b c d d' e = ap (λ (t : List ℕ). a ++ (b ++ (c ++ t))) e ∙ simp append_assoc
 
 -- six pieces, grouped from either end
-pub six_pieces : (a b c d e f : List ℕ) → a ++ (b ++ (c ++ (d ++ (e ++ f)))) ≡ a ++ b ++ c ++ d ++ e ++ f
+pub six_pieces : (a b c d e f : List ℕ) → a ++ (b ++ (c ++ (d ++ (e ++ f))))
+    ≡ a ++ b ++ c ++ d ++ e ++ f
 six_pieces a b c d e f = simp append_assoc

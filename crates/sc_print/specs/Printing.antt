@@ -6,9 +6,11 @@ use Rattle.sc_base.specs.Counts.{Rose}
 use Rattle.sc_base.specs.Outside.{SinkState, with_more}
 use Rattle.sc_base.specs.declared.refusals.OrMemory.{OrMemory}
 use Rattle.sc_base.specs.declared.refusals.OrMemory.TheVariants.{Fault, OutOfMemory}
-use Rattle.sc_lineage.specs.Actions.{action_outcome, action_results, faults, first_raise, never, prints, some_text, texts_by, HasText}
+use Rattle.sc_lineage.specs.Actions.{action_outcome, faults, first_raise, local_results, never, prints, some_text, texts_by, HasText}
 use Rattle.sc_lineage.specs.ScriptData.{ActionData, WorkData}
 use Rattle.sc_lineage.specs.declared.nodes.DriverFault.{DriverFault}
+use Rattle.sc_compute.specs.declared.evaluation.Evaluated.{Evaluated}
+use Rattle.sc_compute.specs.declared.evaluation.Evaluated.TheVariants as evaluated
 use Rattle.sc_print.specs.declared.printing.PrintFault.{PrintFault}
 use Rattle.sc_print.specs.declared.printing.PrintFault.TheVariants.{Never, Driver, Write}
 
@@ -29,7 +31,7 @@ pub record StopsAtRaise (work : WorkData) (before after : SinkState) (k partitio
   pub action : ActionData
   pub is_action : slice_get work.script.actions k ≡ Some action
   pub is_never : action_outcome work action ≡ never
-  pub first : first_raise (action_results work action) ≡ Some partition
+  pub first : first_raise (local_results work action) ≡ Some partition
   pub printed : HasPrinted work before after k
 
 -- action k has this fault of the driver; the texts before it stand
@@ -84,6 +86,14 @@ Writes text before after (Err (Fault (Driver k fault))) = ⊥
 Writes text before after (Err (Fault Write)) = FailsInText text before after
 Writes text before after (Err OutOfMemory) = after ≡ before
 
+-- an action gives this, by the sequential meaning; where it is never, so much is told of what was
+-- computed: the first partition that raised
+abbrev pub GivesMeaning : WorkData → ActionData → Evaluated → Type 0
+GivesMeaning work action (evaluated.Prints text) = action_outcome work action ≡ prints text
+GivesMeaning work action (evaluated.Faults fault) = action_outcome work action ≡ faults fault
+GivesMeaning work action (evaluated.Never p) =
+    (action_outcome work action ≡ never) × (first_raise (local_results work action) ≡ Some p)
+
 -- what the printing of one action answers
 abbrev pub PrintsAction :
     WorkData → ActionData → ℕ → SinkState → SinkState → Result (Unit {0}) (OrMemory PrintFault)
@@ -92,7 +102,7 @@ PrintsAction work action number before after (Ok done) =
     (text : List ℕ) × (action_outcome work action ≡ prints text) × PrintsText text before after
 PrintsAction work action number before after (Err (Fault (Never k partition))) =
     (k ≡ number) × (action_outcome work action ≡ never)
-    × (first_raise (action_results work action) ≡ Some partition) × (after ≡ before)
+    × (first_raise (local_results work action) ≡ Some partition) × (after ≡ before)
 PrintsAction work action number before after (Err (Fault (Driver k fault))) =
     (k ≡ number) × (action_outcome work action ≡ faults fault) × (after ≡ before)
 PrintsAction work action number before after (Err (Fault Write)) =

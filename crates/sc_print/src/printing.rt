@@ -1,17 +1,19 @@
 //! The actions of a work, printed.
 #![tactic(auto)]
 
-ghost use Rattle.std.specs.Prelude.{◌<◌, ◌≤◌, length};
+ghost use Rattle.std.specs.Prelude.{◌<◌, ◌≤◌, IfOk, length};
+ghost use Rattle.sc_compute.specs.Stages.{AreRight};
 ghost use Rattle.sc_lineage.specs.ScriptData.{node_of_action};
 ghost use Rattle.sc_lineage.specs.Views.{action_data_of};
-ghost use Rattle.sc_print.specs.Printing.{Prints, PrintsAction, Writes};
+ghost use Rattle.sc_print.specs.Printing.{GivesMeaning, Prints, PrintsAction, Writes};
 
 use sc_base::OrMemory;
-use sc_compute::{Evaluated, evaluate};
+use sc_compute::{Evaluated, Stages, evaluate};
+use sc_laws::outcome_law;
 use sc_lineage::{Action, DriverFault, Work};
 use sc_sink::{Sink, SinkAnswer};
 use sc_value::Octets;
-use std::alloc::Global;
+use std::alloc::{AllocError, Global};
 
 /// Why not all actions were printed.
 #[derive(Clone, Copy, Debug, PartialEq, Eq)]
@@ -50,12 +52,13 @@ pub fn print_work<K: Sink>(
     ensures prints { Prints work.now (K.state sink.old) (K.state sink.new) result }
 {
     work.is_sound();
+    let mut stages = Stages::new(alloc, work)?;
     let actions = work.script().actions();
     for i in 0..actions.len() {
         let Ok(number) = u32::try_from(i) else {
             return Err(OrMemory::OutOfMemory);
         };
-        print_action(alloc, work, &actions[i], number, sink)?;
+        print_action(alloc, work, &mut stages, &actions[i], number, sink)?;
     }
     Ok(())
 }
@@ -64,17 +67,20 @@ pub fn print_work<K: Sink>(
 fn print_action<K: Sink>(
     alloc: Global,
     work: &Work,
+    stages: &mut Stages,
     action: &Action,
     number: u32,
     sink: &mut K,
 ) -> Result<(), OrMemory<PrintFault>>
     requires known_node { node_of_action (action_data_of action.now)
         < length work.now.script.nodes }
+    requires right { AreRight work.now stages.old }
+    ensures right { AreRight work.now stages.new }
     ensures later { (K.state sink.old).faults ≤ (K.state sink.new).faults }
     ensures action { PrintsAction work.now (action_data_of action.now) number
         (K.state sink.old) (K.state sink.new) result }
 {
-    match evaluate(alloc, work, action)? {
+    match outcome(alloc, work, stages, action)? {
         Evaluated::Prints(text) => write(&text, sink),
         Evaluated::Faults(fault) => Err(OrMemory::Fault(PrintFault::Driver {
             action: number,
@@ -85,6 +91,24 @@ fn print_action<K: Sink>(
             partition,
         })),
     }
+}
+
+/// What an action gives, by the sequential meaning.
+fn outcome(
+    alloc: Global,
+    work: &Work,
+    stages: &mut Stages,
+    action: &Action,
+) -> Result<Evaluated, AllocError>
+    requires known_node { node_of_action (action_data_of action.now)
+        < length work.now.script.nodes }
+    requires right { AreRight work.now stages.old }
+    ensures right { AreRight work.now stages.new }
+    ensures gives { IfOk result (GivesMeaning work.now (action_data_of action.now)) }
+{
+    work.is_sound();
+    outcome_law();
+    evaluate(alloc, work, stages, action)
 }
 
 /// Writes a text by one write, unless it is empty.

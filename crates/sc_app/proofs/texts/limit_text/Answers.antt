@@ -7,5 +7,6 @@ use Rattle.sc_app.proofs.texts.limit_text.Goals as goal
 pub returns : goal.returns
 returns c =
     text_by string_bytes c.format.result _ _
-    (six_pieces (codes "task limit: stage ") (decimal c.args.stage) (codes " attempt ") (decimal c.args.attempt) (codes " partition ")
+    (six_pieces (codes "task limit: stage ") (decimal c.args.stage) (codes " attempt ")
+    (decimal c.args.attempt) (codes " partition ")
     (decimal c.args.partition)) c.format.ensures.ok

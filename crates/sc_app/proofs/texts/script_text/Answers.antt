@@ -8,5 +8,6 @@ use Rattle.sc_app.proofs.texts.script_text.Goals as goal
 pub returns : goal.returns
 returns c =
     text_by string_bytes c.format.result _ _
-    (four_pieces (codes "script: line ") (decimal c.args.fault.line) (codes ": ") c.name_of_kind-kind.result.now (kind_text c.args.fault.kind)
+    (four_pieces (codes "script: line ") (decimal c.args.fault.line) (codes ": ")
+    c.name_of_kind-kind.result.now (kind_text c.args.fault.kind)
     c.name_of_kind-kind.ensures) c.format.ensures.ok

@@ -16,11 +16,13 @@ print_action-requires g c =
       known_node = named-node (length c.args.work.now.script.nodes)
           c.args.work.now.script.actions c.loop-i.i (action_data_of c.index-actions-i.result)
           c.is_sound.ensures.script.actions is;
+      right = c.loop-i.invariant.right;
     }
 
 pub returns-in_err-print_action-clause-prints : goal.returns-in_err-print_action-clause-prints
 returns-in_err-print_action-clause-prints g c =
-    let p = err_from_is_err_and c.from_residual.result c.from_residual.ensures.1 in
+    let p = err_from_is_err_and c.from_residual-in_err-print_action.result
+    c.from_residual-in_err-print_action.ensures.1 in
     let is = action_at c.actions-actions.result.now c.args.work.now.script.actions c.loop-i.i
     c.index-actions-i.result
     (c.actions-actions.ensures ∙ ap (λ (s : ScriptData). s.actions) c.script.ensures)
@@ -39,6 +41,7 @@ loop-i-preserved g c =
     c.loop-i-test.true c.index-actions-i.is in
     record {
       later = omega (arith, c.loop-i.invariant.later, c.in_ok-print_action.ensures.later);
+      right = c.in_ok-print_action.ensures.right;
       printed = printed-next c.args.work.now (g.K.Sink.state c.args.sink.now)
           (g.K.Sink.state c.loop-i.sink) (g.K.Sink.state c.print_action.new.sink) c.loop-i.i
           (action_data_of c.index-actions-i.result) is c.loop-i.invariant.printed
