@@ -1,0 +1,5 @@
+pub mod Attempts
+pub mod Changes
+pub mod Failures
+pub mod Graphs
+pub mod LimitDefaults
