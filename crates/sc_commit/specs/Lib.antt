@@ -1,0 +1,4 @@
+pub mod CommitFacts
+pub mod CommitLaws
+pub mod Committers
+pub mod Committing

@@ -1,0 +1,12 @@
+use Rattle.sc_tracker.specs.TrackerData.{tracker_data}
+use Rattle.sc_tracker.proofs.TrackerLemmas.{emptied_sound}
+use Rattle.sc_tracker.proofs.tracker.Tracker.forget_all.Goals as goal
+
+pub invariant_of-self : goal.invariant_of-self
+invariant_of-self c =
+    let f = c.self.inside in
+    rw c.forget_all.ensures (
+      emptied_sound (tracker_data f.shuffles.items f.trust.items f.epoch) c.self.invariant.0,
+      c.self.invariant.1,
+      c.self.invariant.2,
+    )

@@ -1,0 +1,21 @@
+use Rattle.std.proofs.Common.{◌≡◌, ◌∙◌, ap, sym, false}
+use Rattle.sc_tracker.specs.TrackerData.{tracker_data}
+use Rattle.sc_tracker.specs.Trust.{is_bogus_for, trust_at}
+use Rattle.sc_tracker.proofs.TrackerLemmas.{registered_sound}
+use Rattle.sc_tracker.proofs.tracker.Tracker.register.Goals as goal
+
+pub invariant_of-self : goal.invariant_of-self
+invariant_of-self c =
+    let f = c.self.inside in
+    let sound : is_bogus_for (trust_at f.trust.items c.args.loc.exec) c.args.loc c.args.epoch
+    ≡ false =
+    sym (c.is_bogus.ensures
+    ∙ ap (λ xs. is_bogus_for (trust_at xs c.args.loc.exec) c.args.loc c.args.epoch)
+    c.as_slice.ensures.value)
+    ∙ c.if-is_bogus.false in
+    rw c.place_at.ensures (
+      registered_sound (tracker_data f.shuffles.items f.trust.items f.epoch)
+          c.args.block c.args.loc c.args.epoch c.self.invariant.0 sound,
+      c.self.invariant.1,
+      c.self.invariant.2,
+    )

@@ -1,0 +1,6 @@
+pub mod Outputs
+pub mod TrackerData
+pub mod TrackerFacts
+pub mod TrackerLaws
+pub mod Tracking
+pub mod Trust

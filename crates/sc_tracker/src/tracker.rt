@@ -1,0 +1,188 @@
+//! The tracker.
+#![tactic(auto)]
+
+ghost use Rattle.std.specs.Prelude.{◌≡◌, [], IfOk, OnErr, OnOk, if◌then◌else◌, is_ok, replicate};
+ghost use Rattle.sc_tracker.specs.Outputs.{location_in};
+ghost use Rattle.sc_tracker.specs.TrackerData.{output_of, tracker_data, trust_of};
+ghost use Rattle.sc_tracker.specs.TrackerFacts.{IsSoundTracker};
+ghost use Rattle.sc_tracker.specs.Tracking.{after_executor_lost, after_gone, emptied, is_bogus, registered, sized};
+ghost use Rattle.sc_tracker.specs.Trust.{untold};
+
+use crate::outputs::{Location, Output};
+use crate::shuffles::{
+    ShuffleOutputs, copies, forget_all, forget_all_on, has_room, output_at, place_at,
+};
+use crate::trust::{Trust, is_bogus, is_live, is_newer, note_lost, note_seen, trust_at};
+use sc_ids::{BlockId, Epoch, ExecId, Generation, Loc, ShuffleId};
+use std::alloc::{AllocError, Global};
+use std::marker::Model;
+
+/// What becomes of an output that is to be registered.
+#[derive(Clone, Copy, Debug, PartialEq, Eq)]
+pub enum Registration {
+    /// It is registered.
+    Registered,
+    /// It may be lost already, and isn't registered.
+    Bogus,
+}
+
+/// Where each map output lies, and what was heard of the executors.
+#[derive(Drop)]
+pub struct Tracker {
+    alloc: Global,
+    shuffles: Vec<ShuffleOutputs>,
+    trust: Vec<Trust>,
+    epoch: Epoch,
+}
+
+impl Model for Tracker {
+    ghost use Rattle.std.specs.Prelude.{◌<◌, ◌^◌, length};
+    ghost use Rattle.sc_tracker.specs.TrackerData.{TrackerData, tracker_data};
+    ghost use Rattle.sc_tracker.specs.TrackerFacts.{IsSoundTracker, SeenFits};
+
+    ghost Value = { TrackerData };
+
+    ghost view = { λ t. tracker_data t.shuffles.items t.trust.items t.epoch };
+
+    ghost invariant = { λ t. IsSoundTracker (tracker_data t.shuffles.items t.trust.items t.epoch)
+        × SeenFits t.trust.items × (length t.trust.items < 2 ^ 32) };
+}
+
+impl Tracker {
+    /// A tracker of so many executors, with room for no shuffle, at epoch 0.
+    pub fn new(alloc: Global, executors: u32) -> Result<Tracker, AllocError>
+        ensures { IfOk result (λ t. t ≡ tracker_data [] (replicate executors untold) 0) }
+    {
+        let trust = vec![in alloc; Trust::NEW; executors as usize]?;
+        Ok(Tracker {
+            alloc,
+            shuffles: Vec::new(alloc),
+            trust,
+            epoch: 0,
+        })
+    }
+
+    /// A copy of all that is known.
+    pub fn copied(&self) -> Result<Tracker, AllocError>
+        ensures { IfOk result (λ t. t ≡ self.now) }
+    {
+        let shuffles = copies(self.alloc, self.shuffles.as_slice())?;
+        let trust = self.trust.as_slice().to_vec(self.alloc)?;
+        Ok(Tracker {
+            alloc: self.alloc,
+            shuffles,
+            trust,
+            epoch: self.epoch,
+        })
+    }
+
+    /// Makes room for the outputs of a shuffle of so many map partitions, unless there is some for
+    /// it already. A refused call changes nothing.
+    pub fn size_for(&mut self, shuffle: ShuffleId, maps: u32) -> Result<(), AllocError>
+        ensures ok { OnOk result (self.new ≡ sized self.old shuffle maps) }
+        ensures refused { OnErr result (self.new ≡ self.old) }
+    {
+        if !has_room(self.shuffles.as_slice(), shuffle) {
+            let outputs = ShuffleOutputs::new(self.alloc, shuffle, maps)?;
+            self.shuffles.push(outputs)?;
+        }
+        Ok(())
+    }
+
+    /// Registers the output of a map task that was handed out at this epoch, unless it is bogus.
+    /// It takes no memory: an output that there is no room for stays unregistered.
+    pub fn register(&mut self, block: BlockId, loc: Loc, epoch: Epoch) -> Registration
+        // Bogus comes exactly where the output is bogus, and changes nothing.
+        ensures answer { result ≡ (if is_bogus self.old loc epoch
+            then Registration.Bogus else Registration.Registered) }
+        ensures state { self.new ≡ (if is_bogus self.old loc epoch
+            then self.old else registered self.old block loc) }
+    {
+        if is_bogus(self.trust.as_slice(), loc, epoch) {
+            return Registration::Bogus;
+        }
+        place_at(&mut self.shuffles, block, loc, self.epoch);
+        Registration::Registered
+    }
+
+    /// Where a block lies, or where it lay last.
+    pub fn location(&self, block: BlockId) -> Location
+        ensures { result ≡ location_in (output_of self.now block) }
+    {
+        self.output(block).location()
+    }
+
+    /// What is known of an output: where it is registered, where it was last, and since when.
+    pub fn output(&self, block: BlockId) -> Output
+        ensures { result ≡ output_of self.now block }
+    {
+        output_at(self.shuffles.as_slice(), block)
+    }
+
+    /// An executor was told lost: its outputs are forgotten. A second telling changes nothing.
+    pub fn unregister_exec(&mut self, exec: ExecId)
+        ensures { self.new ≡ after_executor_lost self.old exec }
+    {
+        if is_live(self.trust.as_slice(), exec) {
+            forget_all_on(&mut self.shuffles, exec);
+            note_lost(&mut self.trust, exec, self.epoch);
+            self.epoch += 1;
+        }
+    }
+
+    /// A fetch has shown this generation of an executor's store: where it is newer than those seen
+    /// before, the executor's outputs are forgotten. Else nothing changes.
+    pub fn raise_seen(&mut self, exec: ExecId, found: Generation)
+        ensures { self.new ≡ after_gone self.old exec found }
+    {
+        if is_newer(self.trust.as_slice(), exec, found) {
+            forget_all_on(&mut self.shuffles, exec);
+            note_seen(&mut self.trust, exec, found, self.epoch);
+            self.epoch += 1;
+        }
+    }
+
+    /// Forgets all outputs, as where their stores are given up with the run that used them. What
+    /// was heard of the executors stays, and so does the epoch.
+    pub fn forget_all(&mut self)
+        ensures { self.new ≡ emptied self.old }
+    {
+        forget_all(&mut self.shuffles);
+    }
+
+    /// How often outputs of an executor were forgotten.
+    pub fn epoch(&self) -> Epoch
+        ensures { result ≡ self.now.epoch }
+    {
+        self.epoch
+    }
+
+    /// The newest generation of an executor's store that a fetch has shown.
+    pub fn seen(&self, exec: ExecId) -> Generation
+        ensures { result ≡ (trust_of self.now exec).seen }
+    {
+        trust_at(self.trust.as_slice(), exec).seen
+    }
+
+    /// The epoch when an executor's outputs were last forgotten.
+    pub fn mark(&self, exec: ExecId) -> Option<Epoch>
+        ensures { result ≡ (trust_of self.now exec).mark }
+    {
+        trust_at(self.trust.as_slice(), exec).mark
+    }
+
+    /// Whether an executor was told lost.
+    pub fn lost(&self, exec: ExecId) -> bool
+        ensures { result ≡ (trust_of self.now exec).lost }
+    {
+        trust_at(self.trust.as_slice(), exec).lost
+    }
+
+    /// What every tracker keeps: marks are below the epoch, registered outputs are fresh, and the
+    /// epoch counts what was heard.
+    pub fn is_sound(&self)
+        ensures { IsSoundTracker self.now }
+    {
+        let _ = &self.trust;
+    }
+}
