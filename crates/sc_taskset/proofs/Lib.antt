@@ -1,0 +1,11 @@
+pub mod ViewLemmas
+pub mod ChangeLemmas
+pub mod TaskLemmas
+pub mod SetLemmas
+pub mod FindLemmas
+pub mod OfferLemmas
+pub mod HandLemmas
+pub mod FailureLemmas
+pub mod SuccessLemmas
+pub mod RoomLemmas
+pub mod LawLemmas

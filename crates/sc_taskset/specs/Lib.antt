@@ -1,0 +1,9 @@
+pub mod TaskSetData
+pub mod Lookups
+pub mod Offers
+pub mod Reports
+pub mod Sound
+pub mod Accounting
+pub mod Laws
+pub mod Rows
+pub mod Rooms

@@ -1,0 +1,103 @@
+//! Changes of the rows of a set.
+#![tactic(auto)]
+
+ghost use Rattle.std.specs.Prelude.{◌≡◌, ◌<◌, IfSome, OnOk, OnErr, List, length, map};
+ghost use Rattle.std.specs.List.{find};
+ghost use Rattle.sc_taskset.specs.declared.rows.Failure.{Failure};
+ghost use Rattle.sc_taskset.specs.Lookups.{with_task};
+ghost use Rattle.sc_taskset.specs.Offers.{handed_task};
+ghost use Rattle.sc_taskset.specs.Reports.{ended_task, held_task, lost_task, succeeded_task};
+ghost use Rattle.sc_taskset.specs.Rows.{copies_of, is_row_of, tasks_of};
+
+use crate::rows::Row;
+use crate::scans::place_of;
+use sc_ids::ExecId;
+use std::alloc::AllocError;
+
+/// Hands a partition out once more, unless the number of its attempts is at its type's end.
+pub fn hand_in(
+    rows: &mut Vec<Row>,
+    partition: u32,
+    exec: ExecId,
+    now: u64,
+) -> Result<(), AllocError>
+    requires { IfSome (find (is_row_of partition) rows.old.items)
+        (λ r. length (copies_of r) < 2) }
+    ensures ok { (failures : List Failure)
+        → OnOk result (tasks_of failures rows.new.items
+        ≡ with_task partition (handed_task exec now) (tasks_of failures rows.old.items)) }
+    ensures err { OnErr result (rows.new.items ≡ rows.old.items) }
+{
+    let place = match place_of(rows, partition) {
+        Some(place) => place,
+        None => return Ok(()),
+    };
+    let row = rows[place];
+    match row.given.checked_add(1) {
+        Some(given) => {
+            rows[place] = row.handed(exec, now, given);
+            Ok(())
+        }
+        None => Err(AllocError),
+    }
+}
+
+/// Ends an attempt of a partition.
+pub fn end_in(rows: &mut Vec<Row>, partition: u32, nth: u32)
+    ensures { (failures : List Failure) → tasks_of failures rows.new.items
+        ≡ with_task partition (ended_task nth) (tasks_of failures rows.old.items) }
+{
+    match place_of(rows, partition) {
+        Some(place) => {
+            let row = rows[place];
+            rows[place] = row.ended(nth);
+        }
+        None => {}
+    }
+}
+
+/// Notes a success of a partition.
+pub fn succeed_in(rows: &mut Vec<Row>, partition: u32, nth: Option<u32>)
+    ensures { (failures : List Failure) → tasks_of failures rows.new.items
+        ≡ with_task partition (succeeded_task nth) (tasks_of failures rows.old.items) }
+{
+    match place_of(rows, partition) {
+        Some(place) => {
+            let row = rows[place];
+            rows[place] = row.succeeded(nth);
+        }
+        None => {}
+    }
+}
+
+/// Notes whether a held grant has denied an attempt of a partition.
+pub fn hold_in(rows: &mut Vec<Row>, partition: u32, denied: bool)
+    ensures { (failures : List Failure) → tasks_of failures rows.new.items
+        ≡ with_task partition (held_task denied) (tasks_of failures rows.old.items) }
+{
+    match place_of(rows, partition) {
+        Some(place) => {
+            let row = rows[place];
+            rows[place] = row.held(denied);
+        }
+        None => {}
+    }
+}
+
+/// Takes an executor's attempts, and what was finished there where that is to be done again.
+pub fn lose_in(rows: &mut Vec<Row>, exec: ExecId, redoes: bool)
+    ensures { (failures : List Failure) → tasks_of failures rows.new.items
+        ≡ map (lost_task exec redoes) (tasks_of failures rows.old.items) }
+{
+    lose_all(rows.as_mut_slice(), exec, redoes);
+}
+
+/// The same for rows in a slice.
+fn lose_all(rows: &mut [Row], exec: ExecId, redoes: bool)
+    ensures { (failures : List Failure) → tasks_of failures rows.new
+        ≡ map (lost_task exec redoes) (tasks_of failures rows.old) }
+{
+    for row in rows.iter_mut() {
+        *row = row.lost(exec, redoes);
+    }
+}

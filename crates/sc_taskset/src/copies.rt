@@ -1,0 +1,50 @@
+//! Attempts that run, of which a task has none, one or two.
+#![tactic(auto)]
+
+ghost use Rattle.std.specs.Prelude.{◌≡◌, ◌++◌};
+ghost use Rattle.std.specs.Option.{option_to_list};
+ghost use Rattle.sc_taskset.specs.Lookups.{copy_at, is_one_elsewhere, without_copy, without_exec};
+
+use crate::tasks::Running;
+use sc_ids::ExecId;
+
+/// An attempt, if it is the one of a number.
+pub fn nth_of(copy: Option<Running>, nth: u32) -> Option<Running>
+    ensures { result ≡ copy_at nth (option_to_list copy) }
+{
+    copy.filter(|c| c.nth == nth)
+}
+
+/// An attempt, unless it is the one of a number.
+pub fn unless_nth(copy: Option<Running>, nth: u32) -> Option<Running>
+    ensures { option_to_list result ≡ without_copy nth (option_to_list copy) }
+{
+    copy.filter(|c| c.nth != nth)
+}
+
+/// An attempt, unless it runs on an executor.
+pub fn unless_on(copy: Option<Running>, exec: ExecId) -> Option<Running>
+    ensures { option_to_list result ≡ without_exec exec (option_to_list copy) }
+{
+    copy.filter(|c| c.exec != exec)
+}
+
+/// Whether exactly one attempt runs, on another executor.
+pub fn is_one_elsewhere(first: Option<Running>, second: Option<Running>, exec: ExecId) -> bool
+    ensures { result ≡ is_one_elsewhere exec (option_to_list first ++ option_to_list second) }
+{
+    match first {
+        None => is_elsewhere(second, exec),
+        Some(copy) => second.is_none() && copy.exec != exec,
+    }
+}
+
+/// Whether an attempt runs, on another executor.
+fn is_elsewhere(copy: Option<Running>, exec: ExecId) -> bool
+    ensures { result ≡ is_one_elsewhere exec (option_to_list copy) }
+{
+    match copy {
+        None => false,
+        Some(c) => c.exec != exec,
+    }
+}

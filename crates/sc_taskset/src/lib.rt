@@ -1,0 +1,34 @@
+//! Task sets: the tasks of one attempt of a stage, which of them is handed out next, and when the
+//! stage has failed too often. Spark calls this TaskSetManager.
+//!
+//! A [`TaskSet`] has a task for each partition that was missing when its stage was submitted.
+//! [`TaskSet::next`] hands the smallest pending partition to an executor; what comes of it is told
+//! by [`TaskSet::succeeded`], [`TaskSet::ended`], [`TaskSet::failed`] and
+//! [`TaskSet::executor_lost`], and whether the partition is to wait for a commit by
+//! [`TaskSet::held`]. A set that is finished, or is told so by [`TaskSet::zombie`], is a zombie: it
+//! hands out nothing more, but its attempts go on. A [`SetRoom`] is the memory of a set that begins
+//! later, so that it can begin where none may be wanted.
+//!
+//! Contracts see a set as the record `TaskSetData` of `specs/TaskSetData.antt`, with one entry for
+//! each of its tasks; each call is a function on that record in `specs/Offers.antt` or
+//! `specs/Reports.antt`, and `specs/Sound.antt` has what every set keeps. A call about a partition
+//! that the set doesn't have, or an attempt that doesn't run, changes nothing. Only what hands out
+//! and what begins may want memory.
+//!
+//! It stands on `sc_ids`, and knows nothing of outputs, grants and other sets of its stage.
+#![tactic(auto)]
+
+mod changes;
+mod copies;
+mod laws;
+mod notes;
+mod rooms;
+mod rows;
+mod scans;
+mod task_sets;
+mod tasks;
+
+pub use laws::{hand_outs_keep_account, zombies_offer_nothing};
+pub use rooms::SetRoom;
+pub use task_sets::TaskSet;
+pub use tasks::{Finish, Given, Running, Verdict};

@@ -1,0 +1,132 @@
+//! Searches through the rows of a set, and through its failures.
+#![tactic(auto)]
+
+ghost use Rattle.std.specs.Prelude.{◌≡◌, ◌&&◌, ◌||◌, not, List, length};
+ghost use Rattle.std.specs.Option.{option_map};
+ghost use Rattle.std.specs.List.{filter, find, position};
+ghost use Rattle.sc_ids.specs.Failures.{is_counted};
+ghost use Rattle.sc_taskset.specs.declared.rows.Failure.{Failure};
+ghost use Rattle.sc_taskset.specs.Lookups.{are_finished, is_there_and, task_at};
+ghost use Rattle.sc_taskset.specs.Offers.{is_copyable_task, is_pending_task};
+ghost use Rattle.sc_taskset.specs.Reports.{duration_in, is_failure, is_first_success};
+ghost use Rattle.sc_taskset.specs.Rows.{is_failure_of, is_row_of, offered_task, task_of, tasks_of};
+
+use crate::rows::{Failure, Row};
+use sc_ids::{ExecId, FailureCause};
+
+/// The place of the row of a partition.
+pub fn place_of(rows: &[Row], partition: u32) -> Option<usize>
+    ensures { result ≡ position (is_row_of partition) rows.now }
+{
+    rows.iter().position(|row| row.partition == partition)
+}
+
+/// The row of a partition.
+pub fn row_at(rows: &[Row], partition: u32) -> Option<Row>
+    ensures { (failures : List Failure)
+        → option_map (task_of failures) result ≡ task_at partition (tasks_of failures rows.now) }
+{
+    rows.iter().find(|row| row.partition == partition).copied()
+}
+
+/// The first row that is to be handed out.
+fn first_pending(rows: &[Row]) -> Option<Row>
+    ensures { (failures : List Failure)
+        → option_map (task_of failures) result ≡ find is_pending_task (tasks_of failures rows.now) }
+{
+    rows.iter().find(|row| row.is_pending()).copied()
+}
+
+/// The first row of which a second attempt may run on an executor.
+fn first_copyable(rows: &[Row], exec: ExecId) -> Option<Row>
+    ensures { (failures : List Failure)
+        → option_map (task_of failures) result
+        ≡ find (is_copyable_task exec) (tasks_of failures rows.now) }
+{
+    rows.iter().find(|row| row.is_copyable(exec)).copied()
+}
+
+/// Whether all of them are finished.
+pub fn are_finished(rows: &[Row]) -> bool
+    ensures { (failures : List Failure)
+        → result ≡ are_finished (tasks_of failures rows.now) }
+{
+    rows.iter().all(|row| row.is_finished())
+}
+
+/// How many failures of a partition are among some.
+pub fn failure_count(failures: &[Failure], partition: u32) -> usize
+    ensures { result ≡ length (filter (is_failure_of partition) failures.now) }
+{
+    failures
+        .iter()
+        .filter(|failure| failure.partition == partition)
+        .count()
+}
+
+/// The first row that is there for an executor.
+pub fn offered(rows: &[Row], is_zombie: bool, speculation: bool, exec: ExecId) -> Option<Row>
+    ensures { (failures : List Failure) → option_map (task_of failures) result
+        ≡ offered_task is_zombie speculation exec (tasks_of failures rows.now) }
+{
+    if is_zombie {
+        return None;
+    }
+    match first_pending(rows) {
+        Some(row) => Some(row),
+        None => if speculation {
+            first_copyable(rows, exec)
+        } else {
+            None
+        },
+    }
+}
+
+/// Whether a failure of an attempt counts: its cause does, the set is no zombie, and the attempt
+/// runs.
+pub fn fails_in(
+    rows: &[Row],
+    is_zombie: bool,
+    partition: u32,
+    nth: u32,
+    cause: FailureCause,
+) -> bool
+    ensures { (failures : List Failure) → result
+        ≡ is_there_and (is_failure (is_counted cause && not is_zombie) nth)
+        (task_at partition (tasks_of failures rows.now)) }
+{
+    match row_at(rows, partition) {
+        Some(row) => cause.is_counted() && !is_zombie && row.runs(nth),
+        None => false,
+    }
+}
+
+/// Whether a success is the first of its partition.
+pub fn is_first_in(rows: &[Row], partition: u32, nth: Option<u32>) -> bool
+    ensures { (failures : List Failure) → result
+        ≡ is_there_and (is_first_success nth) (task_at partition (tasks_of failures rows.now)) }
+{
+    match row_at(rows, partition) {
+        Some(row) => row.is_first_success(nth),
+        None => false,
+    }
+}
+
+/// How long a partition took, by its first success of an attempt of its set.
+pub fn duration_in(rows: &[Row], partition: u32, nth: Option<u32>, now: u64) -> Option<u64>
+    ensures { (failures : List Failure) → result
+        ≡ duration_in nth now (task_at partition (tasks_of failures rows.now)) }
+{
+    match row_at(rows, partition) {
+        Some(row) => row.duration(nth, now),
+        None => None,
+    }
+}
+
+/// Whether a set hands out nothing more: it was so before, or all its tasks are finished.
+pub fn ends(is_zombie: bool, rows: &[Row]) -> bool
+    ensures { (failures : List Failure)
+        → result ≡ (is_zombie || are_finished (tasks_of failures rows.now)) }
+{
+    is_zombie || are_finished(rows)
+}
