@@ -1,0 +1,14 @@
+pub mod ListLemmas
+pub mod OrderLemmas
+pub mod MarkLemmas
+pub mod DependencyLemmas
+pub mod PathLemmas
+pub mod NumberLemmas
+pub mod SideLemmas
+pub mod CountLemmas
+pub mod CarriedLemmas
+pub mod StageLemmas
+pub mod CutLemmas
+pub mod JobLemmas
+pub mod NewLemmas
+pub mod LawLemmas
