@@ -1,0 +1,144 @@
+//! A run to be, and what was seen of it.
+#![tactic(auto)]
+
+use sc_app::{Ran, Status, fault_text, run};
+use sc_input::MemSource;
+use sc_sink::MemSink;
+use sc_value::{Name, Octets};
+use std::alloc::{AllocError, Global};
+use std::process::Abort;
+use std::str;
+
+/// The name of the script.
+pub const SCRIPT: &str = "job.spark";
+
+/// A run to be: the words, the files, and the calls outside that are to fail.
+#[derive(Drop)]
+pub struct Row {
+    alloc: Global,
+    words: Vec<String>,
+    source: MemSource,
+    sink: MemSink,
+}
+
+impl Row {
+    /// The run of a script.
+    pub fn of<R: Abort + AllocGlobal>(rt: &R, script: &str) -> Row {
+        Row::of_words(rt, &["run", SCRIPT]).file(rt, SCRIPT, script.as_bytes())
+    }
+
+    /// The run of some words, over no files.
+    pub fn of_words<R: Abort + AllocGlobal>(rt: &R, words: &[&str]) -> Row {
+        let alloc = rt.alloc();
+        Row {
+            alloc,
+            words: words_of(alloc, words).expect(rt, "memory"),
+            source: MemSource::new(alloc),
+            sink: MemSink::new(alloc),
+        }
+    }
+
+    /// Adds a file.
+    pub fn file<R: Abort>(mut self, rt: &R, name: &str, bytes: &[u8]) -> Row {
+        let name = Name::new(self.alloc, name).expect(rt, "memory");
+        let bytes = Octets::copy_of(self.alloc, bytes).expect(rt, "memory");
+        self.source.add(name, bytes).expect(rt, "memory");
+        self
+    }
+
+    /// Makes a read fail; the first of all, that of the script, has the number 1.
+    pub fn failing_read<R: Abort>(mut self, rt: &R, call: u64) -> Row {
+        self.source.fail_at(call).expect(rt, "memory");
+        self
+    }
+
+    /// Makes a write fail after so many bytes; the first of all has the number 1.
+    pub fn failing_write<R: Abort>(mut self, rt: &R, call: u64, bytes: usize) -> Row {
+        self.sink.fail_at(call, bytes).expect(rt, "memory");
+        self
+    }
+
+    /// Runs.
+    pub fn run<R>(mut self, rt: &R) -> Seen {
+        let ran = run(
+            rt,
+            self.alloc,
+            &self.words,
+            &mut self.source,
+            &mut self.sink,
+        );
+        Seen {
+            alloc: self.alloc,
+            ran,
+            source: self.source,
+            sink: self.sink,
+        }
+    }
+}
+
+/// These words.
+fn words_of(alloc: Global, words: &[&str]) -> Result<Vec<String>, AllocError> {
+    let mut strings = Vec::new(alloc);
+    for word in words {
+        strings.push(String::from_str(alloc, *word)?)?;
+    }
+    Ok(strings)
+}
+
+/// What was seen of a run.
+#[derive(Drop)]
+pub struct Seen {
+    alloc: Global,
+    ran: Ran,
+    source: MemSource,
+    sink: MemSink,
+}
+
+impl Seen {
+    /// What was written.
+    pub fn text(&self) -> &str {
+        str::from_utf8(self.sink.bytes()).unwrap_or("(no text)")
+    }
+
+    /// The number of how the run ended.
+    pub fn number(&self) -> u8 {
+        self.ran.status.number()
+    }
+
+    /// Whether the run ended for a fault of its script.
+    pub fn is_refused(&self) -> bool {
+        matches!(&self.ran.status, Status::Script(_))
+    }
+
+    /// What was written, and on a last line what is told of how the run ended, if anything is.
+    pub fn all(&self) -> Result<String, AllocError> {
+        let text = self.text();
+        let told = fault_text(self.alloc, &self.ran.status)?;
+        let end = if told.is_empty() { "" } else { "\n" };
+        format!(in self.alloc; "{text}{told}{end}")
+    }
+
+    /// A line with the number of how the run ended, the names that the source was asked for, in
+    /// order, how many files the run says that it read and how many pieces were written; and behind
+    /// it what was written and what is told.
+    pub fn end(&self) -> Result<String, AllocError> {
+        let number = self.number();
+        let asked = self.asked()?;
+        let reads = self.ran.read.len();
+        let writes = self.sink.pieces(self.alloc)?.len();
+        let all = self.all()?;
+        format!(in self.alloc;
+            "status {number}, asked [{asked}], {reads} read, {writes} written\n{all}"
+        )
+    }
+
+    /// The names that the source was asked for, in order, with a space between them.
+    fn asked(&self) -> Result<String, AllocError> {
+        let mut asked = String::new(self.alloc);
+        for name in self.source.asked() {
+            asked.push_str(if asked.is_empty() { "" } else { " " })?;
+            asked.push_str(name.as_str())?;
+        }
+        Ok(asked)
+    }
+}
