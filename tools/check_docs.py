@@ -9,7 +9,7 @@ Prints one line a place, 'FILE:LINE: what is wrong', and ends with 1 where it fo
   path, '*' and parts in capitals (crates/NAME/src) stand for anything;
 - a group or a crate of crates.txt that ARCHITECTURE.md or README.md lacks;
 - the word "today" in a document, but for README.md between its marks;
-- a line of code, clauses or definitions past 100 columns, but for imports;
+- a line of code, clauses, definitions or proofs past 100 columns, but for imports;
 - a list in a document that the crates don't bear out: those of docs/READING.md, of docs/TESTING.md
   and of CONTRIBUTING.md. `make docs` brings all of them up to date.
 """
@@ -188,7 +188,7 @@ def today_faults(files: Files) -> Iterator[Fault]:
 
 def column_faults(files: Files) -> Iterator[Fault]:
     for name, text in files.items():
-        if name.startswith("crates/") and "/proofs/" not in name and name.endswith((".rt", ".antt")):
+        if name.startswith("crates/") and name.endswith((".rt", ".antt")):
             for number, line in enumerate(text.splitlines(), 1):
                 if len(line) > COLUMNS and not IMPORT.match(line):
                     yield name, number, f"has {len(line)} columns"
