@@ -1,6 +1,5 @@
 -- How many partitions nodes have: at least one, and at most as many as the grammar counts.
-use Rattle.std.proofs.Common.{◌≡◌, ◌∙◌, ℕ, zero, suc, ◌+◌, ◌<◌, ◌≤◌, min, Bool, true, false, if◌then◌else◌, List, [], ◌∷◌, Some, length, map, take, flat_map, All, refl, ap, sym, subst, arith, nat_lt, ltb-true, ltb-false}
-use Rattle.std.proofs.lemmas.List.{length-map}
+use Rattle.std.proofs.Common.{◌≡◌, ◌∙◌, ℕ, zero, suc, ◌+◌, ◌<◌, ◌≤◌, Bool, true, false, if◌then◌else◌, List, [], ◌∷◌, Some, length, map, take, flat_map, All, arith}
 use Rattle.std.proofs.lemmas.List.Elements.{All-get_or, All-head, All-tail, All-weaker}
 use Rattle.std.specs.List.{list_any, slice_get}
 use Rattle.sc_base.specs.Lists.{at_or}
@@ -8,17 +7,17 @@ use Rattle.sc_value.specs.Keys.{KeyData}
 use Rattle.sc_part.specs.Bounds.{bounds_of}
 use Rattle.sc_part.proofs.BoundLemmas.{few_bounds}
 use Rattle.sc_lineage.specs.declared.streams.Stream.{Stream}
-use Rattle.sc_lineage.specs.Dependencies.{IsNarrow, parents_of}
+use Rattle.sc_lineage.specs.Dependencies.{parents_of}
 use Rattle.sc_lineage.specs.Keyed.{key_of}
 use Rattle.sc_lineage.specs.Laws.{CountsAreWithin, IsWithinDeclared}
-use Rattle.sc_lineage.specs.Meaning.{bounds_between, bounds_of_shuffle, bounds_step, meanings_by, part_count_by, parts_of_shuffle, parts_step, streams_step}
+use Rattle.sc_lineage.specs.Meaning.{bounds_between, bounds_of_shuffle, bounds_step, meanings_by, part_count_by, parts_of_shuffle, parts_step}
 use Rattle.sc_lineage.specs.NodeData.{NodeData, ShufflingData, reduce_by_key, group_by_key, sort_by_key, repartition, text_node, parallelize_node, each_node, union_node, coalesce_node, cache_node, shuffle_node, meet_node}
 use Rattle.sc_lineage.specs.Partitioners.{PartitionerData}
-use Rattle.sc_lineage.specs.ScriptData.{WorkData, IsCount, IsSoundScript, count_step, declared_count, declared_counts, partition_limit}
+use Rattle.sc_lineage.specs.ScriptData.{WorkData, IsCount, IsSoundScript, count_step, declared_counts, partition_limit}
 use Rattle.sc_lineage.specs.Streams.{raises}
-use Rattle.sc_lineage.proofs.PlaceLemmas.{at_or-get_or, at_or-map_any, at_or-past, at_or-take, slice_get-at_or}
+use Rattle.sc_lineage.proofs.PlaceLemmas.{at_or-get_or, at_or-map_any, at_or-take, slice_get-at_or}
 use Rattle.sc_lineage.proofs.ByNodesLemmas.{fold_laws}
-use Rattle.sc_lineage.proofs.MeaningLemmas.{part_count-step, parts_of_narrow, reads_before}
+use Rattle.sc_lineage.proofs.MeaningLemmas.{part_count-step, reads_before}
 use Rattle.sc_lineage.proofs.ReadLemmas.{counts_by_parents}
 
 -- one more than bounds are at most as many as the grammar counts
@@ -125,42 +124,6 @@ module _ (known : List PartitionerData) (work : WorkData) (sound : IsSoundScript
 
   pub count_is_some : (k : ℕ) → k < length work.script.nodes → 1 ≤ part_count_by known work k
   count_is_some k at = (count_is_within k at).some
-
-  -- Where no node is made by a shuffle, all numbers of partitions are as the grammar counts.
-  module _ (narrow : All IsNarrow work.script.nodes) where
-    narrow_at : (k : ℕ) → k < length work.script.nodes
-        → IsNarrow (at_or work.script.nodes k (cache_node 0))
-    narrow_at k at =
-        let P : NodeData → Type 0 = IsNarrow in
-        subst P (sym (at_or-get_or work.script.nodes k (cache_node 0)))
-        (All-get_or IsNarrow work.script.nodes k (cache_node 0) at narrow)
-
-    narrow_below : (n k : ℕ) → k < n → k < length work.script.nodes
-        → at_or parts k 0 ≡ at_or declared k 0
-    narrow_below zero k below at = absurd (omega arith)
-    narrow_below (suc n) k below at =
-        let node = at_or work.script.nodes k (cache_node 0) in
-        let is = slice_get-at_or work.script.nodes k (cache_node 0) at in
-        part_at k ∙ part_count-step known work k node sound is
-        ∙ parts_of_narrow (meanings_by known work) parts node (narrow_at k at)
-        ∙ counts_by_parents parts declared node
-        (All-weaker (λ q. q < k) (λ q. at_or parts q 0 ≡ at_or declared q 0)
-        (λ q first. narrow_below n q (omega arith) (omega arith)) (parents_of node)
-        (reads_before work.script k node sound is))
-        ∙ sym (declared-step k node is)
-
-    pub narrow_count : (q : ℕ) → at_or parts q 0 ≡ at_or declared q 0
-    narrow_count q = decided (nat_lt q (length work.script.nodes)) refl
-      where
-        decided : (b : Bool) → nat_lt q (length work.script.nodes) ≡ b
-            → at_or parts q 0 ≡ at_or declared q 0
-        decided true is = narrow_below (suc q) q (omega arith) (ltb-true q _ is)
-        decided false is =
-            let past = ltb-false q (length work.script.nodes) is in
-            let found = (fold_laws (streams_step work.inputs known)).lengths work.script.nodes in
-            let len = (fold_laws count_step).lengths work.script.nodes in
-            at_or-past parts q 0 (omega (arith, length-map (meanings_by known work) length))
-            ∙ sym (at_or-past declared q 0 (omega arith))
 
 pub counts_are_within : CountsAreWithin
 counts_are_within known work k sound at = count_is_within known work sound k at

@@ -2,7 +2,7 @@
 use Rattle.std.proofs.Common.{◌≡◌, ◌∙◌, ℕ, ◌<◌, List, [], ◌∷◌, Some, map, All, refl, ap, sym}
 use Rattle.std.specs.List.{slice_get}
 use Rattle.sc_base.specs.Lists.{at_or}
-use Rattle.sc_lineage.specs.Dependencies.{IsNarrow, PlaceData, parents_of, reads_of}
+use Rattle.sc_lineage.specs.Dependencies.{IsNarrow, parents_of, reads_of}
 use Rattle.sc_lineage.specs.Meaning.{meanings_by, part_count_by, partition_stream_by, stream_at, stream_count}
 use Rattle.sc_lineage.specs.Narrow.{narrow_stream}
 use Rattle.sc_lineage.specs.NodeData.{NodeData}

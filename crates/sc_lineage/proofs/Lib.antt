@@ -9,4 +9,3 @@ pub mod NodeLemmas
 pub mod SoundLemmas
 pub mod WholeLemmas
 pub mod ShuffleLemmas
-pub mod LocalLemmas

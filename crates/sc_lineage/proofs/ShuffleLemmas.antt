@@ -1,17 +1,16 @@
 -- Partitions of shuffles, by the streams of their parents.
-use Rattle.std.proofs.Common.{◌≡◌, ◌∙◌, ℕ, zero, suc, ◌+◌, ◌-◌, ◌<◌, ◌≤◌, Bool, true, false, ◌==◌, if◌then◌else◌, List, [], ◌∷◌, Some, None, length, map, take, refl, ap, ap₂, sym, subst, arith}
+use Rattle.std.proofs.Common.{◌≡◌, ◌∙◌, ℕ, zero, suc, ◌+◌, ◌-◌, ◌<◌, Bool, true, false, if◌then◌else◌, List, [], ◌∷◌, Some, None, length, map, take, refl, ap, ap₂, sym, arith}
 use Rattle.std.proofs.lemmas.List.Elements.{All-head}
-use Rattle.std.proofs.lemmas.Bool.{eqb-true}
 use Rattle.std.specs.List.{slice_get}
 use Rattle.sc_base.specs.Lists.{at_or, numbers_from}
 use Rattle.sc_lineage.specs.declared.nodes.Elementwise.{Elementwise}
 use Rattle.sc_lineage.specs.declared.nodes.Elementwise.TheVariants as by
 use Rattle.sc_lineage.specs.declared.nodes.Meeting.{Meeting}
 use Rattle.sc_lineage.specs.declared.streams.Stream.{Stream}
-use Rattle.sc_lineage.specs.Dependencies.{Dependency, one_to_one, shuffled, place, places_from, places_read}
+use Rattle.sc_lineage.specs.Dependencies.{one_to_one, shuffled, place, places_from, places_read}
 use Rattle.sc_lineage.specs.Meaning.{bounds_of_shuffle, bounds_step, meanings_by, node_streams_by, part_count_by, partition_stream_by, parts_step, stream_at, stream_count}
 use Rattle.sc_lineage.specs.NodeData.{NodeData, ShufflingData, reduce_by_key, group_by_key, sort_by_key, repartition, text_node, parallelize_node, each_node, union_node, coalesce_node, cache_node, shuffle_node, meet_node}
-use Rattle.sc_lineage.specs.Partitioners.{PartitionerData, no_partitioner, hash_partitioner, range_partitioner, is_parted_by, partitioner_of_each, partitioner_of_shuffle, partitioner_step, partitioners_of}
+use Rattle.sc_lineage.specs.Partitioners.{PartitionerData, no_partitioner, hash_partitioner, is_parted_by, partitioner_of_each, partitioner_of_shuffle, partitioner_step, partitioners_of}
 use Rattle.sc_lineage.specs.ScriptData.{WorkData, IsSoundScript}
 use Rattle.sc_lineage.specs.Shuffles.{dealing_of, met_stream, shuffled_stream}
 use Rattle.sc_lineage.specs.Streams.{ended_stream}

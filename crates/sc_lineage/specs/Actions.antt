@@ -89,10 +89,6 @@ outcome_of_results action results =
 abbrev pub outcome_from : ActionData → List Stream → ActionOutcome
 outcome_from action streams = outcome_of_results action (map (result_of action) streams)
 
--- the results of the partitions of an action's node, by the sequential meaning
-abbrev pub action_results : WorkData → ActionData → List Stream
-action_results work action = map (result_of action) (node_streams work (node_of_action action))
-
 -- the results that are computed for the partitions of an action's node
 abbrev pub local_results : WorkData → ActionData → List Stream
 local_results work action = map (result_of action) (local_streams work (node_of_action action))

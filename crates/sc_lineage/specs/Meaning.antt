@@ -4,7 +4,7 @@
 -- The fold has a parameter: the partitioners that are known of nodes, by which a shuffle may be
 -- skipped. In the sequential meaning none is known, so that every operation by key is a shuffle. In
 -- the local meaning, which is what tasks compute, those of all nodes are.
-use Rattle.std.specs.Prelude.{ℕ, ◌+◌, ◌||◌, Bool, true, false, List, [], ◌∷◌, map, length, None, if◌then◌else◌}
+use Rattle.std.specs.Prelude.{ℕ, ◌+◌, List, [], map, length, None, if◌then◌else◌}
 use Rattle.std.specs.List.{flat_map, list_any}
 use Rattle.sc_base.specs.Lists.{at_or, numbers_below}
 use Rattle.sc_base.specs.Outside.{Files}

@@ -1,5 +1,5 @@
 -- Partitioners: by which rule the rows of a node lie in its partitions, where there is one.
-use Rattle.std.specs.Prelude.{ℕ, Bool, true, false, ◌==◌, List}
+use Rattle.std.specs.Prelude.{ℕ, Bool, false, ◌==◌, List}
 use Rattle.sc_base.specs.Lists.{at_or}
 use Rattle.sc_lineage.specs.ByNodes.{by_nodes}
 use Rattle.sc_lineage.specs.NodeData.{NodeData, ShufflingData, reduce_by_key, group_by_key, sort_by_key, repartition, text_node, parallelize_node, each_node, union_node, coalesce_node, cache_node, shuffle_node, meet_node}

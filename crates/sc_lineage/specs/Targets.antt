@@ -1,11 +1,11 @@
 -- What is computed as one task.
-use Rattle.std.specs.Prelude.{ℕ, []}
+use Rattle.std.specs.Prelude.{ℕ}
 use Rattle.sc_base.specs.Lists.{at_or}
 use Rattle.sc_lineage.specs.declared.streams.Stream.{Stream}
 use Rattle.sc_lineage.specs.Actions.{result_of}
 use Rattle.sc_lineage.specs.Dependencies.{parents_of}
 use Rattle.sc_lineage.specs.Meaning.{local_stream}
-use Rattle.sc_lineage.specs.NodeData.{NodeData, text_node, parallelize_node, each_node, union_node, coalesce_node, cache_node, shuffle_node, meet_node}
+use Rattle.sc_lineage.specs.NodeData.{NodeData, cache_node, shuffle_node}
 use Rattle.sc_lineage.specs.ScriptData.{ActionData, WorkData, node_of_action}
 use Rattle.sc_lineage.specs.Keyed.{Side}
 use Rattle.sc_lineage.specs.Shuffles.{map_side, side_of_stream, stream_of_side}
