@@ -37,12 +37,14 @@ impl Plan {
     pub fn wipes(&self, exec: ExecId) -> u64
         ensures { result ≡ length (wipes_of self.now exec) }
     {
-        self.lines.iter().filter(|line| is_wipe(**line, exec)).count() as u64
+        self.lines
+            .iter()
+            .filter(|line| is_wipe(**line, exec))
+            .count() as u64
     }
 }
 
-fn is_wipe(line: PlanLine, exec: ExecId) -> bool
-{
+fn is_wipe(line: PlanLine, exec: ExecId) -> bool {
     match line {
         PlanLine::Drop { exec: e, .. } | PlanLine::Lose { exec: e, .. } => e == exec,
         _ => false,

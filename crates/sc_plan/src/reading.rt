@@ -1,13 +1,14 @@
 //! One line of a fault plan, test by test.
 #![tactic(auto)]
 
-ghost use Rattle.std.specs.Prelude.{◌≡◌, ◌≤◌, IsTrue, map, true};
-ghost use Rattle.std.specs.List.{list_all};
+ghost use Rattle.std.specs.Prelude.{◌≡◌, IsTrue, map};
+ghost use Rattle.std.specs.List.{list_all, list_any};
 ghost use Rattle.std.specs.Str.Parse.{digits_value};
 ghost use Rattle.sc_base.specs.Answers.{Answers};
 ghost use Rattle.sc_base.specs.Lists.{at_or};
 ghost use Rattle.sc_plan.specs.LineReading.{added, fits as line_fits, is_plan_number, is_shaped as are_shaped, is_skipped as is_skipped_line, kind_read, line_read, next_read, words_read};
-ghost use Rattle.sc_plan.specs.PlanLines.{line_of, place_from};
+ghost use Rattle.sc_plan.specs.PlanLines.{line_of, place_from, repeats};
+ghost use Rattle.sc_value.specs.Numbers.{is_digits};
 ghost use Rattle.sc_plan.specs.Tables.{number_count as numbers_taken};
 
 use crate::faults::{LineError, PlanFaultKind};
@@ -97,7 +98,7 @@ fn read_kind(
     if !is_shaped(kind, args) {
         return Err(PlanFaultKind::Syntax);
     }
-    if !args.iter().all(|arg| is_small_number(arg.as_str())) {
+    if !are_small_numbers(args) {
         return Err(PlanFaultKind::Limit);
     }
     add(before, executors, line_from(kind, args))
@@ -110,10 +111,17 @@ fn add(before: &[PlanLine], executors: u32, line: PlanLine) -> Result<PlanLine, 
     if !fits(before, executors, line) {
         return Err(PlanFaultKind::Limit);
     }
-    if before.iter().any(|other| line.repeats(*other)) {
+    if is_said(before, line) {
         return Err(PlanFaultKind::Twice);
     }
     Ok(line)
+}
+
+/// Whether one of some lines says the same already.
+fn is_said(before: &[PlanLine], line: PlanLine) -> bool
+    ensures { result ≡ list_any (repeats line) before.now }
+{
+    before.iter().any(|other| line.repeats(*other))
 }
 
 /// Whether a line is within the limits behind others.
@@ -127,7 +135,21 @@ fn fits(before: &[PlanLine], executors: u32, line: PlanLine) -> bool
 fn is_shaped(kind: LineKind, args: &[Text]) -> bool
     ensures { result ≡ are_shaped kind args.now }
 {
-    args.len() == number_count(kind) && args.iter().all(|arg| is_digits(arg.as_str().as_bytes()))
+    args.len() == number_count(kind) && are_numbers(args)
+}
+
+/// Whether each word is a number.
+fn are_numbers(args: &[Text]) -> bool
+    ensures { result ≡ list_all is_digits args.now }
+{
+    args.iter().all(|arg| is_digits(arg.as_str().as_bytes()))
+}
+
+/// Whether each word is a number that a plan may have.
+fn are_small_numbers(args: &[Text]) -> bool
+    ensures { result ≡ list_all is_plan_number args.now }
+{
+    args.iter().all(|arg| is_small_number(arg.as_str()))
 }
 
 /// Whether a word is a number that a plan may have.
@@ -193,7 +215,7 @@ fn number_at(args: &[Text], i: usize) -> u32
 
 /// The number that a word is.
 fn number_of(word: &str) -> u32
-    requires { is_plan_number word.now ≡ true }
+    requires { IsTrue (is_plan_number word.now) }
     ensures { result ≡ digits_value 10 word.now }
 {
     match word.parse::<u32>() {

@@ -1,0 +1,5 @@
+pub mod LineLemmas
+pub mod NumberLemmas
+pub mod OneReading
+pub mod PlanLemmas
+pub mod SoundLemmas
