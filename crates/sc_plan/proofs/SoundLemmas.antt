@@ -1,19 +1,21 @@
 -- What holds of the lines that are read as a plan.
-use Rattle.std.proofs.Common.{◌≡◌, ◌∙◌, ℕ, suc, ◌+◌, ◌<◌, ◌≤◌, Bool, true, false, ◌&&◌, not, List, [], ◌∷◌, ◌++◌, length, map, refl, sym, ap, subst, Option, Some, None, Ok, Err, Result, arith}
+use Rattle.std.proofs.Common.{◌≡◌, ◌∙◌, ℕ, zero, suc, ◌+◌, ◌<◌, ◌≤◌, Bool, true, false, ◌&&◌, not, List, [], ◌∷◌, ◌++◌, length, map, refl, sym, ap, subst, Option, Some, None, Ok, Err, Result, arith}
 use Rattle.std.specs.List.{AllByRecursion, list_all, list_any}
-use Rattle.std.specs.Prelude.{if◌then◌else◌, nat_lt}
+use Rattle.std.specs.Prelude.{if◌then◌else◌, nat_le, nat_lt}
 use Rattle.std.specs.Str.Parse.{digits_value}
-use Rattle.std.proofs.lemmas.Bool.{and_parts, cases_Bool, ltb-true}
+use Rattle.std.proofs.lemmas.Bool.{and_parts, leb-true, ltb-true}
+use Rattle.sc_base.specs.Lists.{at_or}
+use Rattle.sc_value.specs.Numbers.{is_digits}
 use Rattle.sc_value.specs.Words.{words_of}
-use Rattle.sc_plan.specs.Limits.{line_limit, lines_limit}
-use Rattle.sc_plan.specs.LineReading.{added, fits, is_plan_number, is_shaped, is_skipped, kind_read, line_read, named_read, next_read, with_line, words_read}
-use Rattle.sc_plan.specs.PlanLines.{AreBelow, AreOnceBehind, IsSoundPlan, line_of, names_below, repeats, tells_in_order}
-use Rattle.sc_plan.specs.Plans.{ReadsLines, no_line, behind_line, at_fault}
+use Rattle.sc_plan.specs.Limits.{line_limit, lines_limit, number_limit}
+use Rattle.sc_plan.specs.LineReading.{added, fits, is_plan_number, is_shaped, is_skipped, kind_read, line_read, named_read, with_line, words_read}
+use Rattle.sc_plan.specs.PlanLines.{AreBelow, AreOnceBehind, HasSmallNumbers, IsSmallPlace, IsSoundPlan, line_of, names_below, place_from, repeats, tells_in_order}
+use Rattle.sc_plan.specs.Plans.{ReadsLines, no_line, behind_line}
 use Rattle.sc_plan.specs.Tables.{kind_named}
 use Rattle.sc_plan.specs.declared.faults.PlanFaultKind.{PlanFaultKind}
-use Rattle.sc_plan.specs.declared.faults.PlanFault.{PlanFault}
 use Rattle.sc_plan.specs.declared.lines.PlanLine.{PlanLine}
 use Rattle.sc_plan.specs.declared.tables.LineKind.{LineKind}
+use Rattle.sc_plan.specs.declared.tables.LineKind.TheVariants as kinds
 
 -- a test that was passed
 passed : {X F : Type 0} (b : Bool) (k : F) (y : Result X F) (x : X)
@@ -49,32 +51,64 @@ once_more : (before ls : List PlanLine) (l : PlanLine) → AreOnceBehind before 
     → list_any (repeats l) (before ++ ls) ≡ false → AreOnceBehind before (ls ++ l ∷ [])
 once_more before [] l once new =
     (sym (ap (list_any (repeats l)) (unit_right before)) ∙ new, tt)
-once_more before (m ∷ ls) l once new =
-    (once.0, once_more (before ++ m ∷ []) ls l once.1
-    (ap (list_any (repeats l)) (between before m ls) ∙ new))
+once_more before (m ∷ ls) l once new = (
+  once.0,
+  once_more (before ++ m ∷ []) ls l once.1
+      (ap (list_any (repeats l)) (between before m ls) ∙ new),
+)
+
+-- the numbers of words that were tested
+small_number : (word : List ℕ) → is_plan_number word ≡ true
+    → digits_value 10 word ≤ number_limit
+small_number word is =
+    let parts = and_parts (is_digits word) (nat_le (digits_value 10 word) number_limit) is in
+    leb-true (digits_value 10 word) number_limit parts.1
+
+small_at : (words : List (List ℕ)) → list_all is_plan_number words ≡ true → (i : ℕ)
+    → at_or (map (digits_value 10) words) i 0 ≤ number_limit
+small_at [] all i = omega arith
+small_at (w ∷ ws) all zero =
+    small_number w (and_parts (is_plan_number w) (list_all is_plan_number ws) all).0
+small_at (w ∷ ws) all (suc i) =
+    small_at ws (and_parts (is_plan_number w) (list_all is_plan_number ws) all).1 i
+
+module _ (ns : List ℕ) (h : (i : ℕ) → at_or ns i 0 ≤ number_limit) where
+  small_place : IsSmallPlace (place_from ns)
+  small_place = record { stage = h 0; partition = h 1; nth = h 2 }
+
+  small_line : (kind : LineKind) → HasSmallNumbers (line_of kind ns)
+  small_line kinds.Fail = small_place
+  small_line kinds.Late = (small_place, h 3)
+  small_line kinds.Twice = small_place
+  small_line kinds.Drop = (h 0, h 1)
+  small_line kinds.Lose = (h 0, h 1, h 2)
+  small_line kinds.Evict = (h 0, h 1)
 
 -- what a line that is read passed
 record Passed (executors : ℕ) (before : List PlanLine) (l : PlanLine) : Type 0 where
   pub fit : fits executors before l ≡ true
   pub new : list_any (repeats l) before ≡ false
+  pub small : HasSmallNumbers l
 
 module _ (executors : ℕ) (before : List PlanLine) where
   abbrev P : PlanLine → Type 0
   P = Passed executors before
 
-  added_passed : (line l : PlanLine) → added executors before line ≡ Ok l → P l
-  added_passed line l e =
+  added_passed : (line l : PlanLine) → HasSmallNumbers line
+      → added executors before line ≡ Ok l → P l
+  added_passed line l small e =
       let p = passed (fits executors before line) _ _ l e in
       let q = passed_not (list_any (repeats line) before) _ _ l p.1 in
       let same : line ≡ l = let is = q.1 in cc in
-      subst P same (record { fit = p.0; new = q.0 })
+      subst P same (record { fit = p.0; new = q.0; small = small })
 
   kind_passed : (kind : LineKind) (args : List (List ℕ)) (l : PlanLine)
       → kind_read executors before kind args ≡ Ok l → P l
   kind_passed kind args l e =
       let p = passed (is_shaped kind args) _ _ l e in
       let q = passed (list_all is_plan_number args) _ _ l p.1 in
-      added_passed (line_of kind (map (digits_value 10) args)) l q.1
+      let ns = map (digits_value 10) args in
+      added_passed (line_of kind ns) l (small_line ns (small_at args q.0) kind) q.1
 
   named_passed : (kind : Option LineKind) (args : List (List ℕ)) (l : PlanLine)
       → named_read executors before kind args ≡ Ok l → P l
@@ -106,6 +140,7 @@ kept_more executors before l kept p =
     record {
       sound = record {
         few = omega (arith, length_more before l);
+        small = all_more HasSmallNumbers before l kept.sound.small p.small;
         once = once_more [] before l kept.sound.once p.new;
         told = all_more (λ m. tells_in_order m ≡ true) before l kept.sound.told own.1;
       };
@@ -143,7 +178,7 @@ kept_behind executors before first lines read kept
 
 none_kept : (executors : ℕ) → IsKept executors []
 none_kept executors =
-    record { sound = record { few = omega arith; once = tt; told = tt }; below = tt }
+    record { sound = record { few = omega arith; small = tt; once = tt; told = tt }; below = tt }
 
 pub sound_lines : (executors : ℕ) (lines : List (List ℕ)) (read : List PlanLine)
     → ReadsLines executors [] 1 lines (Ok read) → IsSoundPlan read

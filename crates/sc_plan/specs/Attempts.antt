@@ -1,5 +1,5 @@
 -- What a plan says of the attempts at a place.
-use Rattle.std.specs.Prelude.{ℕ, Bool, true, false, List, Option, Some, None, filter_map, slice_get, if◌then◌else◌}
+use Rattle.std.specs.Prelude.{ℕ, Bool, false, List, Option, Some, None, filter_map, slice_get, if◌then◌else◌}
 use Rattle.std.specs.List.{list_any}
 use Rattle.sc_plan.specs.declared.lines.Place.{Place}
 use Rattle.sc_plan.specs.declared.lines.PlanLine.{PlanLine}

@@ -6,3 +6,5 @@ pub mod Plans
 pub mod Faults
 pub mod Attempts
 pub mod Orders
+pub mod Lookups
+pub mod OrderLookups

@@ -1,6 +1,5 @@
 -- The wipes, evictions and losses of a plan.
-use Rattle.std.specs.Prelude.{ℕ, ◌+◌, ◌-◌, ◌*◌, Bool, ◌==◌, nat_le, nat_lt, List, filter, filter_map, length, Option, Some, None, option_map, slice_get, if◌then◌else◌}
-use Rattle.std.specs.List.{sum_by}
+use Rattle.std.specs.Prelude.{ℕ, ◌-◌, Bool, ◌==◌, nat_le, nat_lt, List, filter, filter_map, length, Option, Some, None, option_map, slice_get, if◌then◌else◌}
 use Rattle.sc_part.specs.Sorts.{sorted}
 use Rattle.sc_plan.specs.declared.lines.PlanLine.{PlanLine}
 use Rattle.sc_plan.specs.declared.lines.PlanLine.TheVariants as lines

@@ -8,7 +8,7 @@ use Rattle.sc_plan.specs.declared.lines.PlanLine.{PlanLine}
 use Rattle.sc_plan.specs.declared.lines.PlanLine.TheVariants as lines
 use Rattle.sc_plan.specs.declared.tables.LineKind.{LineKind}
 use Rattle.sc_plan.specs.declared.tables.LineKind.TheVariants as kinds
-use Rattle.sc_plan.specs.Limits.{lines_limit}
+use Rattle.sc_plan.specs.Limits.{lines_limit, number_limit}
 
 -- the place of an attempt, whichever attempt of its stage it is in
 abbrev pub place_of : AttemptId → Place
@@ -64,10 +64,28 @@ AreOnceBehind before [] = Unit {0}
 AreOnceBehind before (l ∷ ls) =
     (list_any (repeats l) before ≡ false) × AreOnceBehind (before ++ l ∷ []) ls
 
+-- the numbers of a place are at most so large
+pub record IsSmallPlace (place : Place) : Type 0 where
+  pub stage : place.stage ≤ number_limit
+  pub partition : place.partition ≤ number_limit
+  pub nth : place.nth ≤ number_limit
+
+-- the numbers of a line are at most so large
+abbrev pub HasSmallNumbers : PlanLine → Type 0
+HasSmallNumbers (lines.Fail p) = IsSmallPlace p
+HasSmallNumbers (lines.Late p c) = IsSmallPlace p × (c ≤ number_limit)
+HasSmallNumbers (lines.Twice p) = IsSmallPlace p
+HasSmallNumbers (lines.Drop e a) = (e ≤ number_limit) × (a ≤ number_limit)
+HasSmallNumbers (lines.Lose e a t) =
+    (e ≤ number_limit) × (a ≤ number_limit) × (t ≤ number_limit)
+HasSmallNumbers (lines.Evict e a) = (e ≤ number_limit) × (a ≤ number_limit)
+
 -- what holds of the lines of every plan
 pub record IsSoundPlan (ls : List PlanLine) : Type 0 where
   -- they are few
   pub few : length ls ≤ lines_limit
+  -- their numbers are small
+  pub small : AllByRecursion HasSmallNumbers ls
   -- no line says what a line before it says
   pub once : AreOnceBehind [] ls
   -- no executor is told lost before it is wiped

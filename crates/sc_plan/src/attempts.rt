@@ -1,7 +1,8 @@
 //! What a plan says of an attempt.
 #![tactic(auto)]
 
-use crate::lines::{Place, PlanLine};
+use crate::lines::Place;
+use crate::lookups::key_of_place;
 use crate::plans::Plan;
 use sc_ids::AttemptId;
 
@@ -14,36 +15,30 @@ impl Plan {
     pub fn fails(&self, attempt: &AttemptId) -> bool
         ensures { result ≡ is_failed self.now (place_of attempt.now) }
     {
-        let place = Place::of(attempt);
-        self.lines.iter().any(|line| match line {
-            PlanLine::Fail(p) => p.is(place),
-            _ => false,
-        })
+        self.fails.at(key_of_place(Place::of(attempt))).is_some()
     }
 
     /// Whether a second copy of an attempt's report comes.
     pub fn twice(&self, attempt: &AttemptId) -> bool
         ensures { result ≡ is_doubled self.now (place_of attempt.now) }
     {
-        let place = Place::of(attempt);
-        self.lines.iter().any(|line| match line {
-            PlanLine::Twice(p) => p.is(place),
-            _ => false,
-        })
+        self.twices.at(key_of_place(Place::of(attempt))).is_some()
     }
 
     /// How many more reports are told before that of an attempt, and None where it isn't late.
     pub fn late(&self, attempt: &AttemptId) -> Option<u64>
         ensures { result ≡ delay_of self.now (place_of attempt.now) }
     {
-        let place = Place::of(attempt);
-        for line in &self.lines {
-            if let PlanLine::Late { place: p, count } = line {
-                if p.is(place) {
-                    return Some(u64::from(*count));
-                }
-            }
+        match self.delay(attempt) {
+            Some(count) => Some(u64::from(count)),
+            None => None,
         }
-        None
+    }
+
+    /// The same, in 32 bits.
+    fn delay(&self, attempt: &AttemptId) -> Option<u32>
+        ensures { result ≡ delay_of self.now (place_of attempt.now) }
+    {
+        self.lates.at(key_of_place(Place::of(attempt)))
     }
 }

@@ -19,6 +19,7 @@ mod faults;
 mod laws;
 mod limits;
 mod lines;
+mod lookups;
 mod orders;
 mod parsing;
 mod plans;

@@ -1,10 +1,9 @@
-use Rattle.std.proofs.Common.{◌≡◌, Err, List, ap, subst, sym, arith}
+use Rattle.std.proofs.Common.{Err, ap, subst, sym, arith}
 use Rattle.std.proofs.lemmas.Result.{err_from_is_err_and}
 use Rattle.sc_plan.proofs.LineLemmas.{few_lines}
 use Rattle.sc_plan.proofs.PlanLemmas.{too_many, not_text, fault_in_lines}
 use Rattle.sc_plan.proofs.SoundLemmas.{sound_lines, below_lines}
 use Rattle.sc_plan.specs.PlanLines.{AreBelow}
-use Rattle.sc_plan.specs.declared.lines.PlanLine.{PlanLine}
 use Rattle.sc_plan.proofs.parsing.parse_plan.Goals as goal
 
 pub returns-then-len-gt-PLAN_LIMIT-clause-fault :

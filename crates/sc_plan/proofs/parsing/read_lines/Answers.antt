@@ -1,5 +1,5 @@
 use Rattle.std.proofs.Common.{arith}
-use Rattle.sc_plan.proofs.PlanLemmas.{none_read, one_read, all_read, stopped}
+use Rattle.sc_plan.proofs.PlanLemmas.{one_read, all_read, stopped}
 use Rattle.sc_plan.proofs.parsing.read_lines.Goals as goal
 
 pub returns-in-Err : goal.returns-in-Err
