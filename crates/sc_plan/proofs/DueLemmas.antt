@@ -8,8 +8,7 @@ use Rattle.sc_part.proofs.PlaceLemmas.{sorted-map}
 use Rattle.sc_part.specs.Sorts.{sorted}
 use Rattle.sc_plan.proofs.TableLemmas.{filter-sorted, length-sorted, lower}
 use Rattle.sc_plan.specs.Limits.{lines_limit, number_limit}
-use Rattle.sc_plan.specs.Lookups.{due_key, entry, entry_in, is_between, is_lower, table_of}
-use Rattle.sc_plan.specs.OrderLookups.{kind_code, kind_coded}
+use Rattle.sc_plan.specs.Lookups.{due_key, entry, entry_in, is_between, is_lower, kind_code, kind_coded, table_of}
 use Rattle.sc_plan.specs.Orders.{Due, due_count, due_there, evict_in, evicts_of, in_order, is_sooner, nth_order, order_of, wipe_in, wipes_of}
 use Rattle.sc_plan.specs.PlanLines.{HasSmallNumbers}
 use Rattle.sc_plan.specs.declared.lines.PlanLine.{PlanLine}

@@ -7,4 +7,4 @@ pub mod Faults
 pub mod Attempts
 pub mod Orders
 pub mod Lookups
-pub mod OrderLookups
+pub mod Laws

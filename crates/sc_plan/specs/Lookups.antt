@@ -1,6 +1,6 @@
 -- How a plan is looked up: entries under keys, in the order of the keys. No contract that is seen
 -- outside speaks of this.
-use Rattle.std.specs.Prelude.{ℕ, ◌+◌, ◌*◌, ◌<◌, ◌≡◌, Bool, ◌&&◌, nat_le, nat_lt, List, filter_map, Option, Some, None, option_map, slice_get}
+use Rattle.std.specs.Prelude.{ℕ, zero, suc, ◌+◌, ◌*◌, ◌<◌, ◌≡◌, Bool, ◌&&◌, nat_le, nat_lt, List, filter_map, Option, Some, None, option_map, slice_get}
 use Rattle.sc_part.specs.Sorts.{sorted}
 use Rattle.sc_plan.specs.declared.lines.Place.{Place}
 use Rattle.sc_plan.specs.declared.lines.PlanLine.{PlanLine}
@@ -8,6 +8,8 @@ use Rattle.sc_plan.specs.declared.lines.PlanLine.TheVariants as lines
 use Rattle.sc_plan.specs.declared.lookups.Entry.{Entry}
 use Rattle.sc_plan.specs.declared.lookups.Sought.{Sought}
 use Rattle.sc_plan.specs.declared.lookups.Sought.TheVariants as sought
+use Rattle.sc_plan.specs.declared.orders.OrderKind.{OrderKind}
+use Rattle.sc_plan.specs.declared.orders.OrderKind.TheVariants as kinds
 
 -- the key of a place, whose parts have 32 bits each
 abbrev pub place_key : Place → ℕ
@@ -26,14 +28,26 @@ due_key exec after = exec * 4294967296 + after
 abbrev pub entry : ℕ → ℕ → Entry
 entry key value = record { key = key; value = value }
 
+-- the number of a kind of order
+abbrev pub kind_code : OrderKind → ℕ
+kind_code kinds.Drop = 0
+kind_code kinds.Lose = 1
+kind_code kinds.Evict = 2
+
+-- the kind that a number stands for
+abbrev pub kind_coded : ℕ → OrderKind
+kind_coded zero = kinds.Drop
+kind_coded (suc zero) = kinds.Lose
+kind_coded (suc (suc n)) = kinds.Evict
+
 -- the entry of a line in a table, if it has one there
 abbrev pub entry_in : Sought → PlanLine → Option Entry
 entry_in sought.Fail (lines.Fail p) = Some (entry (place_key p) 0)
 entry_in sought.Late (lines.Late p count) = Some (entry (place_key p) count)
 entry_in sought.Twice (lines.Twice p) = Some (entry (place_key p) 0)
-entry_in sought.Wipe (lines.Drop e after) = Some (entry (due_key e after) 0)
-entry_in sought.Wipe (lines.Lose e after told) = Some (entry (due_key e after) 1)
-entry_in sought.Evict (lines.Evict e after) = Some (entry (due_key e after) 2)
+entry_in sought.Wipe (lines.Drop e after) = Some (entry (due_key e after) (kind_code kinds.Drop))
+entry_in sought.Wipe (lines.Lose e after told) = Some (entry (due_key e after) (kind_code kinds.Lose))
+entry_in sought.Evict (lines.Evict e after) = Some (entry (due_key e after) (kind_code kinds.Evict))
 entry_in sought.Loss (lines.Lose e after told) = Some (entry e told)
 entry_in what line = None
 

@@ -27,7 +27,7 @@ mod reading;
 mod tables;
 
 pub use faults::{PlanError, PlanFault, PlanFaultKind};
-pub use laws::plans_have_one_reading;
+pub use laws::{orders_are_numbered, plans_have_one_reading, readers_are_exact};
 pub use lines::{Place, PlanLine};
 pub use orders::{Order, OrderKind};
 pub use parsing::parse_plan;

@@ -2,7 +2,7 @@
 #![tactic(auto)]
 
 ghost use Rattle.std.specs.Prelude.{◌≡◌};
-ghost use Rattle.sc_plan.specs.OrderLookups.{kind_coded};
+ghost use Rattle.sc_plan.specs.Lookups.{kind_coded};
 
 use crate::lookups::{all_at, due_at};
 use crate::plans::Plan;
