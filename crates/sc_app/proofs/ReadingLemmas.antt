@@ -5,7 +5,7 @@ use Rattle.std.specs.Str.{IsUtf8}
 use Rattle.std.proofs.lemmas.List.{length-map}
 use Rattle.std.proofs.lemmas.Option.{slice_get_within}
 use Rattle.sc_base.specs.Outside.{Files}
-use Rattle.sc_lineage.specs.ScriptData.{ScriptData, WorkData, AreTexts, input_names, name_of_input}
+use Rattle.sc_lineage.specs.ScriptData.{ScriptData, WorkData, AreTexts, input_names, name_of_input, work_data}
 use Rattle.sc_read.specs.declared.reads.Read.{Read}
 use Rattle.sc_read.specs.declared.reads.Role.TheVariants as roles
 use Rattle.sc_read.specs.Inputs.{IsNextInput}
@@ -97,9 +97,13 @@ module _ (law : HaveOneReading) (rs : List Read) where
   one_work w w' was was' =
       let scripts = one_script w.script w'.script w.inputs w'.inputs was.read was'.read in
       let inputs = one_inputs w.script w'.script w.inputs w'.inputs was.read was'.read in
-      let P : ScriptData → WorkData = λ s. record { script = s; inputs = w.inputs } in
-      let Q : Files → WorkData = λ is. record { script = w'.script; inputs = is } in
+      let P : ScriptData → WorkData = λ s. work_data s w.inputs w.plan w.limits in
+      let Q : Files → WorkData = λ is. work_data w'.script is w.plan w.limits in
+      let plans : w.plan ≡ w'.plan = was.plan ∙ sym was'.plan in
+      let limits : w.limits ≡ w'.limits = was.limits ∙ sym was'.limits in
       ap P scripts ∙ ap Q inputs
+      ∙ ap (λ p. work_data w'.script w'.inputs p w.limits) plans
+      ∙ ap (λ l. work_data w'.script w'.inputs w'.plan l) limits
 
   -- where all inputs of a work were read, none is next
   pub no_next : (w : WorkData) (s : ScriptData) (is : Files) (name : List ℕ)

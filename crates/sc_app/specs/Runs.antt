@@ -1,6 +1,7 @@
 -- What a run was given, what it read, and what it left.
 use Rattle.std.specs.Prelude.{ℕ, ◌≡◌, ◌⊎◌, List, [], ◌∷◌, ◌++◌, length, Option, Some, None, slice_get}
 use Rattle.sc_base.specs.Outside.{Files, Outside, HasAsked}
+use Rattle.sc_ids.specs.LimitDefaults.{default_limits}
 use Rattle.sc_lineage.specs.ScriptData.{ScriptData, WorkData, IsSoundWork}
 use Rattle.sc_read.specs.declared.reads.Read.{Read}
 use Rattle.sc_read.specs.Inputs.{IsNextInput}
@@ -31,10 +32,13 @@ pub record HasRead (reads : List Read) (script : ScriptData) (inputs : Files) : 
   pub is : reads ≡ reads_of (record { script = bytes; inputs = inputs })
   pub is_script : ReadsScript bytes script
 
--- a script was read, and each input that it names, once, in order of first naming, all of them text
+-- A script was read, and each input that it names, once, in order of first naming, all of them
+-- text. No fault is planned, and no limit was set.
 pub record HasReadWork (reads : List Read) (work : WorkData) : Type 0 where
   pub read : HasRead reads work.script work.inputs
   pub sound : IsSoundWork work
+  pub plan : work.plan ≡ []
+  pub limits : work.limits ≡ default_limits
 
 -- the script was read under its word, and behind it the first inputs that it names; where the
 -- source shows its files, these are their bytes

@@ -3,3 +3,4 @@ pub mod Changes
 pub mod Failures
 pub mod Graphs
 pub mod LimitDefaults
+pub mod LimitRanges

@@ -13,7 +13,11 @@ use Rattle.sc_lineage.specs.contracts.nodes.Elementwise.{the_row as elementwise}
 use Rattle.sc_lineage.specs.declared.nodes.Meeting.{Meeting}
 use Rattle.sc_lineage.specs.contracts.nodes.Meeting.{the_row as meeting}
 use Rattle.sc_lineage.specs.NodeData.{NodeData, ShufflingData, reduce_by_key, group_by_key, sort_by_key, repartition, text_node, parallelize_node, each_node, union_node, coalesce_node, cache_node, shuffle_node, meet_node}
-use Rattle.sc_lineage.specs.ScriptData.{ActionData, collect_action, count_action, reduce_action, ScriptData, WorkData}
+use Rattle.sc_lineage.specs.ScriptData.{ActionData, collect_action, count_action, reduce_action, ScriptData, WorkData, work_data}
+use Rattle.sc_ids.specs.declared.limits.Limits.{Limits}
+use Rattle.sc_ids.specs.contracts.limits.Limits.{the_row as limits}
+use Rattle.sc_plan.specs.declared.lines.PlanLine.{PlanLine}
+use Rattle.sc_plan.specs.contracts.lines.PlanLine.{the_row as plan_line}
 
 -- what a shuffle does: its expression, or its place among those that have none
 abbrev pub shuffling_parts : ShufflingData → ExprData ⊎ ℕ
@@ -121,5 +125,7 @@ files_code = coded_list (coded× (coded_list coded_ℕ) (coded_list coded_ℕ))
 
 abbrev pub work_code : Coded WorkData
 work_code =
-    code_by (ScriptData × Files) (coded× script_code files_code)
-    (λ w. (w.script, w.inputs)) (λ p. record { script = p.0; inputs = p.1 }) (λ _. refl)
+    code_by ((ScriptData × Files) × (List PlanLine × Limits))
+    (coded× (coded× script_code files_code) (coded× (coded_list plan_line.coded) limits.coded))
+    (λ w. ((w.script, w.inputs), (w.plan, w.limits)))
+    (λ p. work_data p.0.0 p.0.1 p.1.0 p.1.1) (λ _. refl)

@@ -5,6 +5,10 @@ use Rattle.std.specs.Str.{IsUtf8}
 use Rattle.sc_base.specs.Lists.{at_or, firsts}
 use Rattle.sc_base.specs.Outside.{Files}
 use Rattle.sc_expr.specs.ExprData.{ExprData}
+use Rattle.sc_ids.specs.LimitRanges.{AreLimits}
+use Rattle.sc_ids.specs.declared.limits.Limits.{Limits}
+use Rattle.sc_plan.specs.PlanLines.{AreBelow}
+use Rattle.sc_plan.specs.declared.lines.PlanLine.{PlanLine}
 use Rattle.sc_lineage.specs.ByNodes.{by_nodes}
 use Rattle.sc_lineage.specs.NodeData.{NodeData, text_node, parallelize_node, each_node, union_node, coalesce_node, cache_node, shuffle_node, meet_node}
 use Rattle.sc_lineage.specs.Dependencies.{parents_of}
@@ -20,10 +24,17 @@ pub record ScriptData : Type 0 where
   pub nodes : List NodeData
   pub actions : List ActionData
 
--- a script and what its inputs hold, by their names
+-- A script, what its inputs hold, by their names, and under what it is run: which faults are
+-- planned, and the limits. What the script means doesn't depend on these.
 pub record WorkData : Type 0 where
   pub script : ScriptData
   pub inputs : Files
+  pub plan : List PlanLine
+  pub limits : Limits
+
+abbrev pub work_data : ScriptData → Files → List PlanLine → Limits → WorkData
+work_data script inputs plan limits =
+    record { script = script; inputs = inputs; plan = plan; limits = limits }
 
 -- the most partitions that a definition may have
 abbrev pub partition_limit : ScriptData → ℕ
@@ -101,8 +112,11 @@ abbrev pub AreTexts : Files → Type 0
 AreTexts [] = Unit {0}
 AreTexts (input ∷ inputs) = IsUtf8 input.1 × AreTexts inputs
 
--- what every work keeps: its inputs are those that the script names, and they are text
+-- What every work keeps: its inputs are those that the script names, and they are text; its plan
+-- names executors of the run alone, and its limits are in their ranges.
 pub record IsSoundWork (work : WorkData) : Type 0 where
   pub script : IsSoundScript work.script
   pub names : map name_of_input work.inputs ≡ input_names work.script
   pub texts : AreTexts work.inputs
+  pub plan : AreBelow work.limits.executors work.plan
+  pub limits : AreLimits work.limits

@@ -1,49 +1,78 @@
-//! A script with its inputs.
+//! A script with its inputs, and under what it is run.
 #![tactic(auto)]
 
 ghost use Rattle.std.specs.Prelude.{◌≡◌, map};
 ghost use Rattle.std.specs.Option.{option_map};
 ghost use Rattle.sc_base.specs.Lists.{content_of};
 ghost use Rattle.sc_value.specs.Lines.{text_lines};
-ghost use Rattle.sc_lineage.specs.ScriptData.{name_of_input, input_names, AreTexts, IsSoundWork};
+ghost use Rattle.sc_ids.specs.LimitRanges.{AreLimits};
+ghost use Rattle.sc_lineage.specs.ScriptData.{name_of_input, input_names, work_data, AreTexts, IsSoundWork};
+ghost use Rattle.sc_plan.specs.PlanLines.{AreBelow};
 
 use crate::inputs::Input;
 use crate::scripts::Script;
+use sc_ids::Limits;
+use sc_plan::Plan;
 use sc_value::{Name, Texts};
 use std::marker::Model;
 
-/// A script with the inputs that it names: by its type each of them is there, once, and is text.
+/// A script with the inputs that it names, the faults that are planned for its run, and the limits of
+/// that. By its type each input is there, once, and is text, the plan names executors of the run
+/// alone, and the limits are in their ranges.
 ///
 /// It never changes. What computes a part of it carries the whole of it.
 #[derive(Drop)]
 pub struct Work {
     script: Script,
     inputs: Vec<Input>,
+    plan: Plan,
+    limits: Limits,
 }
 
 impl Model for Work {
-    ghost use Rattle.sc_lineage.specs.ScriptData.{WorkData, IsSoundWork};
+    ghost use Rattle.sc_lineage.specs.ScriptData.{WorkData, IsSoundWork, work_data};
     ghost use Rattle.sc_lineage.specs.ScriptCode.{work_code};
 
     ghost Value = { WorkData };
 
     ghost coded = { work_code };
 
-    ghost view = { λ w. record { script = w.script; inputs = w.inputs.items } };
+    ghost view = { λ w. work_data w.script w.inputs.items w.plan w.limits };
 
-    ghost invariant = { λ w. IsSoundWork (record { script = w.script; inputs = w.inputs.items }) };
+    ghost invariant = { λ w. IsSoundWork (work_data w.script w.inputs.items w.plan w.limits) };
 }
 
 impl Work {
-    /// A script with its inputs, in the order in which it names them first. It takes no memory.
-    pub fn new(script: Script, inputs: Vec<Input>) -> Work
-        requires { map name_of_input inputs.items ≡ input_names script }
-        ensures script { result.script ≡ script }
-        ensures inputs { result.inputs ≡ inputs.items }
+    /// A script with its inputs, in the order in which it names them first, and under what it is
+    /// run. It takes no memory.
+    pub fn new(script: Script, inputs: Vec<Input>, plan: Plan, limits: Limits) -> Work
+        requires names { map name_of_input inputs.items ≡ input_names script }
+        requires plan { AreBelow limits.executors plan }
+        requires limits { AreLimits limits }
+        ensures { result ≡ work_data script inputs.items plan limits }
     {
         script.is_sound();
         are_texts(&inputs);
-        Work { script, inputs }
+        Work {
+            script,
+            inputs,
+            plan,
+            limits,
+        }
+    }
+
+    /// The faults that are planned.
+    pub fn plan(&self) -> &Plan
+        ensures { result.now ≡ self.now.plan }
+    {
+        &self.plan
+    }
+
+    /// The limits of the run.
+    pub fn limits(&self) -> Limits
+        ensures { result ≡ self.now.limits }
+    {
+        self.limits
     }
 
     /// The script.

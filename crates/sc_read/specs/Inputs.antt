@@ -4,6 +4,7 @@ use Rattle.std.specs.Str.{IsUtf8}
 use Rattle.sc_base.specs.Outside.{Files, SourceState, HasAsked, IsQuietSource}
 use Rattle.sc_base.specs.declared.refusals.OrMemory.{OrMemory}
 use Rattle.sc_base.specs.declared.refusals.OrMemory.TheVariants.{Fault, OutOfMemory}
+use Rattle.sc_ids.specs.LimitDefaults.{default_limits}
 use Rattle.sc_lineage.specs.ScriptData.{ScriptData, input_names, name_of_input, AreTexts}
 use Rattle.sc_lineage.specs.declared.inputs.Input.{Input}
 use Rattle.sc_lineage.specs.declared.works.Work.{Work}
@@ -79,7 +80,8 @@ abbrev pub TakesAsWork :
     ScriptData → SourceState → SourceState → List Read → List Read
     → Result Work (OrMemory InputStop) → Type 0
 TakesAsWork script before after reads reads' (Ok work) =
-    (work.script ≡ script) × TakesInputs script before after reads reads' work.inputs
+    (work.script ≡ script) × (work.plan ≡ []) × (work.limits ≡ default_limits)
+    × TakesInputs script before after reads reads' work.inputs
 TakesAsWork script before after reads reads' (Err (Fault (stops.Unreadable name why))) =
     StopsAtFile script before after reads reads' name why
 TakesAsWork script before after reads reads' (Err (Fault (stops.NotText name))) =

@@ -9,12 +9,15 @@ use crate::naming::names_of;
 use crate::reads::Read;
 use crate::stops::InputStop;
 use sc_base::OrMemory;
+use sc_ids::Limits;
 use sc_input::Source;
 use sc_lineage::{Script, Work};
+use sc_plan::Plan;
 use std::alloc::Global;
 
 /// A script with its inputs, each of which is asked for once, in the order in which the script
-/// names them first. What was read is kept behind what was kept before.
+/// names them first. What was read is kept behind what was kept before. No fault is planned, and the
+/// limits are those of a run that sets none.
 ///
 /// # Errors
 ///
@@ -34,5 +37,5 @@ pub fn read_work<S: Source>(
     for name in &names {
         inputs.push(read_input(alloc, source, name, reads)?)?;
     }
-    Ok(Work::new(script, inputs))
+    Ok(Work::new(script, inputs, Plan::empty(alloc), Limits::default()))
 }

@@ -103,7 +103,8 @@ fn work(alloc: Global, lines: &[Line]) -> Result<Work, AllocError> {
     for line in lines {
         define(&mut script, node(alloc, *line)?)?;
     }
-    Ok(Work::new(script, Vec::new(alloc)))
+    let plan = Plan::empty(alloc);
+    Ok(Work::new(script, Vec::new(alloc), plan, Limits::default()))
 }
 
 /// Defines a node that reads no input, unless it can't be defined.
