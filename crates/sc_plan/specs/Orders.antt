@@ -1,5 +1,5 @@
 -- The wipes, evictions and losses of a plan.
-use Rattle.std.specs.Prelude.{ℕ, ◌-◌, Bool, ◌==◌, nat_le, nat_lt, List, filter, filter_map, length, Option, Some, None, option_map, slice_get, if◌then◌else◌}
+use Rattle.std.specs.Prelude.{ℕ, ◌+◌, ◌-◌, ◌*◌, Bool, true, false, ◌==◌, nat_le, nat_lt, List, filter, filter_map, length, Option, Some, None, option_map, slice_get, if◌then◌else◌}
 use Rattle.sc_part.specs.Sorts.{sorted}
 use Rattle.sc_plan.specs.declared.lines.PlanLine.{PlanLine}
 use Rattle.sc_plan.specs.declared.lines.PlanLine.TheVariants as lines
@@ -61,3 +61,16 @@ loss_in exec line = None
 -- how many, by a plan: it has at most one line that says so
 abbrev pub loss_of : List PlanLine → ℕ → Option ℕ
 loss_of plan exec = slice_get (filter_map (loss_in exec) plan) 0
+
+-- whether a line wipes an executor and no more, and whether it loses one
+abbrev pub is_drop : PlanLine → Bool
+is_drop (lines.Drop e after) = true
+is_drop line = false
+
+abbrev pub is_lose : PlanLine → Bool
+is_lose (lines.Lose e after told) = true
+is_lose line = false
+
+-- how often a plan lets outputs of executors be forgotten: at each wipe, and at each loss
+abbrev pub planned_losses : List PlanLine → ℕ
+planned_losses plan = length (filter is_drop plan) + 2 * length (filter is_lose plan)

@@ -11,8 +11,9 @@ pub bounds-all_at-number : goal.bounds-all_at-number
 bounds-all_at-number c =
     let sound = subst IsSoundPlan c.self.view_is c.self.invariant.0 in
     let is = c.self.invariant.1.evicts_are ∙ ap (table_of sought.Evict) c.self.view_is in
-    let count = count_is c.args.exec c.all_at.result.now (evicts_of c.args.self.now c.args.exec)
-    (c.all_at.ensures ∙ all_evicts c.args.exec c.args.self.now c.self.inside.evicts sound.small is) in
+    let due = c.all_at.ensures
+    ∙ all_evicts c.args.exec c.args.self.now c.self.inside.evicts sound.small is in
+    let count = count_is c.args.exec c.all_at.result.now (evicts_of c.args.self.now c.args.exec) due in
     omega (arith, count, c.requires.from_one, c.requires.known_number)
 
 pub returns : goal.returns

@@ -11,8 +11,9 @@ pub bounds-all_at-number : goal.bounds-all_at-number
 bounds-all_at-number c =
     let sound = subst IsSoundPlan c.self.view_is c.self.invariant.0 in
     let is = c.self.invariant.1.wipes_are ∙ ap (table_of sought.Wipe) c.self.view_is in
-    let count = count_is c.args.exec c.all_at.result.now (wipes_of c.args.self.now c.args.exec)
-    (c.all_at.ensures ∙ all_wipes c.args.exec c.args.self.now c.self.inside.wipes sound.small is) in
+    let due = c.all_at.ensures
+    ∙ all_wipes c.args.exec c.args.self.now c.self.inside.wipes sound.small is in
+    let count = count_is c.args.exec c.all_at.result.now (wipes_of c.args.self.now c.args.exec) due in
     omega (arith, count, c.requires.from_one, c.requires.known_number)
 
 pub returns : goal.returns
