@@ -1,5 +1,5 @@
 -- What is due at executors, as it lies in tables.
-use Rattle.std.proofs.Common.{◌≡◌, ◌∙◌, ℕ, zero, suc, ◌<◌, ◌≤◌, ◌^◌, ◌+◌, ◌-◌, Bool, true, false, ◌&&◌, cond, List, [], ◌∷◌, length, map, filter, Some, None, get_or, refl, ap, sym, arith, if◌then◌else◌}
+use Rattle.std.proofs.Common.{◌≡◌, ◌∙◌, ℕ, zero, suc, ◌<◌, ◌≤◌, ◌^◌, ◌+◌, ◌-◌, Bool, true, false, ◌&&◌, cond, List, [], ◌∷◌, length, map, filter, Some, None, get_or, refl, ap, sym, subst, arith, if◌then◌else◌}
 use Rattle.std.proofs.lemmas.Bool.Decides.{nat_tests}
 use Rattle.std.proofs.lemmas.List.{length-map}
 use Rattle.std.specs.List.{AllByRecursion, cons_option}
@@ -207,13 +207,16 @@ module _ (exec : ℕ) where
       ap (λ k. Some (record { exec = exec; number = number; kind = k })) (sym kind)
   order_at number (d ∷ ds) (suc i) x is = order_at number ds i x is
 
-  pub order_is : (number : ℕ) (es : List Entry) (ds : List Due) (x : Entry)
+  pub order_is : (number : ℕ) (es : List Entry) (ds : List Due) (x : Entry) → 1 ≤ number
       → es ≡ map due_entry (in_order ds) → slice_get es (number - 1) ≡ Some x
       → nth_order exec number ds
       ≡ Some (record { exec = exec; number = number; kind = kind_coded x.value })
-  order_is number es ds x is at =
-      order_at number (in_order ds) (number - 1) x
-      (sym (ap (λ (ys : List Entry). slice_get ys (number - 1)) is) ∙ at)
+  order_is zero es ds x from_one is at = absurd (omega (arith, from_one))
+  order_is (suc i) es ds x from_one is at =
+      let place : suc i - 1 ≡ i = omega arith in
+      order_at (suc i) (in_order ds) i x
+      (sym (ap (λ (ys : List Entry). slice_get ys i) is)
+      ∙ subst (λ n. slice_get es n ≡ Some x) place at)
 
 -- what is read at a place
 pub read_at : (es : List Entry) (i : ℕ) (d : Entry) → i < length es

@@ -18,7 +18,8 @@ contains_more x y xs (k, within, is) = (suc k, omega arith, is)
 pub contains_none : {X : Type 0} (y : X) → Contains [] y → ⊥
 contains_none y (k, within, is) = omega arith
 
-pub contains_front : {X : Type 0} (xs : List X) (y z : X) → Contains xs y → Contains (xs ++ z ∷ []) y
+pub contains_front : {X : Type 0} (xs : List X) (y z : X) → Contains xs y
+    → Contains (xs ++ z ∷ []) y
 contains_front [] y z has = absurd (contains_none y has)
 contains_front (x ∷ xs) y z has = elim (contains_cases x y xs has) [
   | inl is ↦ subst (λ w. Contains (x ∷ (xs ++ z ∷ [])) w) is (contains_first x (xs ++ z ∷ []))

@@ -1,5 +1,5 @@
 -- The wipes, evictions and losses of a plan.
-use Rattle.std.specs.Prelude.{ℕ, ◌+◌, ◌-◌, ◌*◌, Bool, true, false, ◌==◌, nat_le, nat_lt, List, filter, filter_map, length, Option, Some, None, option_map, slice_get, if◌then◌else◌}
+use Rattle.std.specs.Prelude.{ℕ, zero, suc, ◌+◌, ◌*◌, Bool, true, false, ◌==◌, nat_le, nat_lt, List, filter, filter_map, length, Option, Some, None, option_map, slice_get, if◌then◌else◌}
 use Rattle.sc_part.specs.Sorts.{sorted}
 use Rattle.sc_plan.specs.declared.lines.PlanLine.{PlanLine}
 use Rattle.sc_plan.specs.declared.lines.PlanLine.TheVariants as lines
@@ -50,8 +50,9 @@ abbrev pub order_of : ℕ → ℕ → Due → Order
 order_of exec number due = record { exec = exec; number = number; kind = due.1 }
 
 abbrev pub nth_order : ℕ → ℕ → List Due → Option Order
-nth_order exec number dues =
-    option_map (order_of exec number) (slice_get (in_order dues) (number - 1))
+nth_order exec zero dues = None
+nth_order exec (suc i) dues =
+    option_map (order_of exec (suc i)) (slice_get (in_order dues) i)
 
 -- how many reports are told before an executor is told lost, by a line
 abbrev pub loss_in : ℕ → PlanLine → Option ℕ
