@@ -18,8 +18,8 @@
 #![tactic(auto)]
 
 mod attempts;
-mod reports;
 mod laws;
+mod reports;
 
 pub use attempts::StageAttempt;
 pub use reports::Success;
