@@ -19,6 +19,7 @@
 
 mod attempts;
 mod laws;
+mod outputs;
 mod reports;
 
 pub use attempts::StageAttempt;
