@@ -21,6 +21,7 @@ mod attempts;
 mod laws;
 mod outputs;
 mod reports;
+mod rows;
 
 pub use attempts::StageAttempt;
 pub use reports::Success;

@@ -1,4 +1,4 @@
-use Rattle.std.proofs.Common.{rules, tests, ap, refl, ◌∙◌}
+use Rattle.std.proofs.Common.{rules, tests, ap, arith, refl, ◌∙◌}
 use Rattle.std.specs.List.{list_all}
 use Rattle.std.proofs.lemmas.Iterator.{YieldsList-from_range}
 use Rattle.std.proofs.lemmas.Iterator.Search.{all_from_yields_List}
@@ -13,7 +13,7 @@ returns c =
     let stage = c.args.stage.now in
     let test = is_done_by t stage.target c.args.results.now in
     all_from_yields_List test _ _ _ c.all.ensures.ran
-    (YieldsList-from_range 0 c.tasks.result c.tasks.result refl refl)
+    (YieldsList-from_range 0 c.tasks.result c.tasks.result refl (omega arith))
     (λ x b q k. search (rules, tests))
     ∙ ap (list_all test) (range_numbers 0 c.tasks.result)
     ∙ ap (λ n. list_all test (numbers_below n)) c.tasks.ensures
