@@ -18,10 +18,13 @@
 #![tactic(auto)]
 
 mod attempts;
+mod changes;
+mod fates;
 mod laws;
 mod outputs;
 mod reports;
 mod rows;
+mod stages;
 
 pub use attempts::StageAttempt;
 pub use reports::Success;

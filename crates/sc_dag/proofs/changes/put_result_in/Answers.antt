@@ -1,6 +1,6 @@
 use Rattle.std.proofs.Common.{sym, arith, true, false}
 use Rattle.sc_ids.proofs.ChangeLemmas.{set_change_at, change_at_past}
-use Rattle.sc_dag.proofs.rows.put_result_in.Goals as goal
+use Rattle.sc_dag.proofs.changes.put_result_in.Goals as goal
 
 pub returns-then-partition-len : goal.returns-then-partition-len
 returns-then-partition-len c =
