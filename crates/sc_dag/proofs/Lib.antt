@@ -1,3 +1,5 @@
 pub mod AttemptLemmas
 pub mod NumberLemmas
 pub mod RowLemmas
+pub mod FateLemmas
+pub mod MoveLemmas

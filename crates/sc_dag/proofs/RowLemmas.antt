@@ -5,9 +5,10 @@ use Rattle.std.specs.Option.{option_map}
 use Rattle.std.proofs.Math.ListN.{set}
 use Rattle.std.proofs.lemmas.List.{length-map, map-set}
 use Rattle.std.proofs.lemmas.Option.{slice_get-map, slice_get_past, slice_get_read}
+use Rattle.sc_base.specs.Lists.{at_or}
 use Rattle.sc_ids.specs.Graphs.{StageData}
 use Rattle.sc_ids.specs.declared.attempts.AttemptId.{AttemptId}
-use Rattle.sc_dag.specs.DagData.{DagData, StageState, attempt_in, newest_at, newest_set, set_in}
+use Rattle.sc_dag.specs.DagData.{DagData, StageState, attempt_in, newest_at, newest_set, no_stage, set_in}
 use Rattle.sc_dag.specs.Losses.{without_executor}
 use Rattle.sc_dag.specs.Reports.{set_of}
 use Rattle.sc_dag.specs.Rows.{RowData, ready_of, row_data, row_without_executor, stages_of, states_of}
@@ -86,3 +87,11 @@ pub lost_ready : (exec : ℕ) (rows : List RowData)
     → ready_of (map (row_without_executor exec) rows) ≡ ready_of rows
 lost_ready exec [] = refl
 lost_ready exec (r ∷ rows) = ap (λ bs. r.is_ready ∷ bs) (lost_ready exec rows)
+
+-- the stage of a row that is there
+pub stage_there :
+    (rows : List RowData) (i : ℕ) (r : RowData) → i < length rows → r ≡ get_or rows i r
+    → at_or (stages_of rows) i no_stage ≡ r.stage
+stage_there [] i r l e = absurd (omega (arith, l))
+stage_there (q ∷ rows) zero r l e = ap (λ p. p.stage) (sym e)
+stage_there (q ∷ rows) (suc i) r l e = stage_there rows i r (omega (arith, l)) e

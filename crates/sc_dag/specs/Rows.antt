@@ -3,12 +3,13 @@ use Rattle.std.specs.Prelude.{ℕ, ◌≡◌, ◌<◌, ◌≤◌, ◌&&◌, ◌|
 use Rattle.std.specs.List.{list_all}
 use Rattle.sc_base.specs.Lists.{at_or}
 use Rattle.sc_ids.specs.Graphs.{StageData}
+use Rattle.sc_ids.specs.LimitDefaults.{default_limits}
 use Rattle.sc_ids.specs.declared.limits.Limits.{Limits}
 use Rattle.sc_tracker.specs.TrackerData.{TrackerData}
 use Rattle.sc_dag.specs.DagData.{DagData, StageState, dag_data, no_stage}
 use Rattle.sc_dag.specs.Losses.{without_executor}
 use Rattle.sc_dag.specs.Outputs.{has_inputs, is_complete, is_complete_by, results_in}
-use Rattle.sc_dag.specs.Submission.{as_waiting, is_asked_for, is_idle_in, started, this_stage, waiting_stages}
+use Rattle.sc_dag.specs.Submission.{as_waiting, is_asked_for, is_idle_in, started, this_stage, waits_in}
 use Rattle.sc_dag.specs.declared.attempts.StageAttempt.{StageAttempt}
 use Rattle.sc_dag.specs.declared.fates.Fate.{Fate}
 use Rattle.sc_dag.specs.declared.fates.Fate.TheVariants.{Starts, Stays, Waits}
@@ -51,6 +52,10 @@ are_ready rows = list_all (λ b. b) (ready_of rows)
 abbrev pub dag_of : List RowData → TrackerData → Limits → DagData
 dag_of rows tracker limits = dag_data (stages_of rows) (states_of rows) tracker limits
 
+-- the same where the limits of the run don't matter
+abbrev pub outlook : List RowData → TrackerData → DagData
+outlook rows tracker = dag_of rows tracker default_limits
+
 -- the parents of each stage have smaller numbers
 abbrev pub AreOlder : List StageData → Type 0
 AreOlder stages = (s : ℕ) → All (λ parent. parent < s) (at_or stages s no_stage).parents
@@ -79,10 +84,14 @@ moves Starts = true
 abbrev pub is_looked_at : List Fate → ℕ → Bool
 is_looked_at fates s = moves (fate_at fates s)
 
+-- a stage of this number and in this state is submitted
+abbrev pub is_submitted_in : Submitted → ℕ → Option StageState → Bool
+is_submitted_in (Stage stage) s state = this_stage stage s
+is_submitted_in Waiting s state = waits_in state
+
 -- the stages that are submitted
 abbrev pub is_submitted : Submitted → DagData → ℕ → Bool
-is_submitted (Stage stage) d s = this_stage stage s
-is_submitted Waiting d s = waiting_stages d s
+is_submitted submitted d s = is_submitted_in submitted s (slice_get d.states s)
 
 -- a stage is to be looked at, where these are
 abbrev pub is_to_look_at : DagData → (ℕ → Bool) → (ℕ → Bool) → ℕ → Bool
@@ -105,6 +114,16 @@ AreFatesFrom d submitted k fates =
 -- what a submission makes of all stages
 abbrev pub AreFates : DagData → (ℕ → Bool) → List Fate → Type 0
 AreFates d submitted fates = AreFatesFrom d submitted 0 fates
+
+-- what a submission makes of a stage suits it: one that starts has its inputs and isn't complete,
+-- and one that waits lacks an input
+abbrev pub SuitsFate : DagData → ℕ → Fate → Type 0
+SuitsFate d s Stays = Unit {0}
+SuitsFate d s Waits = has_inputs d s ≡ false
+SuitsFate d s Starts = (has_inputs d s ≡ true) × (is_complete d s ≡ false)
+
+abbrev pub SuitFates : DagData → List Fate → Type 0
+SuitFates d fates = (s : ℕ) → SuitsFate d s (fate_at fates s)
 
 -- a stage of which that is made
 abbrev pub fated : Fate → TrackerData → Limits → StageData → StageState → StageState

@@ -1,16 +1,13 @@
 //! Submission: which stages are looked at, and which of them start.
 #![tactic(auto)]
 
-ghost use Rattle.std.specs.Prelude.{◌≡◌, ◌==◌, ◌+◌, ℕ, Bool, ◌<◌, ◌≤◌, ◌^◌, ◌&&◌, drop, false, length, slice_get, Some, true};
+ghost use Rattle.std.specs.Prelude.{◌≡◌, ◌==◌, ◌+◌, ◌<◌, ◌≤◌, ◌^◌, ◌&&◌, drop, false, length, slice_get, Some, true};
 ghost use Rattle.std.specs.List.{list_all, list_any};
-ghost use Rattle.sc_base.specs.Lists.{at_or};
+ghost use Rattle.sc_base.specs.Lists.{at_or, numbers_below};
 ghost use Rattle.sc_ids.specs.Changes.{change_at};
-ghost use Rattle.sc_ids.specs.declared.limits.Limits.{Limits};
-ghost use Rattle.sc_tracker.specs.TrackerData.{TrackerData};
 ghost use Rattle.sc_dag.specs.DagData.{no_stage};
-ghost use Rattle.sc_dag.specs.Outputs.{has_inputs};
-ghost use Rattle.sc_dag.specs.Rows.{AreFates, AreOlder, are_ready, dag_of, fate_at, fate_for, fated, is_complete_in, is_looked_at, is_submitted, is_to_look_at, moves, ready_of, stages_of, states_of};
-ghost use Rattle.sc_dag.specs.Submission.{IsSubmitted, by_number, is_asked_for, is_idle_in, moved_if, waits_in};
+ghost use Rattle.sc_dag.specs.Rows.{AreFates, AreOlder, SuitFates, are_ready, dag_of, fate_at, fate_for, fated, is_complete_in, is_looked_at, is_submitted, is_submitted_in, is_to_look_at, moves, outlook, ready_of, stages_of, states_of};
+ghost use Rattle.sc_dag.specs.Submission.{IsSubmitted, by_number, is_idle_in, moved_if, waits_in};
 
 use crate::rows::StageRow;
 use crate::stages::is_complete_at;
@@ -79,8 +76,8 @@ fn note_fates(rows: &[StageRow], tracker: &Tracker, submitted: Submitted, fates:
     requires older { AreOlder (stages_of rows.now) }
     requires fates { length fates.old.items ≡ length rows.now }
     requires few { length rows.now ≤ 2 ^ 32 }
-    ensures are { (limits : Limits) → AreFates (dag_of rows.now tracker.now limits)
-        (is_submitted submitted (dag_of rows.now tracker.now limits)) fates.new.items }
+    ensures are { AreFates (outlook rows.now tracker.now)
+        (is_submitted submitted (outlook rows.now tracker.now)) fates.new.items }
     ensures fates { length fates.new.items ≡ length fates.old.items }
 {
     let mut k = rows.len();
@@ -99,9 +96,8 @@ fn fate_of(
     fates: &[Fate],
     stage: StageId,
 ) -> Fate
-    ensures { (limits : Limits) → result ≡ fate_for (dag_of rows.now tracker.now limits)
-        (is_submitted submitted (dag_of rows.now tracker.now limits)) (is_looked_at fates.now)
-        stage }
+    ensures { result ≡ fate_for (outlook rows.now tracker.now)
+        (is_submitted submitted (outlook rows.now tracker.now)) (is_looked_at fates.now) stage }
 {
     if !is_to_look_at(rows, tracker, submitted, fates, stage) {
         Fate::Stays
@@ -120,9 +116,8 @@ fn is_to_look_at(
     fates: &[Fate],
     stage: StageId,
 ) -> bool
-    ensures { (limits : Limits) → result ≡ is_to_look_at (dag_of rows.now tracker.now limits)
-        (is_submitted submitted (dag_of rows.now tracker.now limits)) (is_looked_at fates.now)
-        stage }
+    ensures { result ≡ is_to_look_at (outlook rows.now tracker.now)
+        (is_submitted submitted (outlook rows.now tracker.now)) (is_looked_at fates.now) stage }
 {
     !is_complete_at(rows, tracker, stage)
         && (is_submitted_at(rows, submitted, stage)
@@ -131,8 +126,7 @@ fn is_to_look_at(
 
 /// Whether a stage is one of those that are submitted.
 fn is_submitted_at(rows: &[StageRow], submitted: Submitted, stage: StageId) -> bool
-    ensures { (t : TrackerData) (limits : Limits)
-        → result ≡ is_submitted submitted (dag_of rows.now t limits) stage }
+    ensures { result ≡ is_submitted_in submitted stage (slice_get (states_of rows.now) stage) }
 {
     match submitted {
         Submitted::Stage(s) => stage == s,
@@ -162,8 +156,9 @@ pub(crate) fn is_idle_at(rows: &[StageRow], stage: StageId) -> bool
 
 /// Whether a stage that is looked at reads outputs of this one.
 fn is_asked_for_at(rows: &[StageRow], fates: &[Fate], stage: StageId) -> bool
-    ensures { (t : TrackerData) (limits : Limits)
-        → result ≡ is_asked_for (dag_of rows.now t limits) (is_looked_at fates.now) stage }
+    ensures { result ≡ list_any (λ child. is_looked_at fates.now child
+        && list_any (λ p. p == stage) (at_or (stages_of rows.now) child no_stage).parents)
+        (numbers_below (length (stages_of rows.now))) }
 {
     (0..rows.len()).any(|child| fate_at(fates, child).moves() && reads_at(rows, child, stage))
 }
@@ -173,10 +168,7 @@ fn reads_at(rows: &[StageRow], child: usize, parent: StageId) -> bool
     ensures { result
         ≡ list_any (λ p. p == parent) (at_or (stages_of rows.now) child no_stage).parents }
 {
-    match rows.get(child) {
-        Some(row) => row.stage().parents().iter().any(|p| *p == parent),
-        None => false,
-    }
+    parents_at(rows, child).iter().any(|p| *p == parent)
 }
 
 /// Whether all stages whose outputs a stage reads are complete.
@@ -184,13 +176,18 @@ fn has_inputs_at(rows: &[StageRow], tracker: &Tracker, stage: StageId) -> bool
     ensures { result ≡ list_all (is_complete_in rows.now tracker.now)
         (at_or (stages_of rows.now) stage no_stage).parents }
 {
-    match rows.get(stage as usize) {
-        Some(row) => row
-            .stage()
-            .parents()
-            .iter()
-            .all(|parent| is_complete_at(rows, tracker, *parent)),
-        None => true,
+    parents_at(rows, stage as usize)
+        .iter()
+        .all(|parent| is_complete_at(rows, tracker, *parent))
+}
+
+/// The stages whose outputs a stage reads.
+fn parents_at(rows: &[StageRow], stage: usize) -> &[StageId]
+    ensures { result.now ≡ (at_or (stages_of rows.now) stage no_stage).parents }
+{
+    match rows.get(stage) {
+        Some(row) => row.stage().parents(),
+        None => &[],
     }
 }
 
@@ -206,9 +203,8 @@ fn fate_at(fates: &[Fate], stage: usize) -> Fate
 
 /// Makes of each stage what was noted. It takes no memory.
 fn carry_out(rows: &mut Vec<StageRow>, fates: &[Fate], tracker: &Tracker, limits: Limits)
-    ghost submitted: { ℕ → Bool }
     requires ready { are_ready rows.old.items ≡ true }
-    requires are { AreFates (dag_of rows.old.items tracker.now limits) submitted fates.now }
+    requires suit { SuitFates (dag_of rows.old.items tracker.now limits) fates.now }
     ensures states { states_of rows.new.items
         ≡ by_number (moved_if (dag_of rows.old.items tracker.now limits) (is_looked_at fates.now))
         0 (states_of rows.old.items) }
