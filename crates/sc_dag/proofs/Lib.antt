@@ -3,3 +3,4 @@ pub mod NumberLemmas
 pub mod RowLemmas
 pub mod FateLemmas
 pub mod MoveLemmas
+pub mod SubmitLemmas
