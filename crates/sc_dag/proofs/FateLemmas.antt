@@ -72,6 +72,7 @@ asked_same d looked other s older same =
     by child (inl l) = ap (λ b. b && reads d child s) (same child l)
     by child (inr le) =
         rw (reads_none d child s older le) (and_false (looked child) (other child))
+
     each : (child : ℕ) → (looked child && reads d child s) ≡ (other child && reads d child s)
     each child = by child (cases_lt s child)
 
@@ -108,10 +109,12 @@ fates_more d submitted k fates fate older some le are is s from =
     kept c l =
         ap moves (sym (at_or_set_other fates (k - 1) c Stays fate
         (λ e. absurd (omega (arith, l, from, e)))))
+
     same : fate_for d submitted (is_looked_at fates) s
         ≡ fate_for d submitted (is_looked_at (set fates (k - 1) fate)) s
     same = fate_same d submitted (is_looked_at fates) (is_looked_at (set fates (k - 1) fate)) s
         older kept
+
     by : (s ≡ k - 1) ⊎ (s ≡ k - 1 → ⊥)
         → fate_at (set fates (k - 1) fate) s
         ≡ fate_for d submitted (is_looked_at (set fates (k - 1) fate)) s

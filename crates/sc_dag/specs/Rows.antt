@@ -5,6 +5,8 @@ use Rattle.sc_base.specs.Lists.{at_or}
 use Rattle.sc_ids.specs.Graphs.{StageData}
 use Rattle.sc_ids.specs.LimitDefaults.{default_limits}
 use Rattle.sc_ids.specs.declared.limits.Limits.{Limits}
+use Rattle.sc_taskset.specs.Lookups.{are_finished}
+use Rattle.sc_taskset.specs.TaskSetData.{TaskSetData}
 use Rattle.sc_tracker.specs.TrackerData.{TrackerData}
 use Rattle.sc_dag.specs.DagData.{DagData, StageState, dag_data, no_stage}
 use Rattle.sc_dag.specs.Losses.{without_executor}
@@ -59,6 +61,11 @@ outlook rows tracker = dag_of rows tracker default_limits
 -- the parents of each stage have smaller numbers
 abbrev pub AreOlder : List StageData → Type 0
 AreOlder stages = (s : ℕ) → All (λ parent. parent < s) (at_or stages s no_stage).parents
+
+-- all tasks of a set that may be there are finished
+abbrev pub are_finished_in : Option TaskSetData → Bool
+are_finished_in None = false
+are_finished_in (Some set) = are_finished set.tasks
 
 -- the stage of a number among rows is complete
 abbrev pub is_complete_in : List RowData → TrackerData → ℕ → Bool

@@ -19,6 +19,7 @@
 
 mod attempts;
 mod changes;
+mod dags;
 mod fates;
 mod laws;
 mod outputs;
@@ -27,4 +28,5 @@ mod rows;
 mod stages;
 
 pub use attempts::StageAttempt;
+pub use dags::Dag;
 pub use reports::Success;

@@ -7,7 +7,7 @@ ghost use Rattle.sc_dag.specs.Offers.{OffersIn};
 ghost use Rattle.sc_dag.specs.Openings.{blank_state};
 ghost use Rattle.sc_dag.specs.Outputs.{is_complete_by};
 ghost use Rattle.sc_dag.specs.Reports.{failed_count, wants_in};
-ghost use Rattle.sc_dag.specs.Rows.{row_data};
+ghost use Rattle.sc_dag.specs.Rows.{are_finished_in, row_data};
 ghost use Rattle.sc_dag.specs.Submission.{is_idle};
 
 use crate::attempts::{StageAttempt, failed_count, newest};
@@ -148,6 +148,16 @@ impl StageRow {
     {
         match newest(&self.attempts) {
             Some(attempt) => attempt.set.has(partition) && !attempt.set.is_finished(partition),
+            None => false,
+        }
+    }
+
+    /// Whether all tasks of its newest attempt are finished.
+    pub fn all_finished(&self) -> bool
+        ensures { result ≡ are_finished_in (newest_set self.now.state) }
+    {
+        match newest(&self.attempts) {
+            Some(attempt) => attempt.set.all_finished(),
             None => false,
         }
     }
