@@ -26,6 +26,7 @@ mod outputs;
 mod reports;
 mod rows;
 mod stages;
+mod submissions;
 
 pub use attempts::StageAttempt;
 pub use dags::Dag;

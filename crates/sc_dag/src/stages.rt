@@ -2,10 +2,11 @@
 #![tactic(auto)]
 
 ghost use Rattle.std.specs.Prelude.{◌≡◌, ◌↔◌, OnOk, OnErr, length, map, None, slice_get, Some, true};
+ghost use Rattle.sc_base.specs.Lists.{at_or};
 ghost use Rattle.sc_ids.specs.Changes.{change_at};
 ghost use Rattle.sc_taskset.specs.Offers.{handed};
 ghost use Rattle.sc_taskset.specs.Reports.{after_end, after_failure, after_held, after_success};
-ghost use Rattle.sc_dag.specs.DagData.{changed_newest, changed_set, newest_at};
+ghost use Rattle.sc_dag.specs.DagData.{changed_newest, changed_set, newest_at, no_stage};
 ghost use Rattle.sc_dag.specs.Losses.{without_executor};
 ghost use Rattle.sc_dag.specs.Offers.{may_be_given_in};
 ghost use Rattle.sc_dag.specs.Reports.{completed, reaches_limit_in, set_of, with_failed, with_result};
@@ -14,7 +15,7 @@ ghost use Rattle.sc_tracker.specs.TrackerData.{TrackerData};
 ghost use Rattle.sc_ids.specs.declared.limits.Limits.{Limits};
 
 use crate::rows::StageRow;
-use sc_ids::{AttemptId, ExecId, FailureCause, StageId};
+use sc_ids::{AttemptId, ExecId, FailureCause, StageId, Target};
 use sc_taskset::Verdict;
 use sc_tracker::Tracker;
 use std::alloc::{AllocError, Global};
@@ -26,6 +27,16 @@ pub(crate) fn is_complete_at(rows: &[StageRow], tracker: &Tracker, stage: StageI
     match rows.get(stage as usize) {
         Some(row) => row.is_complete(tracker),
         None => true,
+    }
+}
+
+/// What the tasks of a stage make: of one that isn't there, nothing.
+pub(crate) fn target_at(rows: &[StageRow], stage: StageId) -> Target
+    ensures { result ≡ (at_or (stages_of rows.now) stage no_stage).target }
+{
+    match rows.get(stage as usize) {
+        Some(row) => row.stage().target(),
+        None => Target::Result { node: 0 },
     }
 }
 
