@@ -6,7 +6,7 @@ ghost use Rattle.std.specs.Option.{option_map};
 ghost use Rattle.sc_dag.specs.DagData.{is_live_set, newest_at, stage_at};
 ghost use Rattle.sc_dag.specs.Offers.{IsNextTask, OffersIn, handed_out, may_be_given_in, newest_number};
 ghost use Rattle.sc_dag.specs.Outputs.{is_complete};
-ghost use Rattle.sc_dag.specs.Reports.{failed_count, is_finished_short, is_of_newest, wants_in};
+ghost use Rattle.sc_dag.specs.Reports.{is_finished_short, is_of_newest, wants_in};
 ghost use Rattle.sc_dag.specs.Submission.{waiting_stages};
 
 use crate::fates::Fate;
@@ -163,16 +163,6 @@ impl Dag {
         match self.rows.get(attempt.stage as usize) {
             Some(row) => row.wants(attempt.partition),
             None => false,
-        }
-    }
-
-    /// How many attempts of a stage failed since it was complete.
-    pub fn failed_count(&self, stage: StageId) -> usize
-        ensures { result ≡ failed_count (slice_get self.now.0.states stage) }
-    {
-        match self.rows.get(stage as usize) {
-            Some(row) => row.failed_count(),
-            None => 0,
         }
     }
 

@@ -9,7 +9,7 @@ ghost use Rattle.sc_taskset.specs.Reports.{after_end, after_failure, after_held,
 ghost use Rattle.sc_dag.specs.DagData.{changed_newest, changed_set, newest_at, no_stage};
 ghost use Rattle.sc_dag.specs.Losses.{without_executor};
 ghost use Rattle.sc_dag.specs.Offers.{may_be_given_in};
-ghost use Rattle.sc_dag.specs.Reports.{completed, reaches_limit_in, set_of, with_failed, with_result};
+ghost use Rattle.sc_dag.specs.Reports.{completed, failed_count, reaches_limit_in, set_of, with_failed, with_result};
 ghost use Rattle.sc_dag.specs.Rows.{are_ready, dag_of, is_complete_in, ready_of, row_without_executor, stages_of, states_of};
 ghost use Rattle.sc_tracker.specs.TrackerData.{TrackerData};
 ghost use Rattle.sc_ids.specs.declared.limits.Limits.{Limits};
@@ -27,6 +27,16 @@ pub(crate) fn is_complete_at(rows: &[StageRow], tracker: &Tracker, stage: StageI
     match rows.get(stage as usize) {
         Some(row) => row.is_complete(tracker),
         None => true,
+    }
+}
+
+/// How many attempts of a stage failed since it was complete.
+pub(crate) fn failed_count_at(rows: &[StageRow], stage: StageId) -> usize
+    ensures { result ≡ failed_count (slice_get (states_of rows.now) stage) }
+{
+    match rows.get(stage as usize) {
+        Some(row) => row.failed_count(),
+        None => 0,
     }
 }
 

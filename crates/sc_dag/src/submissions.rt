@@ -4,13 +4,13 @@
 ghost use Rattle.std.specs.Prelude.{◌≡◌, true};
 ghost use Rattle.sc_dag.specs.DagData.{with_state};
 ghost use Rattle.sc_dag.specs.Losses.{after_lost, after_seen};
-ghost use Rattle.sc_dag.specs.Reports.{CompletesMap, FailsStage, completed, with_failed};
+ghost use Rattle.sc_dag.specs.Reports.{CompletesMap, FailsStage, completed, has_failed_often, with_failed};
 ghost use Rattle.sc_dag.specs.Rows.{is_submitted};
 ghost use Rattle.sc_dag.specs.Submission.{IsSubmitted, this_stage};
 
 use crate::dags::Dag;
 use crate::fates::{Submitted, submit};
-use crate::stages::{complete_at, fail_attempt_at, lose_all};
+use crate::stages::{complete_at, fail_attempt_at, failed_count_at, lose_all};
 use sc_ids::{ExecId, Generation, StageId};
 use sc_taskset::Verdict;
 
@@ -41,11 +41,18 @@ impl Dag {
         ensures { FailsStage self.old.0 stage number result self.new.0 }
     {
         self.fail_attempt(stage, number);
-        if self.failed_count(stage) >= self.limits.stage_attempts as usize {
+        if self.has_failed_often(stage) {
             return Verdict::Limit;
         }
         self.submit_all(Submitted::Stage(stage));
         Verdict::Again
+    }
+
+    /// Whether so many attempts of a stage failed that the job is aborted.
+    fn has_failed_often(&self, stage: StageId) -> bool
+        ensures { result ≡ has_failed_often self.now.0 stage }
+    {
+        failed_count_at(&self.rows, stage) >= self.limits.stage_attempts as usize
     }
 
     /// Submits stages.
