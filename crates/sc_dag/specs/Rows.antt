@@ -10,6 +10,7 @@ use Rattle.sc_taskset.specs.TaskSetData.{TaskSetData}
 use Rattle.sc_tracker.specs.TrackerData.{TrackerData}
 use Rattle.sc_dag.specs.DagData.{DagData, StageState, dag_data, no_stage}
 use Rattle.sc_dag.specs.Losses.{without_executor}
+use Rattle.sc_dag.specs.Openings.{blank_states}
 use Rattle.sc_dag.specs.Outputs.{has_inputs, is_complete, is_complete_by, results_in}
 use Rattle.sc_dag.specs.Submission.{as_waiting, is_asked_for, is_idle_in, started, this_stage, waits_in}
 use Rattle.sc_dag.specs.declared.attempts.StageAttempt.{StageAttempt}
@@ -137,3 +138,9 @@ abbrev pub fated : Fate → TrackerData → Limits → StageData → StageState 
 fated Stays t limits stage state = state
 fated Waits t limits stage state = as_waiting state
 fated Starts t limits stage state = started t limits stage state
+
+-- ---- the beginning of a job
+
+-- nothing was done for the stages of rows in this job
+abbrev pub AreBlank : Option DagData → List RowData → Type 0
+AreBlank last rows = states_of rows ≡ blank_states last 0 (stages_of rows)

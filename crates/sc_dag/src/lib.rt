@@ -22,6 +22,7 @@ mod changes;
 mod dags;
 mod fates;
 mod laws;
+mod openings;
 mod outputs;
 mod reports;
 mod rows;
