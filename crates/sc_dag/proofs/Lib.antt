@@ -4,3 +4,4 @@ pub mod RowLemmas
 pub mod FateLemmas
 pub mod MoveLemmas
 pub mod SubmitLemmas
+pub mod OpenLemmas

@@ -4,8 +4,8 @@ use Rattle.sc_dag.specs.DagData.{no_stage}
 use Rattle.sc_dag.specs.Rows.{AreBlank, stages_of}
 use Rattle.sc_dag.proofs.openings.fill.Given as goal
 
-abbrev pub invariant-loop-rows : goal.invariant-loop-rows
-invariant-loop-rows l = record {
+abbrev pub invariant-loop-alloc : goal.invariant-loop-alloc
+invariant-loop-alloc l = record {
   stages : stages_of l.rows.items
       ≡ stages_of l.fn.rows.items
       ++ replicate (length l.rows.items - length l.fn.rows.items) no_stage;
@@ -14,5 +14,5 @@ invariant-loop-rows l = record {
   more : length l.fn.rows.items ≤ length l.rows.items;
 }
 
-abbrev pub decreases-loop-rows : goal.decreases-loop-rows
-decreases-loop-rows l = l.end - length l.rows.items
+abbrev pub decreases-loop-alloc : goal.decreases-loop-alloc
+decreases-loop-alloc l = l.end - length l.rows.items
