@@ -1,0 +1,11 @@
+pub mod DagData
+pub mod Outputs
+pub mod Submission
+pub mod Offers
+pub mod Reports
+pub mod Losses
+pub mod Openings
+pub mod Sound
+pub mod Settled
+pub mod Rows
+pub mod Laws
