@@ -1,8 +1,9 @@
 -- Lemmas on tests and lists.
-use Rattle.std.proofs.Common.{◌≡◌, ◌≢◌, ℕ, zero, suc, ◌+◌, ◌-◌, ◌<◌, ◌≤◌, ◌==◌, ◌||◌, ◌&&◌, not, Bool, true, false, cond, List, [], ◌∷◌, ◌++◌, All, length, map, Option, Some, None, is_some, option_map, slice_get, refl, ap, sym, subst, ◌∙◌, arith, rules, true≢false, add-zero, zero-add, suc-add, add-suc}
+use Rattle.std.proofs.Common.{◌≡◌, ◌≢◌, ℕ, zero, suc, ◌+◌, ◌-◌, ◌<◌, ◌≤◌, ◌==◌, ◌||◌, ◌&&◌, not, Bool, true, false, cond, List, [], ◌∷◌, ◌++◌, All, AllPairs, find, length, map, Option, Some, None, is_some, option_map, slice_get, refl, ap, sym, subst, ◌∙◌, arith, rules, true≢false, add-zero, zero-add, suc-add, add-suc}
 use Rattle.std.specs.List.{list_all, list_any}
 use Rattle.std.proofs.lemmas.Bool.Decides.{nat_tests}
-use Rattle.std.proofs.lemmas.List.Elements.{All-head, All-tail}
+use Rattle.std.proofs.lemmas.List.Elements.{All-cons, All-head, All-tail}
+use Rattle.std.proofs.lemmas.Option.{get_or_from_slice_get, slice_get_within}
 use Rattle.sc_base.specs.Lists.{at_or, numbers_below, numbers_from}
 use Rattle.sc_dag.specs.Submission.{by_number}
 
@@ -219,3 +220,75 @@ by_number_same {A = A} f n (x ∷ xs) h =
 
     moved : (i : ℕ) → suc n + i ≡ n + suc i
     moved i = omega arith
+
+-- what holds of all items holds of one
+pub all_at :
+    {A : Type 0} (P : A → Type 0) (xs : List A) (i : ℕ) (x : A) → All P xs
+    → slice_get xs i ≡ Some x → P x
+all_at P xs i x a e =
+    subst P (get_or_from_slice_get xs i x x e) (a i x (slice_get_within xs i x e))
+
+-- the first of some pairs is apart from the others
+pub pairs_head :
+    {A : Type 0} (R : A → A → Type 0) (x : A) (xs : List A) → AllPairs R (x ∷ xs) → All (R x) xs
+pairs_head R x xs h = λ j d l. h zero (suc j) d (omega arith) (omega (arith, l))
+
+pub pairs_tail :
+    {A : Type 0} (R : A → A → Type 0) (x : A) (xs : List A) → AllPairs R (x ∷ xs)
+    → AllPairs R xs
+pairs_tail R x xs h = λ i j d lt l. h (suc i) (suc j) d (omega (arith, lt)) (omega (arith, l))
+
+-- what is found is one of them
+pub find_all :
+    {A : Type 0} (P : A → Type 0) (q : A → Bool) (xs : List A) (x : A) → All P xs
+    → find q xs ≡ Some x → P x
+find_all P q [] x a e = absurd (search (rules, e))
+find_all {A = A} P q (y ∷ ys) x a e =
+    by (q y) e (λ k. find_all P q ys x (All-tail P y ys a) k)
+  where
+    by : (b : Bool) → cond b (Some y) (find q ys) ≡ Some x → (find q ys ≡ Some x → P x) → P x
+    by true is f =
+        let same : y ≡ x = search (rules, is) in subst P same (All-head P y ys a)
+    by false is f = f is
+
+-- and passes the test
+pub find_passes :
+    {A : Type 0} (q : A → Bool) (xs : List A) (x : A) → find q xs ≡ Some x → q x ≡ true
+find_passes q [] x e = absurd (search (rules, e))
+find_passes {A = A} q (y ∷ ys) x e = by (q y) refl e (λ k. find_passes q ys x k)
+  where
+    by : (b : Bool) → q y ≡ b → cond b (Some y) (find q ys) ≡ Some x
+        → (find q ys ≡ Some x → q x ≡ true) → q x ≡ true
+    by true h is f =
+        let same : y ≡ x = search (rules, is) in subst (λ z. q z ≡ true) same h
+    by false h is f = f is
+
+-- what holds of the views of all holds of their items
+pub all_unmapped :
+    {A B : Type 0} (P : B → Type 0) (f : A → B) (xs : List A) → All P (map f xs)
+    → All (λ x. P (f x)) xs
+all_unmapped P f [] a = λ i d l. absurd (omega (arith, l))
+all_unmapped P f (x ∷ xs) a =
+    All-cons (λ y. P (f y)) x xs (All-head P (f x) (map f xs) a)
+    (all_unmapped P f xs (All-tail P (f x) (map f xs) a))
+
+-- one of some numbers on which a test passes
+pub any_member :
+    (p : ℕ → Bool) (xs : List ℕ) → list_any p xs ≡ true
+    → (x : ℕ) × (is_in xs x ≡ true) × (p x ≡ true)
+any_member p [] e = absurd (true≢false (sym e))
+any_member p (x ∷ xs) e = by (p x) refl e (λ k. any_member p xs k)
+  where
+    itself : is_in (x ∷ xs) x ≡ true
+    itself = grind (arith, nat_tests)
+
+    or_true : (a b : Bool) → b ≡ true → (a || b) ≡ true
+    or_true true b e = refl
+    or_true false b e = e
+
+    by : (b : Bool) → p x ≡ b → (b || list_any p xs) ≡ true
+        → (list_any p xs ≡ true → (y : ℕ) × (is_in xs y ≡ true) × (p y ≡ true))
+        → (y : ℕ) × (is_in (x ∷ xs) y ≡ true) × (p y ≡ true)
+    by true b e f = (x, itself, b)
+    by false b e f =
+        let r = f e in (r.0, or_true (x == r.0) (is_in xs r.0) r.1, r.2)
