@@ -1,3 +1,4 @@
 pub mod Basics
 pub mod Submitting
 pub mod Stuck
+pub mod Repeating
