@@ -2,3 +2,4 @@ pub mod Basics
 pub mod Submitting
 pub mod Stuck
 pub mod Repeating
+pub mod Sets

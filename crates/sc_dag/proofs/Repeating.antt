@@ -129,7 +129,7 @@ module _ (d : DagData) (s : ℕ) (one two : ℕ → Bool)
           (each k state e (two k) refl)
 
 pub submissions_repeat : SubmissionsRepeat
-submissions_repeat d after again s sound settled dead (one, are, is) still (two, are', is') =
+submissions_repeat d after again s sound (one, are, is) still (two, are', is') =
     is' ∙ (ap (λ x. after_looking x two) is ∙ (repeated d s one two sound.stages sound.states are
     (subst (λ x. AreLookedAt x (this_stage s) two) is are')
     (subst (λ x. is_live_set (newest_at x s) ≡ false) is still) ∙ sym is))
