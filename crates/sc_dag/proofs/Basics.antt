@@ -1,10 +1,11 @@
 -- Lemmas on tests and lists.
-use Rattle.std.proofs.Common.{◌≡◌, ◌≢◌, ℕ, zero, suc, ◌+◌, ◌-◌, ◌<◌, ◌≤◌, ◌==◌, ◌||◌, ◌&&◌, not, Bool, true, false, cond, List, [], ◌∷◌, ◌++◌, All, AllPairs, find, length, map, Option, Some, None, is_some, option_map, slice_get, refl, ap, sym, subst, ◌∙◌, arith, rules, true≢false, add-zero, zero-add, suc-add, add-suc}
+use Rattle.std.proofs.Common.{◌≡◌, ◌≢◌, ℕ, zero, suc, ◌+◌, ◌-◌, ◌<◌, ◌≤◌, ◌==◌, ◌||◌, ◌&&◌, not, Bool, true, false, cond, List, [], ◌∷◌, ◌++◌, All, AllPairs, find, length, map, take, Option, Some, None, is_some, option_map, slice_get, refl, ap, sym, subst, ◌∙◌, arith, rules, true≢false, add-zero, zero-add, suc-add, add-suc, length-append}
 use Rattle.std.specs.List.{list_all, list_any}
 use Rattle.std.proofs.lemmas.Bool.Decides.{nat_tests}
 use Rattle.std.proofs.lemmas.List.Elements.{All-cons, All-head, All-tail}
 use Rattle.std.proofs.lemmas.Option.{get_or_from_slice_get, slice_get_within}
 use Rattle.sc_base.specs.Lists.{at_or, numbers_below, numbers_from}
+use Rattle.sc_ids.specs.Changes.{change_at}
 use Rattle.sc_dag.specs.Submission.{by_number}
 
 -- ---- tests
@@ -292,3 +293,52 @@ any_member p (x ∷ xs) e = by (p x) refl e (λ k. any_member p xs k)
     by true b e f = (x, itself, b)
     by false b e f =
         let r = f e in (r.0, or_true (x == r.0) (is_in xs r.0) r.1, r.2)
+
+-- the first items, where one was changed
+pub take_change :
+    {A : Type 0} (n : ℕ) (xs : List A) (i : ℕ) (f : A → A)
+    → take n (change_at xs i f) ≡ change_at (take n xs) i f
+take_change zero xs i f = refl
+take_change (suc n) [] i f = refl
+take_change (suc n) (x ∷ xs) zero f = refl
+take_change (suc n) (x ∷ xs) (suc i) f = ap (λ ys. x ∷ ys) (take_change n xs i f)
+
+-- the first items, where all were changed
+pub take_map :
+    {A B : Type 0} (n : ℕ) (xs : List A) (f : A → B) → take n (map f xs) ≡ map f (take n xs)
+take_map zero xs f = refl
+take_map (suc n) [] f = refl
+take_map (suc n) (x ∷ xs) f = ap (λ ys. f x ∷ ys) (take_map n xs f)
+
+-- the first items of a list that is one longer
+pub take_push :
+    {A : Type 0} (xs : List A) (y : A) → take (length (xs ++ y ∷ []) - 1) (xs ++ y ∷ []) ≡ xs
+take_push [] y = refl
+take_push {A = A} (x ∷ xs) y =
+    let one : length (xs ++ y ∷ []) ≡ suc (length (xs ++ y ∷ []) - 1) =
+    omega (arith, length-append xs (y ∷ [])) in
+    let P : ℕ → Type 0 = λ n. take n (x ∷ (xs ++ y ∷ [])) ≡ x ∷ xs in
+    subst P (sym one ∙ sym (sub-one (length (xs ++ y ∷ [])))) (ap (λ ys. x ∷ ys) (take_push xs y))
+  where
+    sub-one : (n : ℕ) → suc n - 1 ≡ n
+    sub-one n = omega arith
+
+-- what holds of each item holds after a change that keeps it where it changes
+pub all_changed :
+    {A : Type 0} (P : A → Type 0) (xs : List A) (i : ℕ) (f : A → A)
+    → ((x : A) → slice_get xs i ≡ Some x → P x → P (f x)) → All P xs
+    → All P (change_at xs i f)
+all_changed P [] i f h a = a
+all_changed P (x ∷ xs) zero f h a =
+    All-cons P (f x) xs (h x refl (All-head P x xs a)) (All-tail P x xs a)
+all_changed P (x ∷ xs) (suc i) f h a =
+    All-cons P x (change_at xs i f) (All-head P x xs a)
+    (all_changed P xs i f h (All-tail P x xs a))
+
+-- two changes of one item are one
+pub change_twice :
+    {A : Type 0} (xs : List A) (i : ℕ) (f g : A → A)
+    → change_at (change_at xs i f) i g ≡ change_at xs i (λ x. g (f x))
+change_twice [] i f g = refl
+change_twice (x ∷ xs) zero f g = refl
+change_twice (x ∷ xs) (suc i) f g = ap (λ ys. x ∷ ys) (change_twice xs i f g)

@@ -3,3 +3,4 @@ pub mod Submitting
 pub mod Stuck
 pub mod Repeating
 pub mod Sets
+pub mod SoundStages
