@@ -4,3 +4,4 @@ pub mod Stuck
 pub mod Repeating
 pub mod Sets
 pub mod SoundStages
+pub mod Keeping
