@@ -5,3 +5,5 @@ pub mod Repeating
 pub mod Sets
 pub mod SoundStages
 pub mod Keeping
+pub mod Successes
+pub mod SoundSuccesses
