@@ -6,4 +6,5 @@ pub mod Sets
 pub mod SoundStages
 pub mod Keeping
 pub mod Successes
+pub mod Trackers
 pub mod SoundSuccesses
