@@ -8,3 +8,4 @@ pub mod Keeping
 pub mod Successes
 pub mod Trackers
 pub mod SoundSuccesses
+pub mod SoundLosses

@@ -261,7 +261,7 @@ registers_one t block loc = (here, others)
     others other h = by other h (is_of other.shuffle (shuffle_data block.shuffle [])) refl
 
 -- the outputs of a shuffle, where the outputs of all were changed alike
-under_mapped : (xs : List ShuffleData) (shuffle : ShuffleId) (f : Output → Output)
+pub under_mapped : (xs : List ShuffleData) (shuffle : ShuffleId) (f : Output → Output)
     → outputs_under (map (λ s. shuffle_data s.shuffle (map f s.outputs)) xs) shuffle
     ≡ map f (outputs_under xs shuffle)
 under_mapped [] shuffle f = refl
