@@ -9,3 +9,4 @@ pub mod Successes
 pub mod Trackers
 pub mod SoundSuccesses
 pub mod SoundLosses
+pub mod SoundSubmissions
