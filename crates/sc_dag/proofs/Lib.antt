@@ -10,3 +10,4 @@ pub mod Trackers
 pub mod SoundSuccesses
 pub mod SoundLosses
 pub mod SoundSubmissions
+pub mod SoundCalls
