@@ -11,3 +11,4 @@ pub mod SoundSuccesses
 pub mod SoundLosses
 pub mod SoundSubmissions
 pub mod SoundCalls
+pub mod Calm
