@@ -12,3 +12,4 @@ pub mod SoundLosses
 pub mod SoundSubmissions
 pub mod SoundCalls
 pub mod Calm
+pub mod GoingOn

@@ -1,4 +1,5 @@
 use Rattle.sc_dag.proofs.Calm.{others_go_on}
+use Rattle.sc_dag.proofs.GoingOn.{failures_go_on}
 use Rattle.sc_dag.proofs.Stuck.{nothing_is_stuck}
 use Rattle.sc_dag.proofs.laws.no_stage_is_forgotten.Goals as goal
 
@@ -7,3 +8,6 @@ returns-clause-never_stuck c = nothing_is_stuck
 
 pub returns-clause-others : goal.returns-clause-others
 returns-clause-others c = others_go_on
+
+pub returns-clause-failures : goal.returns-clause-failures
+returns-clause-failures c = failures_go_on
