@@ -13,3 +13,5 @@ pub mod SoundSubmissions
 pub mod SoundCalls
 pub mod Calm
 pub mod GoingOn
+pub mod Ending
+pub mod SuccessesGoOn

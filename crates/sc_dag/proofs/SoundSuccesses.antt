@@ -31,7 +31,7 @@ use Rattle.sc_dag.proofs.SoundStages.{HasPlaces, IsSoundAt, IsSoundState, sound_
 use Rattle.sc_dag.proofs.Stuck.{newest_holds}
 use Rattle.sc_dag.proofs.Submitting.{newest_among}
 use Rattle.sc_dag.proofs.Successes.{RunsIn, SucceedsTo, place_newest, place_other, runs_in, success_in_both, success_in_newest, success_in_older, wanted_within}
-use Rattle.sc_dag.proofs.Trackers.{SameOutputs, done_alike, other_block, registered_room, sound_alike}
+use Rattle.sc_dag.proofs.Trackers.{SameOutputs, done_alike, other_outputs, registered_room, sound_alike}
 
 -- an attempt that runs, of a partition that its stage's newest set wants
 module _ (d : DagData) (a : AttemptId) (exec now : ℕ) (sound : IsSoundDag d)
@@ -64,7 +64,7 @@ module _ (d : DagData) (a : AttemptId) (exec now : ℕ) (sound : IsSoundDag d)
       let is : a.stage_attempt ≡ newest_number d a.stage = grind (arith, nat_tests, e) in
       place_newest state a.stage_attempt (is ∙ ap number_in at)
 
-  older_place : (state : StageState) → slice_get d.states a.stage ≡ Some state
+  pub older_place : (state : StageState) → slice_get d.states a.stage ≡ Some state
       → is_of_newest d a ≡ false
       → place_of_attempt state a.stage_attempt ≡ length state.attempts - 1 → ⊥
   older_place state at e =
@@ -149,8 +149,7 @@ module _ (d : DagData) (a : AttemptId) (exec now : ℕ) (sound : IsSoundDag d)
           → IsSoundAt u (stage_at d k) (slice_get d.states k)
       others k ne is =
           sound_alike d.tracker u (stage_at d k) (slice_get d.states k)
-          (λ p other is_other. (registers_one d.tracker block loc).1 (block_of other p)
-          (other_block d k a.stage sound.stages ne p a.partition shuffle other target is_other)) is
+          (other_outputs d k a.stage a.partition shuffle loc sound.stages target ne) is
 
       -- what is registered is where the attempt runs
       placed_here : IfSome (output_of u block).here (λ x. x.exec ≡ exec)

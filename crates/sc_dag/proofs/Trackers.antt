@@ -16,7 +16,7 @@ use Rattle.sc_tracker.specs.Outputs.{forgotten, forgotten_on, is_on, placed}
 use Rattle.sc_tracker.specs.TrackerData.{TrackerData, output_of, outputs_of}
 use Rattle.sc_tracker.specs.Tracking.{registered}
 use Rattle.sc_tracker.specs.declared.outputs.Output.{Output}
-use Rattle.sc_tracker.proofs.BlockLemmas.{under_changed, under_kept}
+use Rattle.sc_tracker.proofs.BlockLemmas.{registers_one, under_changed, under_kept}
 use Rattle.sc_dag.specs.DagData.{DagData, StageState, no_stage, stage_at}
 use Rattle.sc_dag.specs.Outputs.{block_of, is_done_by}
 use Rattle.sc_dag.specs.Sound.{AreSoundStages}
@@ -102,3 +102,13 @@ pub other_block :
 other_block d k s sound ne p q shuffle other is is_other e =
     sound.apart k s ne other is_other
     (is ∙ ap targets.Map (sym (ap (λ (b : BlockId). b.shuffle) e)))
+
+-- so a registration leaves its outputs as they are
+pub other_outputs :
+    (d : DagData) (k s q : ℕ) (shuffle : ShuffleId) (loc : Loc)
+    → AreSoundStages d.stages d.tracker → (stage_at d s).target ≡ targets.Map shuffle
+    → (k ≡ s → ⊥)
+    → SameOutputs d.tracker (registered d.tracker (block_of shuffle q) loc) (stage_at d k)
+other_outputs d k s q shuffle loc sound target ne p other is_other =
+    (registers_one d.tracker (block_of shuffle q) loc).1 (block_of other p)
+    (other_block d k s sound ne p q shuffle other target is_other)

@@ -1,0 +1,2 @@
+-- Successes forget no stage.
+use Rattle.std.proofs.Common.{◌≡◌}
