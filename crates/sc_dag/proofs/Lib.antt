@@ -14,4 +14,5 @@ pub mod SoundCalls
 pub mod Calm
 pub mod GoingOn
 pub mod Ending
+pub mod Outcomes
 pub mod SuccessesGoOn
