@@ -16,3 +16,5 @@ pub mod GoingOn
 pub mod Ending
 pub mod Outcomes
 pub mod SuccessesGoOn
+pub mod Sizing
+pub mod Opening
