@@ -86,13 +86,15 @@ pub calm_goes_on :
     → ((s : ℕ) → is_complete d s ≡ false
     → is_complete (dag_data d.stages states u d.limits) s ≡ false)
     → IsSettled d → GoesOn d (dag_data d.stages states u d.limits)
-calm_goes_on d states u calm lacks settled =
-    (record {
-      dead = λ s w. (calm s).live ∙ settled.dead s (sym (calm s).waits ∙ w);
-      lacking = λ s w. lacks s (settled.lacking s (sym (calm s).waits ∙ w));
-      waits = λ s w. waits s (settled.waits s (sym (calm s).waits ∙ w));
-      failed = λ s f. lacks s (settled.failed s (rw ((calm s).failed) at f));
-    }, λ s under lack. calm_goes (slice_get d.states s) (slice_get states s) (calm s) ∙ under.1)
+calm_goes_on d states u calm lacks settled = (
+  record {
+    dead = λ s w. (calm s).live ∙ settled.dead s (sym (calm s).waits ∙ w);
+    lacking = λ s w. lacks s (settled.lacking s (sym (calm s).waits ∙ w));
+    waits = λ s w. waits s (settled.waits s (sym (calm s).waits ∙ w));
+    failed = λ s f. lacks s (settled.failed s (rw ((calm s).failed) at f));
+  },
+  λ s under lack. calm_goes (slice_get d.states s) (slice_get states s) (calm s) ∙ under.1,
+)
   where
     after : DagData
     after = dag_data d.stages states u d.limits
@@ -100,8 +102,10 @@ calm_goes_on d states u calm lacks settled =
     one : (p : ℕ) → will_go_on d (λ q. false) p ≡ true
         → will_go_on after (λ q. false) p ≡ true
     one p e =
-        rw (lacks p (not_true (is_complete d p) (both_left (not (is_complete d p)) _ e)),
-            calm_goes (slice_get d.states p) (slice_get states p) (calm p))
+        rw (
+          lacks p (not_true (is_complete d p) (both_left (not (is_complete d p)) _ e)),
+          calm_goes (slice_get d.states p) (slice_get states p) (calm p),
+        )
         (both_right (not (is_complete d p)) (goes_on d p || false) e)
 
     waits : (s : ℕ)
@@ -270,15 +274,16 @@ lost_goes_on d exec settled =
     by false is s e = rw is e
 
 pub others_go_on : OthersGoOn
-others_go_on d sound settled =
-    (λ a exec now. with_goes_on d a.stage _ (λ state. refl)
-    (λ state. calm_set state (length state.attempts - 1)
-    (λ set. handed set a.partition exec now) (λ set. refl)) settled,
-    λ a cause. with_goes_on d a.stage _ (λ state. refl)
-    (λ state. calm_set state (place_of_attempt state a.stage_attempt)
-    (λ set. after_failure set a.partition a.nth cause) (λ set. refl)) settled,
-    λ s p denied. with_goes_on d s _ (λ state. refl)
-    (λ state. calm_set state (length state.attempts - 1)
-    (λ set. after_held set p denied) (λ set. refl)) settled,
-    λ exec found. seen_goes_on d exec found settled,
-    λ exec. lost_goes_on d exec settled)
+others_go_on d sound settled = (
+  λ a exec now. with_goes_on d a.stage _ (λ state. refl)
+      (λ state. calm_set state (length state.attempts - 1)
+      (λ set. handed set a.partition exec now) (λ set. refl)) settled,
+  λ a cause. with_goes_on d a.stage _ (λ state. refl)
+      (λ state. calm_set state (place_of_attempt state a.stage_attempt)
+      (λ set. after_failure set a.partition a.nth cause) (λ set. refl)) settled,
+  λ s p denied. with_goes_on d s _ (λ state. refl)
+      (λ state. calm_set state (length state.attempts - 1)
+      (λ set. after_held set p denied) (λ set. refl)) settled,
+  λ exec found. seen_goes_on d exec found settled,
+  λ exec. lost_goes_on d exec settled,
+)

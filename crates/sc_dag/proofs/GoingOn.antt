@@ -170,8 +170,10 @@ resubmitted d states u s after long others settled by_s lack dead (looked, are, 
     keeps k under open_after (inl e) =
         subst (λ j. goes_on end j ≡ true) (sym e) ((done.1 s (itself s) lack).1)
     keeps k under open_after (inr ne) =
-        done.0.1 k (others.lacks k ne under.0,
-        ap goes_on_in (others.states_same k ne) ∙ under.1) open_after
+        done.0.1 k (
+          others.lacks k ne under.0,
+          ap goes_on_in (others.states_same k ne) ∙ under.1,
+        ) open_after
 
 -- ---- a stage attempt failed
 

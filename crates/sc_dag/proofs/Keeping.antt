@@ -79,13 +79,16 @@ pub with_failed_sound :
 with_failed_sound d s number sound =
     sound_with d s (with_failed number) sound (λ state at is.
     state_quiet d.tracker (stage_at d s) state (place_of_attempt state number) failed_attempt
-    (λ x there. (record {
-      is = λ was. record {
-        set = set_kept (stage_at d s) x.set (as_zombie x.set) (keeps_zombie x.set) was.set;
-        failed = λ e. refl;
-      };
-      dead = λ z. refl;
-    }, same_zombie x.set)) is)
+    (λ x there. (
+      record {
+        is = λ was. record {
+          set = set_kept (stage_at d s) x.set (as_zombie x.set) (keeps_zombie x.set) was.set;
+          failed = λ e. refl;
+        };
+        dead = λ z. refl;
+      },
+      same_zombie x.set,
+    )) is)
 
 -- the newest set where all attempts were changed
 pub newest_mapped :

@@ -108,8 +108,11 @@ module _ (graph : List StageData) (job : IsJob graph) (stages : List StageData)
           let rising : AllPairs (λ a b. a.id < b.id) (job.maps ++ job.result ∷ []) =
           subst (AllPairs (λ a b. a.id < b.id)) job.all job.rising in
           let lt = rising i.0 (length job.maps) x i.1 (omega (arith, long)) in
-          rw (get_or_append_left job.maps (job.result ∷ []) x i.0 i.1, i.2 x,
-              get_or_push job.maps job.result x (length job.maps) refl) at lt
+          rw (
+            get_or_append_left job.maps (job.result ∷ []) x i.0 i.1,
+            i.2 x,
+            get_or_push job.maps job.result x (length job.maps) refl,
+          ) at lt
 
       by : Contains job.maps x ⊎ (job.result ≡ x) → x.id ≤ job.result.id
       by (inl h) = let lt = before h in omega (arith, lt)
@@ -240,20 +243,21 @@ blank_lacks t last n (x ∷ stages) (suc s) stage is kind some =
 -- ---- the job
 
 pub openings_are_sound : OpeningsAreSound
-openings_are_sound graph last t d job fits tracker opens =
-    (sound_from d (subst IsSoundTracker (sym opens.tracker) (all_sized_sound t graph tracker))
-    (subst (AreSoundStages d.stages) (sym opens.tracker)
-    (stages_sound graph job d.stages opens.numbered t fits))
-    (ap length opens.states ∙ blank_length last 0 d.stages)
-    (λ s. subst (λ states. IsSoundAt d.tracker (stage_at d s) (slice_get states s))
-    (sym opens.states) (blank_at d.tracker last 0 d.stages s)),
-    settled,
-    subst (λ states. is_complete_by d.tracker (stage_at d job.result.id)
-    (results_in (slice_get states job.result.id)) ≡ false) (sym opens.states)
-    (blank_lacks d.tracker last 0 d.stages job.result.id job.result
-    (All-contains (λ stage. slice_get d.stages stage.id ≡ Some stage) graph job.result
-    opens.numbered.each (subst (λ g. Contains g job.result) (sym job.all)
-    (Contains-push job.maps job.result))) job.is_result job.some))
+openings_are_sound graph last t d job fits tracker opens = (
+  sound_from d (subst IsSoundTracker (sym opens.tracker) (all_sized_sound t graph tracker))
+      (subst (AreSoundStages d.stages) (sym opens.tracker)
+      (stages_sound graph job d.stages opens.numbered t fits))
+      (ap length opens.states ∙ blank_length last 0 d.stages)
+      (λ s. subst (λ states. IsSoundAt d.tracker (stage_at d s) (slice_get states s))
+      (sym opens.states) (blank_at d.tracker last 0 d.stages s)),
+  settled,
+  subst (λ states. is_complete_by d.tracker (stage_at d job.result.id)
+      (results_in (slice_get states job.result.id)) ≡ false) (sym opens.states)
+      (blank_lacks d.tracker last 0 d.stages job.result.id job.result
+      (All-contains (λ stage. slice_get d.stages stage.id ≡ Some stage) graph job.result
+      opens.numbered.each (subst (λ g. Contains g job.result) (sym job.all)
+      (Contains-push job.maps job.result))) job.is_result job.some),
+)
   where
     waits : (s : ℕ) → waits_in (slice_get d.states s) ≡ false
     waits s = ap (λ states. waits_in (slice_get states s)) opens.states

@@ -45,9 +45,10 @@ module _ (d : DagData) (states : List StageState) (u : TrackerData) (s : ℕ)
   -- it does
   pub going : is_complete mid s ≡ false → (goes_on d s ≡ true → goes_on mid s ≡ true)
       → GoesOn d mid
-  going lack goes =
-      (settled_moved d states u (λ q. false) s others own settled,
-      λ k under open_after. keeps k under (cases_eq k s))
+  going lack goes = (
+    settled_moved d states u (λ q. false) s others own settled,
+    λ k under open_after. keeps k under (cases_eq k s),
+  )
     where
       or_false : (b : Bool) → b ≡ true → (b || false) ≡ true
       or_false true h = refl
@@ -140,9 +141,10 @@ module _ (d : DagData) (states : List StageState) (u : TrackerData) (s : ℕ)
   pub completing : is_complete mid s ≡ true
       → ((k : ℕ) → is_in (stage_at d k).parents s ≡ true → is_complete d s ≡ false → ⊥)
       → GoesOn d whole
-  completing e unread =
-      (settled_moved d (change_at states s completed) u (λ q. false) s whole_others own settled,
-      λ k under open_after. keeps k under open_after (cases_eq k s))
+  completing e unread = (
+    settled_moved d (change_at states s completed) u (λ q. false) s whole_others own settled,
+    λ k under open_after. keeps k under open_after (cases_eq k s),
+  )
     where
       own : MeetsOwn d whole (λ q. false) s
       own =
@@ -217,18 +219,22 @@ module _ (d : DagData) (states : List StageState) (u : TrackerData) (s : ℕ)
           absurd (clash e (sym (complete_after whole looked s ∙ whole_complete s)
           ∙ subst (λ j. is_complete end j ≡ false) same lack))
       keeps k under lack (inr ne) =
-          done.0.1 k (whole_others.lacks k ne under.0,
-          ap goes_on_in (whole_others.states_same k ne) ∙ under.1) lack
+          done.0.1 k (
+            whole_others.lacks k ne under.0,
+            ap goes_on_in (whole_others.states_same k ne) ∙ under.1,
+          ) lack
 
   -- what a map success leaves
   pub map_outcome : (after : DagData)
       → (is_complete mid s ≡ true → CompletesMap mid s after → GoesOn d after)
       × (is_finished_short mid s ≡ true → IsSubmitted mid (this_stage s) after → GoesOn d after)
       × (is_complete mid s ≡ false → is_finished_short mid s ≡ false → GoesOn d mid)
-  map_outcome after =
-      (λ e is. map_completing e after is, λ e is. short e after is,
-      λ lack long_still. going lack (λ g. by lack long_still
-      (goes_or_ended (slice_get d.states s) (slice_get states s) at g)))
+  map_outcome after = (
+    λ e is. map_completing e after is,
+    λ e is. short e after is,
+    λ lack long_still. going lack (λ g. by lack long_still
+        (goes_or_ended (slice_get d.states s) (slice_get states s) at g)),
+  )
     where
       by : is_complete mid s ≡ false → is_finished_short mid s ≡ false
           → (goes_on mid s ≡ true)

@@ -124,8 +124,10 @@ sized_enough t stage shuffle fits target = by (fits shuffle target)
     made true e (inl none) = absurd (clash e none)
     made true e (inr same) = omega (arith, same)
     made false e f =
-        rw (room_made t.shuffles shuffle (replicate stage.tasks never) e,
-            length-replicate stage.tasks never) (omega arith)
+        rw (
+          room_made t.shuffles shuffle (replicate stage.tasks never) e,
+          length-replicate stage.tasks never,
+        ) (omega arith)
 
     by : (has_room t shuffle ≡ false) ⊎ (length (outputs_of t shuffle) ≡ stage.tasks)
         → stage.tasks ≤ length (outputs_of (sized_by t stage) shuffle)

@@ -14,18 +14,19 @@ use Rattle.sc_dag.proofs.SoundSubmissions.{submitted_sound}
 use Rattle.sc_dag.proofs.SoundSuccesses.{map_success_sound, result_success_sound}
 
 pub calls_keep_sound : CallsKeepSound
-calls_keep_sound d sound =
-    (λ submitted after is. submitted_sound d submitted after sound is,
-    λ a exec now may. handed_sound d a exec now sound may,
-    λ a loc epoch now kind runs. map_success_sound d a loc epoch now sound kind runs,
-    λ a exec now kind runs. result_success_sound d a exec now sound kind runs,
-    λ a cause. failed_sound d a cause sound,
-    fails,
-    λ s after is. submitted_sound (with_state d s completed)
-    (waiting_stages (with_state d s completed)) after (completed_sound d s sound) is,
-    λ s p denied. hold_sound d s p denied sound,
-    λ exec found. seen_sound d exec found sound,
-    λ exec live. lost_sound_dag d exec sound live)
+calls_keep_sound d sound = (
+  λ submitted after is. submitted_sound d submitted after sound is,
+  λ a exec now may. handed_sound d a exec now sound may,
+  λ a loc epoch now kind runs. map_success_sound d a loc epoch now sound kind runs,
+  λ a exec now kind runs. result_success_sound d a exec now sound kind runs,
+  λ a cause. failed_sound d a cause sound,
+  fails,
+  λ s after is. submitted_sound (with_state d s completed)
+      (waiting_stages (with_state d s completed)) after (completed_sound d s sound) is,
+  λ s p denied. hold_sound d s p denied sound,
+  λ exec found. seen_sound d exec found sound,
+  λ exec live. lost_sound_dag d exec sound live,
+)
   where
     fails : (s number : ℕ) (verdict : Verdict) (after : DagData)
         → FailsStage d s number verdict after → IsSoundDag after

@@ -46,8 +46,11 @@ gone_forgets t exec found e =
     record {
       sound = λ s. rw e (gone_sound t exec found e s);
       outputs = λ block. (forgets_on_one t exec block).0 found e;
-      room = λ shuffle. rw (e, under_mapped t.shuffles shuffle (forgotten_on exec),
-          length-map (outputs_of t shuffle) (forgotten_on exec)) (omega arith);
+      room = λ shuffle. rw (
+        e,
+        under_mapped t.shuffles shuffle (forgotten_on exec),
+        length-map (outputs_of t shuffle) (forgotten_on exec),
+      ) (omega arith);
     }
 
 pub lost_forgets :
@@ -57,8 +60,11 @@ lost_forgets t exec e =
     record {
       sound = λ s. rw e (lost_sound t exec e s);
       outputs = λ block. (forgets_on_one t exec block).1 e;
-      room = λ shuffle. rw (e, under_mapped t.shuffles shuffle (forgotten_on exec),
-          length-map (outputs_of t shuffle) (forgotten_on exec)) (omega arith);
+      room = λ shuffle. rw (
+        e,
+        under_mapped t.shuffles shuffle (forgotten_on exec),
+        length-map (outputs_of t shuffle) (forgotten_on exec),
+      ) (omega arith);
     }
 
 -- ---- an output that may be forgotten

@@ -96,17 +96,19 @@ live_holds d s exec set sound none is live =
     let some : are_finished set.tasks ≡ false =
     by (are_finished set.tasks) refl (λ e. of.sound.ends e) in
     let found = unfinished_task set.tasks of.sound.rising some in
-    let offer : OffersIn (Some set) exec None = rw is at (none s) in
-    (found.0.partition, record {
-      set = set;
-      task = found.0;
-      newest = is;
-      live = live;
-      is_task = found.1;
-      unfinished = found.2;
-      held = held_back found.0 found.2
-          (not_pending set found.0.partition found.0 live found.1 (offer.0 found.0.partition));
-    })
+    let offer : OffersIn (Some set) exec None = rw is at (none s) in (
+      found.0.partition,
+      record {
+        set = set;
+        task = found.0;
+        newest = is;
+        live = live;
+        is_task = found.1;
+        unfinished = found.2;
+        held = held_back found.0 found.2
+            (not_pending set found.0.partition found.0 live found.1 (offer.0 found.0.partition));
+      },
+    )
   where
     by : (b : Bool) → are_finished set.tasks ≡ b
         → (are_finished set.tasks ≡ true → set.is_zombie ≡ true) → b ≡ false
@@ -130,9 +132,10 @@ stuck_below d exec sound settled none (suc n) s lt under =
     or_false false e = e
 
     way : (p : ℕ) → will_go_on d (λ q. false) p ≡ true → IsUnderWay d p
-    way p e =
-        (not_true (is_complete d p) (both_left (not (is_complete d p)) _ e),
-        or_false (goes_on d p) (both_right (not (is_complete d p)) (goes_on d p || false) e))
+    way p e = (
+      not_true (is_complete d p) (both_left (not (is_complete d p)) _ e),
+      or_false (goes_on d p) (both_right (not (is_complete d p)) (goes_on d p || false) e),
+    )
 
     parents : (false ≡ true)
         ⊎ (list_any (will_go_on d (λ q. false)) (stage_at d s).parents ≡ true)

@@ -253,8 +253,10 @@ success_in_both t u stage state results a exec now is wants older places to =
       attempts = attempts_changed stage before (length before - 1) (with_set h)
           (λ x there. keeps_with stage x h (keeps_success x.set a.partition None now))
           (success_in_older t stage state a now is older).attempts;
-      newest = rw (newest_changed before (length before - 1) (with_set h) refl,
-          newest_kept state.attempts i (with_set g) older)
+      newest = rw (
+        newest_changed before (length before - 1) (with_set h) refl,
+        newest_kept state.attempts i (with_set g) older,
+      )
           (by (slice_get state.attempts (length state.attempts - 1)) wants is.newest);
     }
   where

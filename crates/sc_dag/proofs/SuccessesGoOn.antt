@@ -32,7 +32,6 @@ use Rattle.sc_dag.proofs.SoundSuccesses.{older_place, with_result_sound}
 use Rattle.sc_dag.proofs.Submitting.{after_looking, complete_after, newest_among, settles}
 use Rattle.sc_dag.proofs.Trackers.{done_alike, other_outputs}
 
-
 -- a success ends a set only where all of it is finished
 pub success_whole : (p : ℕ) (nth : Option ℕ) (now : ℕ)
     → EndsWhole (λ set. after_success set p nth now)
