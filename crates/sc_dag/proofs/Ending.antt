@@ -11,10 +11,10 @@ use Rattle.sc_dag.specs.Reports.{wants_in}
 use Rattle.sc_dag.specs.Submission.{is_idle_in, waits_in}
 use Rattle.sc_dag.specs.Settled.{goes_on_in}
 use Rattle.sc_dag.specs.declared.attempts.StageAttempt.{StageAttempt}
-use Rattle.sc_dag.proofs.Basics.{clash, not_false, not_true}
 use Rattle.sc_dag.proofs.Calm.{IsCalm, goes_is}
-use Rattle.sc_dag.proofs.SoundStages.{newest_changed, newest_kept}
-use Rattle.sc_dag.proofs.Submitting.{newest_among}
+use Rattle.sc_dag.proofs.Moving.{newest_among}
+use Rattle.sc_dag.proofs.SoundAttempts.{newest_changed, newest_kept}
+use Rattle.sc_dag.proofs.Tests.{clash, not_false, not_true}
 
 -- all tasks of a set that may be there are finished
 abbrev pub all_done : Option TaskSetData → Bool
@@ -174,13 +174,3 @@ done_unwanted set p e = each set.tasks e
         by true false is k g = absurd (true≢false (sym k))
         by false true is k g = g k
         by false false is k g = absurd (true≢false (sym k))
-
--- nothing is counted where the test fails on all
-pub count_none :
-    {A B : Type 0} (p : B → Bool) (f : A → B) (xs : List A) → ((x : A) → p (f x) ≡ false)
-    → count_by p (map f xs) ≡ 0
-count_none p f [] h = refl
-count_none p f (x ∷ xs) h =
-    sum_by-cons (λ y. cond (p y) 1 0) (f x) (map f xs)
-    ∙ ap (λ b. cond b 1 0 + count_by p (map f xs)) (h x)
-    ∙ (zero-add (count_by p (map f xs)) ∙ count_none p f xs h)

@@ -16,11 +16,12 @@ use Rattle.sc_dag.specs.Settled.{IsSettled, IsSettledBy, IsUnderWay, goes_on, go
 use Rattle.sc_dag.specs.Sound.{IsSoundDag}
 use Rattle.sc_dag.specs.Submission.{IsSubmitted, this_stage, waiting_stages, waits_in}
 use Rattle.sc_dag.specs.declared.attempts.StageAttempt.{StageAttempt}
-use Rattle.sc_dag.proofs.Basics.{any_within, both_left, both_right, is_in, not_true}
 use Rattle.sc_dag.proofs.Calm.{complete_with}
-use Rattle.sc_dag.proofs.SoundStages.{newest_changed}
-use Rattle.sc_dag.proofs.Submitting.{after_looking, newest_among, settles}
-use Rattle.sc_dag.proofs.Successes.{place_newest}
+use Rattle.sc_dag.proofs.Moving.{after_looking, newest_among}
+use Rattle.sc_dag.proofs.Runners.{place_newest}
+use Rattle.sc_dag.proofs.Settling.{settles}
+use Rattle.sc_dag.proofs.SoundAttempts.{newest_changed}
+use Rattle.sc_dag.proofs.Tests.{any_within, both_left, both_right, is_in, not_true}
 
 -- another state of one stage and another tracker
 abbrev pub moved : DagData → List StageState → TrackerData → DagData

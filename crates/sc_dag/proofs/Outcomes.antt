@@ -22,14 +22,13 @@ use Rattle.sc_dag.specs.Reports.{CompletesMap, after_map_success, after_result_s
 use Rattle.sc_dag.specs.Settled.{IsSettled, IsSettledBy, IsUnderWay, goes_on, goes_on_in, will_go_on}
 use Rattle.sc_dag.specs.Sound.{IsSoundDag, runner_of}
 use Rattle.sc_dag.specs.Submission.{IsSubmitted, is_idle_in, is_map, this_stage, waiting_stages, waits_in}
-use Rattle.sc_dag.proofs.Basics.{all_in, both_left, both_right, change_twice, clash, is_in, not_false, not_true}
-use Rattle.sc_dag.proofs.Calm.{calm_set, complete_with, ended_goes_on}
-use Rattle.sc_dag.proofs.Ending.{EndsWhole, SucceedsAt, all_done, count_none, done_unwanted, goes_or_ended, older_succeeds, set_succeeds, succeeds_calm, succeeds_changed}
-use Rattle.sc_dag.proofs.GoingOn.{MeetsOwn, SameOthers, itself, moved, others_with, resubmitted, settled_moved}
-use Rattle.sc_dag.proofs.Sets.{keeps_success, success_ends}
-use Rattle.sc_dag.proofs.SoundSuccesses.{older_place, with_result_sound}
-use Rattle.sc_dag.proofs.Submitting.{after_looking, complete_after, newest_among, settles}
-use Rattle.sc_dag.proofs.Trackers.{done_alike, other_outputs}
+use Rattle.sc_dag.proofs.Calm.{complete_with}
+use Rattle.sc_dag.proofs.Ending.{SucceedsAt, all_done, goes_or_ended}
+use Rattle.sc_dag.proofs.GoingOn.{MeetsOwn, SameOthers, itself, moved, resubmitted, settled_moved}
+use Rattle.sc_dag.proofs.Items.{count_none}
+use Rattle.sc_dag.proofs.Moving.{after_looking, complete_after, newest_among}
+use Rattle.sc_dag.proofs.Settling.{settles}
+use Rattle.sc_dag.proofs.Tests.{both_left, both_right, clash, is_in, not_true}
 
 -- ---- a stage that goes on after a success, or not
 

@@ -14,7 +14,8 @@ use Rattle.sc_tracker.specs.TrackerFacts.{IsSoundOutput, IsSoundTracker}
 use Rattle.sc_tracker.specs.Tracking.{has_room, sized}
 use Rattle.sc_tracker.proofs.BlockLemmas.{is_of_itself, one_shuffle, room_made, under_behind, under_here}
 use Rattle.sc_dag.specs.Openings.{AreOfTwo, FitsIn, FitsJob, sized_by, sized_for_all}
-use Rattle.sc_dag.proofs.Basics.{clash, pairs_head, pairs_tail}
+use Rattle.sc_dag.proofs.Items.{pairs_head, pairs_tail}
+use Rattle.sc_dag.proofs.Tests.{clash}
 
 -- ---- one more shuffle
 

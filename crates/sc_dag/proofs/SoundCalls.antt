@@ -10,8 +10,9 @@ use Rattle.sc_dag.specs.Sound.{IsSoundDag}
 use Rattle.sc_dag.specs.Submission.{this_stage, waiting_stages}
 use Rattle.sc_dag.proofs.Keeping.{completed_sound, failed_sound, handed_sound, hold_sound, with_failed_sound}
 use Rattle.sc_dag.proofs.SoundLosses.{lost_sound_dag, seen_sound}
+use Rattle.sc_dag.proofs.SoundResults.{result_success_sound}
 use Rattle.sc_dag.proofs.SoundSubmissions.{submitted_sound}
-use Rattle.sc_dag.proofs.SoundSuccesses.{map_success_sound, result_success_sound}
+use Rattle.sc_dag.proofs.SoundSuccesses.{map_success_sound}
 
 pub calls_keep_sound : CallsKeepSound
 calls_keep_sound d sound = (

@@ -27,10 +27,12 @@ use Rattle.sc_dag.specs.Reports.{wants_in}
 use Rattle.sc_dag.specs.Sound.{IsAttemptOf, IsSetOf, IsSoundDag, finish_in}
 use Rattle.sc_dag.specs.Submission.{is_map}
 use Rattle.sc_dag.specs.declared.attempts.StageAttempt.{StageAttempt}
-use Rattle.sc_dag.proofs.Basics.{all_at, clash}
+use Rattle.sc_dag.proofs.Finishes.{loss_finish, loss_wanted, loss_wants}
+use Rattle.sc_dag.proofs.Items.{all_at}
 use Rattle.sc_dag.proofs.Keeping.{newest_mapped}
-use Rattle.sc_dag.proofs.Sets.{keeps_loss, loss_finish, loss_wanted, loss_wants}
-use Rattle.sc_dag.proofs.SoundStages.{IsNewest, IsSoundAt, IsSoundState, attempts_mapped, keeps_with, no_newest, sound_at, sound_from, sound_mapped, stages_moved}
+use Rattle.sc_dag.proofs.Sets.{keeps_loss}
+use Rattle.sc_dag.proofs.SoundAttempts.{attempts_mapped, keeps_with}
+use Rattle.sc_dag.proofs.SoundStages.{IsNewest, IsSoundAt, IsSoundState, no_newest, sound_at, sound_from, sound_mapped, stages_moved}
 
 -- a tracker that has forgotten what was on an executor
 pub record Forgets (t u : TrackerData) (exec : ℕ) : Type 0 where

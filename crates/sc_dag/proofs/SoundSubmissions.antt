@@ -20,10 +20,13 @@ use Rattle.sc_dag.specs.Outputs.{has_inputs, is_complete, is_complete_by, is_don
 use Rattle.sc_dag.specs.Sound.{IsAttemptOf, IsSetOf, IsSoundDag, finish_among}
 use Rattle.sc_dag.specs.Submission.{AreLookedAt, IsSubmitted, as_waiting, is_map, moved_if, new_set, started}
 use Rattle.sc_dag.specs.declared.attempts.StageAttempt.{StageAttempt}
-use Rattle.sc_dag.proofs.Basics.{all_in, any_below, by_number_length, clash, is_in, not_true, take_push}
+use Rattle.sc_dag.proofs.Items.{by_number_length, take_push}
+use Rattle.sc_dag.proofs.Looking.{looked_lacks}
+use Rattle.sc_dag.proofs.Moving.{after_looking, newest_started, state_after}
 use Rattle.sc_dag.proofs.Sets.{keeps_zombie}
-use Rattle.sc_dag.proofs.SoundStages.{AreAttempts, IsNewest, IsSoundAt, IsSoundState, attempts_changed, keeps_with, sound_at, sound_from, sound_mapped}
-use Rattle.sc_dag.proofs.Submitting.{after_looking, looked_lacks, newest_started, state_after}
+use Rattle.sc_dag.proofs.SoundAttempts.{attempts_changed, keeps_with}
+use Rattle.sc_dag.proofs.SoundStages.{IsNewest, IsSoundAt, IsSoundState, sound_at, sound_from, sound_mapped}
+use Rattle.sc_dag.proofs.Tests.{all_in, any_below, clash, is_in, not_true}
 
 -- ---- numbers, and those of them that pass
 

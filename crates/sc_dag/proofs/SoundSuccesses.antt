@@ -1,4 +1,4 @@
--- Successes keep what holds of every job.
+-- Successes of map tasks keep what holds of every job.
 use Rattle.std.proofs.Common.{◌≡◌, ◌≢◌, ◌⊎◌, inl, inr, ℕ, ◌+◌, ◌-◌, ◌<◌, ◌≤◌, ◌==◌, not, Bool, true, false, if◌then◌else◌, List, [], ◌∷◌, length, Option, Some, None, IfSome, is_some, slice_get, refl, ap, sym, subst, ◌∙◌, arith, rules, true≢false}
 use Rattle.std.proofs.lemmas.Bool.{cases_eq}
 use Rattle.std.proofs.lemmas.Bool.Decides.{nat_tests}
@@ -25,13 +25,13 @@ use Rattle.sc_dag.specs.Outputs.{block_of, is_complete, is_done_by}
 use Rattle.sc_dag.specs.Reports.{after_map_success, after_result_success, block_by, completed, completed_if, ended_in_own, is_of_newest, is_repeat, registered_by, succeeded_in_both, succeeded_in_own, wants_in, with_output, with_result}
 use Rattle.sc_dag.specs.Sound.{AreSoundStages, IsAttemptOf, IsSetOf, IsSoundDag, attempts_in, runner_of}
 use Rattle.sc_dag.specs.Submission.{is_map}
-use Rattle.sc_dag.proofs.Basics.{change_twice, clash, not_false, not_true}
-use Rattle.sc_dag.proofs.Keeping.{completed_sound, ended_sound}
-use Rattle.sc_dag.proofs.SoundStages.{HasPlaces, IsSoundAt, IsSoundState, sound_changed, sound_with}
-use Rattle.sc_dag.proofs.Stuck.{newest_holds}
-use Rattle.sc_dag.proofs.Submitting.{newest_among}
-use Rattle.sc_dag.proofs.Successes.{RunsIn, SucceedsTo, place_newest, place_other, runs_in, success_in_both, success_in_newest, success_in_older, wanted_within}
-use Rattle.sc_dag.proofs.Trackers.{SameOutputs, done_alike, other_outputs, registered_room, sound_alike}
+use Rattle.sc_dag.proofs.Items.{change_twice}
+use Rattle.sc_dag.proofs.Keeping.{ended_sound}
+use Rattle.sc_dag.proofs.Runners.{newest_place, older_place, runs_in, wanted_in, within}
+use Rattle.sc_dag.proofs.SoundStages.{IsSoundAt, IsSoundState, sound_changed, sound_with}
+use Rattle.sc_dag.proofs.Successes.{SucceedsTo, success_in_both, success_in_newest, success_in_older}
+use Rattle.sc_dag.proofs.Tests.{clash, not_false}
+use Rattle.sc_dag.proofs.Trackers.{done_alike, other_outputs, registered_room, sound_alike}
 
 -- an attempt that runs, of a partition that its stage's newest set wants
 module _ (d : DagData) (a : AttemptId) (exec now : ℕ) (sound : IsSoundDag d)
@@ -39,40 +39,6 @@ module _ (d : DagData) (a : AttemptId) (exec now : ℕ) (sound : IsSoundDag d)
     (wants : wants_in (newest_at d a.stage) a.partition ≡ true) where
   abbrev stage : StageData
   stage = stage_at d a.stage
-
-  -- the partition is one of the stage
-  pub within : a.partition < stage.tasks
-  within = by (newest_at d a.stage) refl wants
-    where
-      by : (o : Option TaskSetData) → newest_at d a.stage ≡ o
-          → wants_in o a.partition ≡ true → a.partition < stage.tasks
-      by None e w = absurd (true≢false (sym w))
-      by (Some set) e w =
-          wanted_within stage set a.partition
-          (newest_holds (IsSetOf stage) (slice_get d.states a.stage) set
-          (λ i x l. (sound.attempts a.stage i x l).set) e) w
-
-  -- its own stage, by its state
-  wanted_in : (state : StageState) → slice_get d.states a.stage ≡ Some state
-      → wants_in (newest_set state) a.partition ≡ true
-  wanted_in state at = sym (ap (λ o. wants_in (newest_among o) a.partition) at) ∙ wants
-
-  newest_place : (state : StageState) → slice_get d.states a.stage ≡ Some state
-      → is_of_newest d a ≡ true
-      → place_of_attempt state a.stage_attempt ≡ length state.attempts - 1
-  newest_place state at e =
-      let is : a.stage_attempt ≡ newest_number d a.stage = grind (arith, nat_tests, e) in
-      place_newest state a.stage_attempt (is ∙ ap number_in at)
-
-  pub older_place : (state : StageState) → slice_get d.states a.stage ≡ Some state
-      → is_of_newest d a ≡ false
-      → place_of_attempt state a.stage_attempt ≡ length state.attempts - 1 → ⊥
-  older_place state at e =
-      let ne : a.stage_attempt ≡ newest_number d a.stage → ⊥ =
-      λ is. grind (arith, nat_tests, e, is) in
-      let r = runs_in d a exec state at runs in
-      place_other state a.stage_attempt r.attempt r.there
-      (λ is. ne (is ∙ sym (ap number_in at)))
 
   -- a success that may be lost already
   bogus_sound : is_map stage.target ≡ true → IsSoundDag (succeeded_in_own d a now)
@@ -87,7 +53,7 @@ module _ (d : DagData) (a : AttemptId) (exec now : ℕ) (sound : IsSoundDag d)
             others = λ p ne. refl;
             outputs = λ p shuffle ne target. refl;
             made = λ shuffle target. missing shuffle target
-                (is.newest.wanted a.partition (wanted_in state at));
+                (is.newest.wanted a.partition (wanted_in d a exec now sound runs wants state at));
             done = λ result lt. absurd (clash kind result);
           }
         where
@@ -116,10 +82,10 @@ module _ (d : DagData) (a : AttemptId) (exec now : ℕ) (sound : IsSoundDag d)
           (λ set. after_success set a.partition (Some a.nth) now) state)
       by state at is true e =
           success_in_newest d.tracker d.tracker stage state state.results a exec now is
-          (runs_in d a exec state at runs) (wanted_in state at) (newest_place state at e)
+          (runs_in d a exec state at runs) (wanted_in d a exec now sound runs wants state at) (newest_place d a exec now sound runs wants state at e)
           is.results (to state at is)
       by state at is false e =
-          success_in_older d.tracker stage state a now is (older_place state at e)
+          success_in_older d.tracker stage state a now is (older_place d a exec now sound runs wants state at e)
 
   -- the output registered
   registered_so : (loc : Loc) (shuffle : ShuffleId) (epoch : ℕ)
@@ -154,7 +120,7 @@ module _ (d : DagData) (a : AttemptId) (exec now : ℕ) (sound : IsSoundDag d)
       -- what is registered is where the attempt runs
       placed_here : IfSome (output_of u block).here (λ x. x.exec ≡ exec)
       placed_here =
-          let has : a.partition < stage.tasks = within in
+          let has : a.partition < stage.tasks = within d a exec now sound runs wants in
           let fits : stage.tasks ≤ length (outputs_of d.tracker shuffle) =
           sound.stages.room a.stage shuffle target in
           rw ((registers_one d.tracker block loc).0 (omega (arith, has, fits))) on
@@ -198,7 +164,7 @@ module _ (d : DagData) (a : AttemptId) (exec now : ℕ) (sound : IsSoundDag d)
       by true e =
           sound_changed d u a.stage own_set sound tracker room others
           (λ state at is. success_in_newest d.tracker u stage state state.results a exec now is
-          (runs_in d a exec state at runs) (wanted_in state at) (newest_place state at e)
+          (runs_in d a exec state at runs) (wanted_in d a exec now sound runs wants state at) (newest_place d a exec now sound runs wants state at e)
           is.results (to state))
       by false e =
           subst (λ states. IsSoundDag (dag_data d.stages states u d.limits))
@@ -206,77 +172,7 @@ module _ (d : DagData) (a : AttemptId) (exec now : ℕ) (sound : IsSoundDag d)
           (sound_changed d u a.stage (λ state. newest_too (own_set state)) sound tracker room
           others
           (λ state at is. success_in_both d.tracker u stage state state.results a exec now is
-          (wanted_in state at) (older_place state at e) is.results (to state)))
-
-  -- a result
-  pub with_result_sound : is_map stage.target ≡ false
-      → IsSoundDag (with_state (succeeded_in_both d a now) a.stage (with_result a.partition))
-  with_result_sound kind = by (is_of_newest d a) refl
-    where
-      own_set : StageState → StageState
-      own_set = changed_set a.stage_attempt
-          (λ set. after_success set a.partition (Some a.nth) now)
-
-      newest_too : StageState → StageState
-      newest_too = changed_newest (λ set. after_success set a.partition None now)
-
-      results : StageState → List Bool
-      results state = change_at state.results a.partition (λ _. true)
-
-      places : (state : StageState) → HasPlaces stage state.results
-          → HasPlaces stage (results state)
-      places state has = length_change_at state.results a.partition (λ _. true) ∙ has
-
-      other : (target : Target) (state : StageState) (p : ℕ) → (a.partition ≡ p → ⊥)
-          → is_done_by d.tracker target (results state) p
-          ≡ is_done_by d.tracker target state.results p
-      other (targets.Map shuffle) state p ne = refl
-      other (targets.Result node) state p ne =
-          at_or_change_other state.results a.partition p false (λ _. true) (λ e. ne (sym e))
-
-      done : (target : Target) (state : StageState) → is_map target ≡ false
-          → a.partition < length state.results
-          → is_done_by d.tracker target (results state) a.partition ≡ true
-      done (targets.Map shuffle) state k lt = absurd (true≢false k)
-      done (targets.Result node) state k lt =
-          at_or_change_same state.results a.partition false (λ _. true) lt
-
-      to : (state : StageState) → HasPlaces stage state.results
-          → SucceedsTo d.tracker d.tracker stage state.results (results state) a.partition exec
-      to state has =
-          record {
-            others = λ p ne. other stage.target state p ne;
-            outputs = λ p shuffle ne target. refl;
-            made = λ shuffle target. absurd (clash (ap is_map target) kind);
-            done = λ k lt. done stage.target state k
-                (let n : length state.results ≡ stage.tasks = rw kind at has in
-                omega (arith, n, lt));
-          }
-
-      by : (b : Bool) → is_of_newest d a ≡ b
-          → IsSoundDag (with_state (if b then succeeded_in_own d a now
-          else with_state (succeeded_in_own d a now) a.stage newest_too)
-          a.stage (with_result a.partition))
-      by true e =
-          subst (λ states. IsSoundDag (dag_data d.stages states d.tracker d.limits))
-          (sym (change_twice d.states a.stage own_set (with_result a.partition)))
-          (sound_with d a.stage (λ state. with_result a.partition (own_set state)) sound
-          (λ state at is.
-          success_in_newest d.tracker d.tracker stage state (results state) a exec now is
-          (runs_in d a exec state at runs) (wanted_in state at) (newest_place state at e)
-          (places state is.results) (to state is.results)))
-      by false e =
-          subst (λ states. IsSoundDag (dag_data d.stages states d.tracker d.limits))
-          (sym (ap (λ states. change_at states a.stage (with_result a.partition))
-          (change_twice d.states a.stage own_set newest_too)
-          ∙ change_twice d.states a.stage (λ state. newest_too (own_set state))
-          (with_result a.partition)))
-          (sound_with d a.stage
-          (λ state. with_result a.partition (newest_too (own_set state))) sound
-          (λ state at is.
-          success_in_both d.tracker d.tracker stage state (results state) a exec now is
-          (wanted_in state at) (older_place state at e)
-          (places state is.results) (to state is.results)))
+          (wanted_in d a exec now sound runs wants state at) (older_place d a exec now sound runs wants state at e) is.results (to state)))
 
 -- a success of a map task
 pub map_success_sound :
@@ -303,25 +199,3 @@ map_success_sound d a loc epoch now sound kind runs =
     by false e true f =
         bogus_sound d a loc.exec now sound runs (not_false _ e) kind
     by false e false f = so (stage_at d a.stage).target refl kind (not_false _ e) f
-
--- a success of a result task
-pub result_success_sound :
-    (d : DagData) (a : AttemptId) (exec now : ℕ) → IsSoundDag d
-    → is_map (stage_at d a.stage).target ≡ false → runner_of d a ≡ Some exec
-    → IsSoundDag (after_result_success d a now)
-result_success_sound d a exec now sound kind runs = by (is_repeat d a) refl
-  where
-    after : DagData
-    after = with_state (succeeded_in_both d a now) a.stage (with_result a.partition)
-
-    whole : (b : Bool) → IsSoundDag after
-        → IsSoundDag (if b then with_state after a.stage completed else after)
-    whole true is = completed_sound after a.stage is
-    whole false is = is
-
-    by : (b : Bool) → is_repeat d a ≡ b
-        → IsSoundDag (if b then ended_in_own d a else completed_if after a.stage)
-    by true e = ended_sound d a sound
-    by false e =
-        whole (is_complete after a.stage)
-        (with_result_sound d a exec now sound runs (not_false _ e) kind)

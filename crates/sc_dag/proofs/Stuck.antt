@@ -15,8 +15,9 @@ use Rattle.sc_dag.specs.Settled.{IsSettled, IsUnderWay, goes_on, goes_on_in, wil
 use Rattle.sc_dag.specs.Sound.{IsAttemptOf, IsSetOf, IsSoundDag, attempts_in}
 use Rattle.sc_dag.specs.Submission.{waiting_stages, waits_in}
 use Rattle.sc_dag.specs.declared.attempts.StageAttempt.{StageAttempt}
-use Rattle.sc_dag.proofs.Basics.{all_at, all_unmapped, any_member, any_found, any_within, both_left, both_right, clash, find_all, is_in, all_in, not_true, not_false, pairs_head, pairs_tail}
-use Rattle.sc_dag.proofs.Submitting.{newest_among}
+use Rattle.sc_dag.proofs.Items.{all_at, all_unmapped, find_all, pairs_head, pairs_tail}
+use Rattle.sc_dag.proofs.Moving.{newest_among}
+use Rattle.sc_dag.proofs.Tests.{all_in, any_member, both_left, both_right, clash, not_true}
 
 -- a task that isn't finished, by its partition
 pub unfinished_task :

@@ -21,7 +21,7 @@ use Rattle.sc_dag.specs.DagData.{DagData, StageState, no_stage, stage_at}
 use Rattle.sc_dag.specs.Outputs.{block_of, is_done_by}
 use Rattle.sc_dag.specs.Sound.{AreSoundStages}
 use Rattle.sc_dag.specs.Submission.{is_map}
-use Rattle.sc_dag.proofs.SoundStages.{IsNewest, IsSoundAt, IsSoundState}
+use Rattle.sc_dag.proofs.SoundStages.{IsSoundAt}
 
 -- two shuffles are the same or not
 pub which_shuffle : (a b : ShuffleId) → (a ≡ b) ⊎ (a ≡ b → ⊥)

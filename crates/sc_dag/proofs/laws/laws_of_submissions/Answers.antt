@@ -1,5 +1,6 @@
 use Rattle.sc_dag.proofs.Repeating.{submissions_repeat}
-use Rattle.sc_dag.proofs.Submitting.{submissions_agree, submissions_settle}
+use Rattle.sc_dag.proofs.Looking.{submissions_agree}
+use Rattle.sc_dag.proofs.Settling.{submissions_settle}
 use Rattle.sc_dag.proofs.laws.laws_of_submissions.Goals as goal
 
 pub returns-clause-one : goal.returns-clause-one

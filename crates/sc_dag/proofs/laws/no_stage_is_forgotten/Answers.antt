@@ -1,7 +1,8 @@
-use Rattle.sc_dag.proofs.Calm.{others_go_on}
+use Rattle.sc_dag.proofs.CalmCalls.{others_go_on}
 use Rattle.sc_dag.proofs.GoingOn.{failures_go_on}
 use Rattle.sc_dag.proofs.Stuck.{nothing_is_stuck}
-use Rattle.sc_dag.proofs.SuccessesGoOn.{map_successes_go_on, result_successes_go_on}
+use Rattle.sc_dag.proofs.MapsGoOn.{map_successes_go_on}
+use Rattle.sc_dag.proofs.ResultsGoOn.{result_successes_go_on}
 use Rattle.sc_dag.proofs.laws.no_stage_is_forgotten.Goals as goal
 
 pub returns-clause-never_stuck : goal.returns-clause-never_stuck
