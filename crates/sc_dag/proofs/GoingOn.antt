@@ -1,7 +1,7 @@
 -- Where one stage changed, and is submitted or not, no stage is forgotten.
 use Rattle.std.proofs.Common.{◌≡◌, ◌⊎◌, inl, inr, ℕ, ◌+◌, ◌-◌, ◌<◌, ◌==◌, ◌||◌, ◌&&◌, not, Bool, true, false, if◌then◌else◌, List, [], ◌∷◌, length, map, Option, Some, None, option_map, slice_get, refl, ap, sym, subst, ◌∙◌, arith, rules, true≢false}
 use Rattle.std.specs.List.{list_any}
-use Rattle.std.proofs.lemmas.Bool.{cases_eq}
+use Rattle.std.proofs.lemmas.Bool.{cases_eq, or_right}
 use Rattle.std.proofs.lemmas.Bool.Decides.{nat_tests}
 use Rattle.sc_ids.specs.Changes.{change_at}
 use Rattle.sc_ids.proofs.ChangeLemmas.{length_change_at, slice_get_change_other, slice_get_change_same}
@@ -21,7 +21,7 @@ use Rattle.sc_dag.proofs.Moving.{after_looking, newest_among}
 use Rattle.sc_dag.proofs.Runners.{place_newest}
 use Rattle.sc_dag.proofs.Settling.{settles}
 use Rattle.sc_dag.proofs.SoundAttempts.{newest_changed}
-use Rattle.sc_dag.proofs.Tests.{any_within, both_left, both_right, is_in, not_true}
+use Rattle.sc_dag.proofs.Tests.{any_within, both_left, both_right, is_in, left_only, not_true}
 
 -- another state of one stage and another tracker
 abbrev pub moved : DagData → List StageState → TrackerData → DagData
@@ -87,11 +87,7 @@ settled_moved d states u submitted s others own settled =
         lack = not_true (is_complete d p) (both_left (not (is_complete d p)) _ e)
 
         goes : goes_on d p ≡ true
-        goes = or_false (goes_on d p) (both_right (not (is_complete d p)) (goes_on d p || false) e)
-          where
-            or_false : (b : Bool) → (b || false) ≡ true → b ≡ true
-            or_false true h = refl
-            or_false false h = h
+        goes = left_only (goes_on d p) (both_right (not (is_complete d p)) (goes_on d p || false) e)
 
         by : (p ≡ s) ⊎ (p ≡ s → ⊥) → will_go_on after submitted p ≡ true
         by (inl is) =
@@ -234,16 +230,12 @@ failures_go_on d s after sound settled lack (few, submits) =
     dead : is_live_set (newest_at mid s) ≡ false
     dead = failed_dead d s
 
-    or_true : (b : Bool) → (b || true) ≡ true
-    or_true true = refl
-    or_true false = refl
-
     own : MeetsOwn d mid (this_stage s) s
     own =
         record {
           dead = λ w. dead;
           lacking = λ w. lack_after;
           waits = λ w. inr (itself s);
-          passes = λ k read e goes. rw (lack_after, itself s) (or_true (goes_on mid s));
+          passes = λ k read e goes. rw (lack_after, itself s) (or_right (goes_on mid s) true refl);
           failed = λ f. lack_after;
         }

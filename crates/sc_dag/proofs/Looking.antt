@@ -1,5 +1,6 @@
 -- Which stages a submission looks at.
 use Rattle.std.proofs.Common.{◌≡◌, ◌⊎◌, inl, inr, ℕ, zero, suc, ◌+◌, ◌-◌, ◌<◌, ◌≤◌, ◌==◌, ◌||◌, ◌&&◌, not, Bool, true, false, cond, if◌then◌else◌, List, [], ◌∷◌, ◌++◌, All, length, map, Option, Some, None, is_some, option_map, slice_get, refl, ap, sym, subst, ◌∙◌, arith, rules, true≢false, lt_of_not-le}
+use Rattle.std.proofs.lemmas.Bool.{or_right}
 use Rattle.std.specs.List.{list_all, list_any}
 use Rattle.std.proofs.lemmas.Bool.Decides.{nat_tests}
 use Rattle.std.proofs.lemmas.Option.{slice_get_cases}
@@ -67,11 +68,7 @@ pub looked_asked :
     → is_complete d s ≡ false → is_idle_in (slice_get d.states s) ≡ true
     → is_asked_for d looked s ≡ true → looked s ≡ true
 looked_asked d submitted looked s are lacks idle asked =
-    are s ∙ rw (lacks, idle, asked) (or_true (submitted s))
-  where
-    or_true : (b : Bool) → (b || true) ≡ true
-    or_true true = refl
-    or_true false = refl
+    are s ∙ rw (lacks, idle, asked) (or_right (submitted s) true refl)
 
 -- a parent is asked for by a stage that is looked at
 pub asked_by :

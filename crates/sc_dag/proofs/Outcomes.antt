@@ -1,7 +1,7 @@
 -- What becomes of the stage of a success, and of all others with it.
 use Rattle.std.proofs.Common.{◌≡◌, ◌≢◌, ◌⊎◌, inl, inr, ℕ, ◌+◌, ◌-◌, ◌<◌, ◌==◌, ◌||◌, ◌&&◌, not, Bool, true, false, if◌then◌else◌, List, [], ◌∷◌, length, map, Option, Some, None, option_map, slice_get, refl, ap, sym, subst, ◌∙◌, arith, rules, true≢false}
 use Rattle.std.specs.List.{list_all}
-use Rattle.std.proofs.lemmas.Bool.{cases_eq}
+use Rattle.std.proofs.lemmas.Bool.{cases_eq, or_left, or_right}
 use Rattle.sc_base.specs.Lists.{numbers_below}
 use Rattle.sc_ids.specs.Changes.{change_at}
 use Rattle.sc_ids.specs.Graphs.{StageData}
@@ -49,17 +49,13 @@ module _ (d : DagData) (states : List StageState) (u : TrackerData) (s : ℕ)
     λ k under open_after. keeps k under (cases_eq k s),
   )
     where
-      or_false : (b : Bool) → b ≡ true → (b || false) ≡ true
-      or_false true h = refl
-      or_false false h = h
-
       own : MeetsOwn d mid (λ q. false) s
       own =
           record {
             dead = dead_still;
             lacking = λ w. lack;
             waits = λ w. inl (sym at.waits ∙ w);
-            passes = λ k read e g. rw lack (or_false (goes_on mid s) (goes g));
+            passes = λ k read e g. rw lack (or_left (goes_on mid s) false (goes g));
             failed = λ f. lack;
           }
 
@@ -88,17 +84,13 @@ module _ (d : DagData) (states : List StageState) (u : TrackerData) (s : ℕ)
           (both_left (is_idle_in (slice_get states s)) _
           (both_right (not (is_complete mid s)) _ e))
 
-      or_true : (b : Bool) → (b || true) ≡ true
-      or_true true = refl
-      or_true false = refl
-
       own : MeetsOwn d mid (this_stage s) s
       own =
           record {
             dead = λ w. dead;
             lacking = λ w. lack;
             waits = λ w. inr (itself s);
-            passes = λ k read h g. rw (lack, itself s) (or_true (goes_on mid s));
+            passes = λ k read h g. rw (lack, itself s) (or_right (goes_on mid s) true refl);
             failed = λ f. lack;
           }
 

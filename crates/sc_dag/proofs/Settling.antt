@@ -1,5 +1,6 @@
 -- A submission settles what was to be submitted.
 use Rattle.std.proofs.Common.{◌≡◌, ◌⊎◌, inl, inr, ℕ, zero, suc, ◌+◌, ◌-◌, ◌<◌, ◌≤◌, ◌==◌, ◌||◌, ◌&&◌, not, Bool, true, false, cond, if◌then◌else◌, List, [], ◌∷◌, ◌++◌, All, length, map, Option, Some, None, is_some, option_map, slice_get, refl, ap, sym, subst, ◌∙◌, arith, rules, true≢false, lt_of_not-le}
+use Rattle.std.proofs.lemmas.Bool.{or_left}
 use Rattle.std.specs.List.{list_all, list_any}
 use Rattle.std.proofs.lemmas.Bool.Decides.{nat_tests}
 use Rattle.std.proofs.lemmas.Option.{slice_get_cases}
@@ -84,17 +85,13 @@ settles d submitted looked same settled dead_before are =
     -- a stage that was to go on does
     will : (p : ℕ) → will_go_on d submitted p ≡ true
         → will_go_on after (λ q. false) p ≡ true
-    will p e = rw (lacks p lack) (or_false (goes_on after p) (by (goes_on d p) refl what))
+    will p e = rw (lacks p lack) (or_left (goes_on after p) false (by (goes_on d p) refl what))
       where
         lack : is_complete d p ≡ false
         lack = not_true (is_complete d p) (both_left (not (is_complete d p)) _ e)
 
         what : (goes_on d p || submitted p) ≡ true
         what = both_right (not (is_complete d p)) (goes_on d p || submitted p) e
-
-        or_false : (b : Bool) → b ≡ true → (b || false) ≡ true
-        or_false true h = refl
-        or_false false h = h
 
         by : (b : Bool) → goes_on d p ≡ b → (b || submitted p) ≡ true → goes_on after p ≡ true
         by true h k = goes_after d looked p h
@@ -104,14 +101,10 @@ settles d submitted looked same settled dead_before are =
     parent : (s : ℕ) → looked s ≡ true → (p : ℕ) → is_in (stage_at d s).parents p ≡ true
         → not (is_complete d p) ≡ true → will_go_on after (λ q. false) p ≡ true
     parent s is p read e =
-        rw (lacks p lack) (or_false (goes_on after p) (by (is_idle_in (slice_get d.states p)) refl))
+        rw (lacks p lack) (or_left (goes_on after p) false (by (is_idle_in (slice_get d.states p)) refl))
       where
         lack : is_complete d p ≡ false
         lack = not_true (is_complete d p) e
-
-        or_false : (b : Bool) → b ≡ true → (b || false) ≡ true
-        or_false true h = refl
-        or_false false h = h
 
         asked : is_asked_for d looked p ≡ true
         asked = asked_by d looked s p

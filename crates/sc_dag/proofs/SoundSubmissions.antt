@@ -1,5 +1,6 @@
 -- A submission keeps what holds of every job.
 use Rattle.std.proofs.Common.{◌≡◌, ◌≢◌, ◌⊎◌, inl, inr, ℕ, zero, suc, ◌+◌, ◌-◌, ◌<◌, ◌≤◌, ◌==◌, ◌||◌, ◌&&◌, not, Bool, true, false, cond, if◌then◌else◌, List, [], ◌∷◌, ◌++◌, All, AllPairs, filter, length, map, take, Option, Some, None, option_map, slice_get, refl, ap, sym, subst, ◌∙◌, arith, rules, true≢false}
+use Rattle.std.proofs.lemmas.Bool.{or_right}
 use Rattle.std.specs.List.{list_all, list_any}
 use Rattle.std.proofs.lemmas.Bool.Decides.{nat_tests}
 use Rattle.std.proofs.lemmas.List.Elements.{All-cons, All-filter, All-head, All-map, All-nil, All-push, All-tail, All-weaker, filter_passes}
@@ -73,15 +74,11 @@ in_filter f [] p e passes = e
 in_filter f (x ∷ xs) p e passes =
     by (f x) refl (x == p) refl e (λ h. in_filter f xs p h passes)
   where
-    or_true : (a b : Bool) → b ≡ true → (a || b) ≡ true
-    or_true true b h = refl
-    or_true false b h = h
-
     by : (a : Bool) → f x ≡ a → (b : Bool) → (x == p) ≡ b → (b || is_in xs p) ≡ true
         → (is_in xs p ≡ true → is_in (filter f xs) p ≡ true)
         → is_in (cond a (x ∷ filter f xs) (filter f xs)) p ≡ true
     by true pass true same h g = rw same refl
-    by true pass false same h g = or_true (x == p) (is_in (filter f xs) p) (g h)
+    by true pass false same h g = or_right (x == p) (is_in (filter f xs) p) (g h)
     by false pass false same h g = g h
     by false pass true same h g =
         let is : x ≡ p = grind (arith, nat_tests, same) in

@@ -17,7 +17,7 @@ use Rattle.sc_dag.specs.Submission.{waiting_stages, waits_in}
 use Rattle.sc_dag.specs.declared.attempts.StageAttempt.{StageAttempt}
 use Rattle.sc_dag.proofs.Items.{all_at, all_unmapped, find_all, pairs_head, pairs_tail}
 use Rattle.sc_dag.proofs.Moving.{newest_among}
-use Rattle.sc_dag.proofs.Tests.{all_in, any_member, both_left, both_right, clash, not_true}
+use Rattle.sc_dag.proofs.Tests.{all_in, any_member, both_left, both_right, clash, left_only, not_true}
 
 -- a task that isn't finished, by its partition
 pub unfinished_task :
@@ -128,14 +128,10 @@ stuck_below d exec sound settled none (suc n) s lt under =
     one : (p : ℕ) × HoldsBack d s p → (r : ℕ) × (p : ℕ) × HoldsBack d r p
     one h = (s, h.0, h.1)
 
-    or_false : (b : Bool) → (b || false) ≡ true → b ≡ true
-    or_false true e = refl
-    or_false false e = e
-
     way : (p : ℕ) → will_go_on d (λ q. false) p ≡ true → IsUnderWay d p
     way p e = (
       not_true (is_complete d p) (both_left (not (is_complete d p)) _ e),
-      or_false (goes_on d p) (both_right (not (is_complete d p)) (goes_on d p || false) e),
+      left_only (goes_on d p) (both_right (not (is_complete d p)) (goes_on d p || false) e),
     )
 
     parents : (false ≡ true)

@@ -1,5 +1,6 @@
 -- Lemmas on tests, and on some and all of a list.
 use Rattle.std.proofs.Common.{◌≡◌, ◌≢◌, ℕ, zero, suc, ◌+◌, ◌-◌, ◌<◌, ◌≤◌, ◌==◌, ◌||◌, ◌&&◌, not, Bool, true, false, cond, List, [], ◌∷◌, ◌++◌, All, AllPairs, find, length, map, take, Option, Some, None, is_some, option_map, slice_get, refl, ap, sym, subst, ◌∙◌, arith, rules, true≢false, add-zero, zero-add, suc-add, add-suc, length-append}
+use Rattle.std.proofs.lemmas.Bool.{and_right, or_right}
 use Rattle.std.specs.List.{list_all, list_any}
 use Rattle.std.proofs.lemmas.Bool.Decides.{nat_tests}
 use Rattle.std.proofs.lemmas.List.Elements.{All-cons, All-head, All-tail}
@@ -29,6 +30,10 @@ not_false false e = sym e
 pub clash : {b : Bool} → b ≡ true → b ≡ false → ⊥
 clash t f = true≢false (sym t ∙ f)
 
+pub left_only : (b : Bool) → (b || false) ≡ true → b ≡ true
+left_only true e = refl
+left_only false e = e
+
 -- ---- some and all of a list
 
 pub any_mono :
@@ -37,14 +42,10 @@ pub any_mono :
 any_mono p q [] h e = e
 any_mono p q (x ∷ xs) h e = by (p x) refl e (λ k. any_mono p q xs h k)
   where
-    or_true : (b : Bool) → (b || true) ≡ true
-    or_true true = refl
-    or_true false = refl
-
     by : (b : Bool) → p x ≡ b → (b || list_any p xs) ≡ true
         → (list_any p xs ≡ true → list_any q xs ≡ true) → (q x || list_any q xs) ≡ true
     by true b e f = rw (h x b) refl
-    by false b e f = rw (f e) (or_true (q x))
+    by false b e f = or_right (q x) (list_any q xs) (f e)
 
 -- a number is one of a list
 abbrev pub is_in : List ℕ → ℕ → Bool
@@ -57,19 +58,15 @@ pub any_within :
     → list_any p xs ≡ true → list_any q xs ≡ true
 any_within p q [] h e = e
 any_within p q (x ∷ xs) h e =
-    by (p x) refl e (λ k. any_within p q xs (λ y i. h y (or_true (x == y) (is_in xs y) i)) k)
+    by (p x) refl e (λ k. any_within p q xs (λ y i. h y (or_right (x == y) (is_in xs y) i)) k)
   where
-    or_true : (a b : Bool) → b ≡ true → (a || b) ≡ true
-    or_true true b e = refl
-    or_true false b e = e
-
     itself : is_in (x ∷ xs) x ≡ true
     itself = grind (arith, nat_tests)
 
     by : (b : Bool) → p x ≡ b → (b || list_any p xs) ≡ true
         → (list_any p xs ≡ true → list_any q xs ≡ true) → (q x || list_any q xs) ≡ true
     by true b e f = rw (h x itself b) refl
-    by false b e f = or_true (q x) (list_any q xs) (f e)
+    by false b e f = or_right (q x) (list_any q xs) (f e)
 
 -- one of a list on which a test passes
 pub any_found :
@@ -118,14 +115,10 @@ pub all_false :
 all_false p q [] h e = e
 all_false p q (x ∷ xs) h e = by (p x) refl e (λ k. all_false p q xs h k)
   where
-    and_no : (b : Bool) → (b && false) ≡ false
-    and_no true = refl
-    and_no false = refl
-
     by : (b : Bool) → p x ≡ b → (b && list_all p xs) ≡ false
         → (list_all p xs ≡ false → list_all q xs ≡ false) → (q x && list_all q xs) ≡ false
     by false b e f = rw (h x b) refl
-    by true b e f = rw (f e) (and_no (q x))
+    by true b e f = and_right (q x) (list_all q xs) (f e)
 
 -- a test that passes on a number below a bound
 any_from :
@@ -135,10 +128,6 @@ any_from p first zero k le lt e = absurd (omega (arith, le, lt))
 any_from p first (suc count) k le lt e =
     by (first == k) refl (λ more. any_from p (suc first) count k more (omega (arith, lt)) e)
   where
-    or_true : (a b : Bool) → b ≡ true → (a || b) ≡ true
-    or_true true b e = refl
-    or_true false b e = e
-
     by : (b : Bool) → (first == k) ≡ b
         → (suc first ≤ k → list_any p (numbers_from (suc first) count) ≡ true)
         → list_any p (numbers_from first (suc count)) ≡ true
@@ -147,7 +136,7 @@ any_from p first (suc count) k le lt e =
         let here : p first ≡ true = rw is at e in rw here refl
     by false other f =
         let more : suc first ≤ k = grind (arith, nat_tests, other, le) in
-        or_true (p first) (list_any p (numbers_from (suc first) count)) (f more)
+        or_right (p first) (list_any p (numbers_from (suc first) count)) (f more)
 
 pub any_below :
     (p : ℕ → Bool) (bound k : ℕ) → k < bound → p k ≡ true
@@ -164,13 +153,9 @@ any_member p (x ∷ xs) e = by (p x) refl e (λ k. any_member p xs k)
     itself : is_in (x ∷ xs) x ≡ true
     itself = grind (arith, nat_tests)
 
-    or_true : (a b : Bool) → b ≡ true → (a || b) ≡ true
-    or_true true b e = refl
-    or_true false b e = e
-
     by : (b : Bool) → p x ≡ b → (b || list_any p xs) ≡ true
         → (list_any p xs ≡ true → (y : ℕ) × (is_in xs y ≡ true) × (p y ≡ true))
         → (y : ℕ) × (is_in (x ∷ xs) y ≡ true) × (p y ≡ true)
     by true b e f = (x, itself, b)
     by false b e f =
-        let r = f e in (r.0, or_true (x == r.0) (is_in xs r.0) r.1, r.2)
+        let r = f e in (r.0, or_right (x == r.0) (is_in xs r.0) r.1, r.2)
