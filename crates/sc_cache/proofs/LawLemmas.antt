@@ -5,7 +5,7 @@ use Rattle.std.specs.Map.{AreApart, keys_of, lookup, remove_entry}
 use Rattle.std.specs.List.{AllByRecursion, IsDistinct}
 use Rattle.sc_cache.specs.declared.names.CachedId.{CachedId}
 use Rattle.sc_cache.specs.CacheLaws.{goes_as}
-use Rattle.sc_cache.specs.Caches.{CacheData, IsSoundCache, block_of, displaced_by, others, same_id, used_order, with_kept, with_used}
+use Rattle.sc_cache.specs.Caches.{CacheData, IsSoundCache, block_of, displaced_by, last_used, others, same_id, used_order, with_kept, with_used, without_last}
 use Rattle.sc_cache.proofs.CacheLemmas.{same_are_equal, same_as_itself}
 
 -- two names that differ, from either side
@@ -115,6 +115,16 @@ module _ {V : Type 0} where
       (sym (less_one (length es)))
       (gone_before other e es distinct
       (subst (λ n. goes_as other (slice_get (e ∷ es) n) ≡ true) (less_one (length es)) goes))
+
+  pub left_law : (c : CacheData V) (other : CachedId)
+      → goes_as other (last_used c) ≡ false
+      → block_of (without_last c) other ≡ block_of c other
+  left_law c other goes = stays_last other c.blocks goes
+
+  pub let_go_law : (c : CacheData V) (other : CachedId)
+      → IsSoundCache c → goes_as other (last_used c) ≡ true
+      → block_of (without_last c) other ≡ None
+  let_go_law c other sound goes = goes_last other c.blocks sound.distinct goes
 
   module _ (c : CacheData V) (id other : CachedId) (differ : same_id id other ≡ false) where
     -- what stays beside, by whether the name is there and whether the cache is full
