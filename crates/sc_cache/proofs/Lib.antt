@@ -1,2 +1,2 @@
-mod CacheLemmas
-mod LawLemmas
+pub mod CacheLemmas
+pub mod LawLemmas
