@@ -65,6 +65,10 @@ mod partitions;
 #[cfg(test)]
 mod paths;
 #[cfg(test)]
+mod plan_faults;
+#[cfg(test)]
+mod plans;
+#[cfg(test)]
 mod raises;
 #[cfg(test)]
 mod ranges;

@@ -1,0 +1,10 @@
+pub mod DueLemmas
+pub mod LineLemmas
+pub mod NumberLemmas
+pub mod NumberingLemmas
+pub mod OneReading
+pub mod PlaceLemmas
+pub mod PlanLemmas
+pub mod ReaderLemmas
+pub mod SoundLemmas
+pub mod TableLemmas
