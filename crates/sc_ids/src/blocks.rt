@@ -10,7 +10,7 @@ pub type Generation = u32;
 pub type Epoch = u64;
 
 /// A shuffle: what one side of a node reads by buckets.
-#[derive(Clone, Copy, Debug, PartialEq, Eq)]
+#[derive(Clone, Copy, Debug, PartialEq, Eq, Hash)]
 pub struct ShuffleId {
     /// The node that reads it.
     pub node: u32,
@@ -19,7 +19,7 @@ pub struct ShuffleId {
 }
 
 /// What one map task leaves for the tasks that read its shuffle.
-#[derive(Clone, Copy, Debug, PartialEq, Eq)]
+#[derive(Clone, Copy, Debug, PartialEq, Eq, Hash)]
 pub struct BlockId {
     /// The shuffle.
     pub shuffle: ShuffleId,

@@ -21,6 +21,8 @@ mod arithmetic;
 #[cfg(test)]
 mod borders;
 #[cfg(test)]
+mod caches;
+#[cfg(test)]
 mod choices;
 #[cfg(test)]
 mod claims;
@@ -51,6 +53,8 @@ mod layouts;
 #[cfg(test)]
 mod limits;
 #[cfg(test)]
+mod map_outputs;
+#[cfg(test)]
 mod mixed;
 #[cfg(test)]
 mod operations;
@@ -78,6 +82,8 @@ mod shapes;
 mod shuffles;
 #[cfg(test)]
 mod statuses;
+#[cfg(test)]
+mod stores;
 #[cfg(test)]
 mod streams;
 #[cfg(test)]

@@ -1,0 +1,4 @@
+pub mod OwnBlocks
+pub mod BlockData
+pub mod StoreData
+pub mod Storing
