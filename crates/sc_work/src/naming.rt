@@ -2,7 +2,8 @@
 #![tactic(auto)]
 
 ghost use Rattle.std.specs.Prelude.{[]};
-ghost use Rattle.sc_lineage.specs.ScriptData.{WorkData};
+ghost use Rattle.sc_ids.specs.LimitDefaults.{default_limits};
+ghost use Rattle.sc_lineage.specs.ScriptData.{WorkData, work_data};
 
 use std::marker::Brand;
 
@@ -13,5 +14,5 @@ pub trait Naming {
 
 /// Any work: a run that begins with a work says which one its brand is.
 impl Naming for Brand {
-    ghost work = { record { script = record { nodes = []; actions = [] }; inputs = [] } };
+    ghost work = { work_data (record { nodes = []; actions = [] }) [] [] default_limits };
 }
