@@ -19,7 +19,6 @@
 
 mod attempts;
 mod reports;
-mod laws;
 
 pub use attempts::StageAttempt;
 pub use reports::Success;
