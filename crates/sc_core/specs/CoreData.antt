@@ -1,0 +1,94 @@
+-- The scheduler of one job, as plain data.
+use Rattle.std.specs.Prelude.{ℕ, ◌-◌, ◌==◌, ◌&&◌, List, [], ◌∷◌, Bool, true, false, not, Option, Some, None, length}
+use Rattle.std.specs.List.{filter, find}
+use Rattle.std.specs.Option.{option_map}
+use Rattle.sc_base.specs.Counts.{counted}
+use Rattle.sc_commit.specs.declared.committers.Committer.{Committer}
+use Rattle.sc_commit.specs.Committing.{is_same}
+use Rattle.sc_dag.specs.DagData.{DagData}
+use Rattle.sc_ids.specs.declared.attempts.AttemptId.{AttemptId}
+use Rattle.sc_core.specs.declared.answers.Job.{Job}
+use Rattle.sc_core.specs.declared.answers.Job.TheVariants as jobs
+use Rattle.sc_core.specs.declared.running.Running.{Running}
+use Rattle.sc_core.specs.declared.running.Shelved.{Shelved}
+
+-- the scheduler of one job
+pub record CoreData : Type 0 where
+  -- how many reports were told in the run so far, while the count fits
+  pub told : ℕ
+  -- the greatest tick so far, in milliseconds
+  pub now : ℕ
+  -- how many tasks were handed out in this job
+  pub handed : ℕ
+  -- how far the job is
+  pub job : Job
+  -- the first executor that left early
+  pub left_first : Option ℕ
+  -- the attempts that run, the one handed out first in front
+  pub running : List Running
+  -- the reports that are to be told later, by rising keys
+  pub shelf : List Shelved
+  -- the key of the next one
+  pub next_key : ℕ
+  -- who may commit; there are places only where the job saves
+  pub committers : List Committer
+  -- the stages
+  pub dag : DagData
+
+abbrev pub with_dag : CoreData → DagData → CoreData
+with_dag c dag = record c { dag = dag }
+
+-- a job runs
+abbrev pub is_running_job : Job → Bool
+is_running_job jobs.Running = true
+is_running_job jobs.Done = false
+is_running_job (jobs.Aborted why) = false
+
+abbrev pub job_runs : CoreData → Bool
+job_runs c = is_running_job c.job
+
+-- the job has ended; what is to be told later is dropped
+abbrev pub ended : CoreData → Job → CoreData
+ended c job = record c { job = job; shelf = [] }
+
+-- the number of the result stage, which is the last
+abbrev pub result_stage : DagData → ℕ
+result_stage d = length d.stages - 1
+
+-- ---- attempts that run
+
+abbrev pub is_of : AttemptId → Running → Bool
+is_of a r = is_same r.hand_out.attempt a
+
+-- the running attempt of these numbers
+abbrev pub running_of : CoreData → AttemptId → Option Running
+running_of c a = find (is_of a) c.running
+
+abbrev pub is_out_on : ℕ → Running → Bool
+is_out_on exec r = r.is_out && (r.exec == exec)
+
+-- the attempt that an executor has out
+abbrev pub held_by : CoreData → ℕ → Option AttemptId
+held_by c exec = option_map (λ r. r.hand_out.attempt) (find (is_out_on exec) c.running)
+
+abbrev pub shelved_first : List Shelved → Option AttemptId
+shelved_first [] = None
+shelved_first (s ∷ shelf) = Some s.attempt
+
+abbrev pub out_or : Option Running → Option AttemptId → Option AttemptId
+out_or None other = other
+out_or (Some r) other = Some r.hand_out.attempt
+
+-- the attempt that is waited for: the one that is out longest, or else that of the oldest report
+-- that is to be told later
+abbrev pub under_way : CoreData → Option AttemptId
+under_way c = out_or (find (λ r. r.is_out) c.running) (shelved_first c.shelf)
+
+-- a report told: its attempt runs no more
+abbrev pub taken_off : CoreData → AttemptId → CoreData
+taken_off c a =
+    record c { told = counted c.told; running = filter (λ r. not (is_of a r)) c.running }
+
+-- a report told that is of no running attempt
+abbrev pub told_once : CoreData → CoreData
+told_once c = record c { told = counted c.told }

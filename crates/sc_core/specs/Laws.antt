@@ -1,0 +1,123 @@
+-- Laws of cores: what holds whatever happens to them.
+use Rattle.std.specs.Prelude.{ℕ, ◌+◌, ◌-◌, ◌*◌, ◌<◌, ◌≤◌, ◌≡◌, ◌≢◌, List, Bool, true, false, Option, Some, None, IfSome, length}
+use Rattle.std.specs.List.{AllPairs}
+use Rattle.sc_dag.specs.DagData.{stage_at}
+use Rattle.sc_dag.specs.Offers.{HasNone}
+use Rattle.sc_dag.specs.Openings.{FitsJob, IsJob}
+use Rattle.sc_dag.specs.Outputs.{is_done}
+use Rattle.sc_dag.specs.Reports.{set_of}
+use Rattle.sc_ids.specs.Graphs.{StageData}
+use Rattle.sc_ids.specs.declared.attempts.AttemptId.{AttemptId}
+use Rattle.sc_ids.specs.declared.limits.Limits.{Limits}
+use Rattle.sc_taskset.specs.Lookups.{task_at}
+use Rattle.sc_taskset.specs.TaskSetData.{TaskData, TaskSetData}
+use Rattle.sc_core.specs.CoreData.{CoreData, job_runs, result_stage, under_way}
+use Rattle.sc_core.specs.Journals.{Replays}
+use Rattle.sc_core.specs.Openings.{IsOpening, tracker_behind}
+use Rattle.sc_core.specs.Sound.{IsSoundCore}
+use Rattle.sc_core.specs.Steps.{Steps}
+use Rattle.sc_core.specs.Takes.{IsAsking}
+use Rattle.sc_core.specs.declared.answers.Abort.TheVariants.{Budget, TaskLimit}
+use Rattle.sc_core.specs.declared.answers.Answer.{Answer}
+use Rattle.sc_core.specs.declared.answers.Answer.TheVariants as says
+use Rattle.sc_core.specs.declared.answers.Job.TheVariants as jobs
+use Rattle.sc_core.specs.declared.entries.Entry.{Entry}
+use Rattle.sc_core.specs.declared.events.Event.{Event}
+use Rattle.sc_core.specs.declared.events.Event.TheVariants.{Post, Take}
+use Rattle.sc_core.specs.declared.events.Outcome.{Outcome}
+
+-- an event has one answer in a state, and leaves one state
+abbrev pub StepsAgree : Type 0
+StepsAgree =
+    (c : CoreData) (event : Event) (a b : Answer) (x y : CoreData) → IsSoundCore c
+    → Steps c event a x → Steps c event b y → (a ≡ b) × (x ≡ y)
+
+-- every event that is enabled keeps what holds of every core
+abbrev pub StepsKeepSound : Type 0
+StepsKeepSound =
+    (c after : CoreData) (event : Event) (answer : Answer) → IsSoundCore c
+    → Steps c event answer after → IsSoundCore after
+
+-- so every journal does
+abbrev pub ReplaysKeepSound : Type 0
+ReplaysKeepSound =
+    (opening end : CoreData) (entries : List Entry) → IsSoundCore opening
+    → Replays opening entries end → IsSoundCore end
+
+-- the core of a job that begins is sound
+abbrev pub OpeningsAreSound : Type 0
+OpeningsAreSound =
+    (graph : List StageData) (limits : Limits) (saved : ℕ) (last : Option CoreData) (c : CoreData)
+    → IsJob graph → FitsJob (tracker_behind last limits) graph → IfSome last IsSoundCore
+    → IsOpening graph limits saved last c → IsSoundCore c
+
+-- and a journal leaves one state
+abbrev pub ReplaysAgree : Type 0
+ReplaysAgree =
+    (opening x y : CoreData) (entries : List Entry) → IsSoundCore opening
+    → Replays opening entries x → Replays opening entries y → x ≡ y
+
+-- where an executor asks and no stage has a task for it, an attempt is under way
+abbrev pub WaitsHaveCause : Type 0
+WaitsHaveCause =
+    (c : CoreData) (exec : ℕ) → IsSoundCore c → job_runs c ≡ true → HasNone c.dag exec
+    → under_way c ≢ None
+
+-- an answer gives a task, or ends the job by its budget
+abbrev pub GivesOrEnds : Answer → Type 0
+GivesOrEnds (says.Task h) = Unit {0}
+GivesOrEnds (says.Aborted Budget) = Unit {0}
+GivesOrEnds answer = ⊥
+
+-- A job never sticks: where it runs, nobody left early and nothing is under way, an executor that
+-- isn't lost and asks gets a task, or the job ends by its budget.
+abbrev pub NeverStuck : Type 0
+NeverStuck =
+    (c after : CoreData) (exec : ℕ) (answer : Answer) → IsSoundCore c → IsAsking c exec
+    → under_way c ≡ None → Steps c (Take exec) answer after → GivesOrEnds answer
+
+-- a job that is done has the result of each partition
+abbrev pub DoneJobsAreWhole : Type 0
+DoneJobsAreWhole =
+    (c : CoreData) (p : ℕ) → IsSoundCore c → c.job ≡ jobs.Done
+    → p < (stage_at c.dag (result_stage c.dag)).tasks → is_done c.dag (result_stage c.dag) p ≡ true
+
+-- so many failures of a partition were counted in its task set, each of another attempt
+abbrev pub HasFailedOften : Option TaskSetData → ℕ → Type 0
+HasFailedOften None p = ⊥
+HasFailedOften (Some set) p = HasFailedSo set.limits.task_failures (task_at p set.tasks)
+  where
+    HasFailedSo : ℕ → Option TaskData → Type 0
+    HasFailedSo limit None = ⊥
+    HasFailedSo limit (Some task) =
+        (limit ≤ length task.failures) × AllPairs (λ m n. m ≢ n) task.failures
+
+-- a job is aborted for the failures of a partition only where there are as many as that
+abbrev pub TaskLimitsAreReached : Type 0
+TaskLimitsAreReached =
+    (c after : CoreData) (a : AttemptId) (outcome : Outcome) (stage number p : ℕ)
+    → IsSoundCore c
+    → Steps c (Post a outcome) (says.Aborted (TaskLimit stage number p)) after
+    → (stage ≡ a.stage) × (number ≡ a.stage_attempt) × (p ≡ a.partition)
+    × HasFailedOften (set_of after.dag a) p
+
+-- how much may still happen: hand-outs that are left, twice, and attempts that run
+abbrev pub left_to_do : CoreData → ℕ
+left_to_do c = 2 * (c.dag.limits.hand_outs - c.handed) + length c.running
+
+-- an answer that only says how things are
+abbrev pub changes_nothing : Answer → Bool
+changes_nothing (says.Wait out) = true
+changes_nothing (says.Busy held) = true
+changes_nothing says.Lost = true
+changes_nothing (says.Stopped exec) = true
+changes_nothing says.Ended = true
+changes_nothing says.Ignored = true
+changes_nothing answer = false
+
+-- in a job that goes on, every other answer leaves less to do
+abbrev pub StepsAreSpent : Type 0
+StepsAreSpent =
+    (c after : CoreData) (event : Event) (answer : Answer) → IsSoundCore c
+    → Steps c event answer after → changes_nothing answer ≡ false → job_runs after ≡ true
+    → left_to_do after < left_to_do c

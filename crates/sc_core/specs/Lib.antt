@@ -1,0 +1,10 @@
+pub mod HandOuts
+pub mod CoreData
+pub mod Takes
+pub mod Tells
+pub mod Posts
+pub mod Steps
+pub mod Openings
+pub mod Sound
+pub mod Journals
+pub mod Laws

@@ -1,0 +1,32 @@
+//! What happens to a core.
+#![tactic(auto)]
+
+use sc_ids::{AttemptId, ExecId, FailureCause, Loc};
+
+/// How a report ends an attempt.
+#[derive(Clone, Copy, Debug, PartialEq, Eq)]
+pub enum Outcome {
+    /// Its map output is there.
+    Map(Loc),
+    /// Its partition's result is there.
+    Result,
+    /// It failed.
+    Failed(FailureCause),
+}
+
+/// What happens to a core.
+#[derive(Clone, Copy, Debug, PartialEq, Eq)]
+pub enum Event {
+    /// An executor asks for a task.
+    Take {
+        /// The executor.
+        exec: ExecId,
+    },
+    /// A report of an attempt comes.
+    Post {
+        /// The attempt.
+        attempt: AttemptId,
+        /// What it reports.
+        outcome: Outcome,
+    },
+}

@@ -1,0 +1,32 @@
+//! Laws of cores, as functions that do nothing.
+#![tactic(auto)]
+
+ghost use Rattle.sc_core.specs.Laws.{DoneJobsAreWhole, NeverStuck, OpeningsAreSound, ReplaysAgree, ReplaysKeepSound, StepsAgree, StepsAreSpent, StepsKeepSound, TaskLimitsAreReached, WaitsHaveCause};
+
+/// An event has one answer and leaves one state, and so a journal does. A call does nothing.
+pub fn steps_have_one_answer()
+    ensures steps { StepsAgree }
+    ensures replays { ReplaysAgree }
+{}
+
+/// What holds of a core is kept, whatever happens. A call does nothing.
+pub fn cores_are_sound()
+    ensures begins { OpeningsAreSound }
+    ensures steps { StepsKeepSound }
+    ensures replays { ReplaysKeepSound }
+{}
+
+/// A job never sticks: who waits waits for an attempt that is under way, and where none is there
+/// is a task. A call does nothing.
+pub fn jobs_never_stick()
+    ensures waits { WaitsHaveCause }
+    ensures never_stuck { NeverStuck }
+    ensures spent { StepsAreSpent }
+{}
+
+/// A job ends as it says: done with the result of each partition, or aborted for so many failures.
+/// A call does nothing.
+pub fn ends_are_as_told()
+    ensures done { DoneJobsAreWhole }
+    ensures task_limit { TaskLimitsAreReached }
+{}

@@ -1,0 +1,23 @@
+//! The scheduler's core: a machine that answers events, and whose whole state is plain data.
+//!
+//! [`Core::step`] is the only way in. An [`Event`] is what an executor asks ([`Event::Take`]) or
+//! reports ([`Event::Post`]); what it is answered and what it leaves is one relation, `Steps` of
+//! `specs/Steps.antt`, with a file for each event. A [`Journal`] keeps the events with their
+//! answers, so that its state is the replay of its entries.
+//!
+//! Contracts see a [`Core`] as the record `CoreData` of `specs/CoreData.antt`; what holds of every
+//! core stands in `specs/Sound.antt`, and what follows for every list of events in
+//! `specs/Laws.antt`. The core holds no row, no block and no work: results are known by their
+//! partitions alone. Below it lie `sc_dag` and `sc_commit`.
+#![tactic(auto)]
+
+mod answers;
+mod entries;
+mod events;
+mod laws;
+mod running;
+
+pub use answers::{Abort, Answer, Job, NotEnabled};
+pub use entries::Entry;
+pub use events::{Event, Outcome};
+pub use running::{HandOut, Phase, Running, Shelved};

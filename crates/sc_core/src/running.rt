@@ -1,0 +1,74 @@
+//! Tasks that were handed out.
+#![tactic(auto)]
+
+ghost use Rattle.std.specs.Prelude.{◌≡◌, IfOk};
+ghost use Rattle.sc_core.specs.HandOuts.{hand_out};
+
+use crate::events::Outcome;
+use sc_ids::{AttemptId, Epoch, ExecId, Fault};
+use sc_tracker::Location;
+use std::alloc::{AllocError, Global};
+use std::marker::Model;
+use std::sync::Arc;
+
+/// What is handed out with a task: which attempt it is, the tracker's epoch, and where the blocks
+/// lie that its stage reads, by parent and then by map partition. The list is shared by all tasks
+/// that were handed out of the stage between two changes of the tracker.
+#[derive(Drop)]
+pub struct HandOut {
+    attempt: AttemptId,
+    epoch: Epoch,
+    inputs: Arc<Vec<Location>, Global>,
+}
+
+impl Model for HandOut {
+    ghost use Rattle.std.specs.Arc.{arc_value};
+    ghost use Rattle.sc_core.specs.HandOuts.{HandOutData, hand_out};
+
+    ghost Value = { HandOutData };
+
+    ghost view = { λ h. hand_out h.attempt h.epoch (arc_value h.inputs).items };
+}
+
+/// How far a running attempt of a save has come. All other attempts stay at the first.
+#[derive(Clone, Copy, Debug, PartialEq, Eq)]
+pub enum Phase {
+    /// It was handed out.
+    Given,
+    /// Its output is written aside.
+    Staged,
+    /// It may commit.
+    Granted,
+    /// It may not.
+    Denied,
+    /// Its output is where it counts.
+    Moved,
+    /// A call on the files failed.
+    Faulted(Fault),
+}
+
+/// An attempt that runs.
+#[derive(Drop)]
+pub struct Running {
+    /// What it was handed out with.
+    pub hand_out: HandOut,
+    /// Where it runs.
+    pub exec: ExecId,
+    /// How far it has come.
+    pub phase: Phase,
+    /// Whether its report is still to be posted.
+    pub is_out: bool,
+}
+
+/// A report that was posted and is to be told later.
+#[derive(Clone, Copy, Debug, PartialEq, Eq)]
+pub struct Shelved {
+    /// Its key, from 0 in each job.
+    pub key: u32,
+    /// It is due once so many reports were told.
+    pub due: u64,
+    /// Its attempt.
+    pub attempt: AttemptId,
+    /// What it reports.
+    pub outcome: Outcome,
+}
