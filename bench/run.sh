@@ -3,6 +3,8 @@
 #
 #   bench/run.sh [MEGABYTES..]      sizes of the input, 10 and 100 where none is named
 #
+# Sorts, groups and joins run over 25 MB, and those of many partitions over 10 MB, at any call.
+#
 # The jobs are the scripts of bench/jobs; bench/rust does the same by hand, on one thread. Before a
 # job is measured the outputs of both are compared, and a job whose outputs differ isn't measured.
 # Then each program runs three times, in turn with the other, its output thrown away. The table has
@@ -16,7 +18,8 @@ set -eu
 here=$(cd "$(dirname "$0")" && pwd)
 program=${SPARK_RUN:-$here/../crates/spark_run/out/spark_run}
 plain=$here/rust/target/plain
-jobs=(concat sums pairs choice lengths pipeline lineage repeated)
+jobs=(concat sums pairs choice lengths pipeline lineage repeated word_count sum_by_key)
+keyed=(sort group)
 rounds=3
 starts=20
 [ $# -gt 0 ] || set -- 10 100
@@ -61,6 +64,38 @@ peak() {
   awk '$2 > most { most = $2 } END { print most }' "$1"
 }
 
+# Measures a job over some files of a size in the folder that it is called in, and prints its row.
+measure_job() {
+  local job=$1 megabytes=$2 round
+  shift 2
+  local ours=("$program" run "../../jobs/$job.spark")
+  local theirs=("$plain" "$job" "$@")
+  if ! cmp -s <("${ours[@]}" 2>&1) <("${theirs[@]}" 2>&1); then
+    echo "| $job | $megabytes | the outputs differ | | | | |"
+    result=1
+    return
+  fi
+  rm -f "$scratch/ours" "$scratch/theirs"
+  for ((round = 0; round < rounds; round++)); do
+    measure "$scratch/ours" "${ours[@]}"
+    measure "$scratch/theirs" "${theirs[@]}"
+  done
+  awk -v job="$job" -v mb="$megabytes" \
+    -v a="$(median "$scratch/ours")" -v b="$(median "$scratch/theirs")" \
+    -v m="$(peak "$scratch/ours")" -v n="$(peak "$scratch/theirs")" 'BEGIN {
+      printf "| %s | %d | %.3f | %.3f | %.2f | %.0f | %.0f |\n",
+        job, mb, a / 1e6, b / 1e6, a / b, m / 1024, n / 1024
+    }'
+}
+
+# Makes the files by key of a size, where they aren't there, in the folder that it is called in.
+make_keys() {
+  local megabytes=$1
+  [ -f keys.txt ] || python3 "$here/make_keys.py" "${megabytes}000000" keys.txt 1
+  [ -f left.txt ] || python3 "$here/make_keys.py" "$((megabytes / 2))000000" left.txt 2
+  [ -f right.txt ] || python3 "$here/make_keys.py" "$((megabytes / 2))000000" right.txt 3
+}
+
 result=0
 echo "$(date +%F), $(nproc) processors, $(rustc --version), load $(cut -d' ' -f1 /proc/loadavg)"
 echo
@@ -71,26 +106,20 @@ for megabytes in "$@"; do
   cd "$here/data/$megabytes"
   [ -f lines.txt ] || python3 "$here/make_text.py" "${megabytes}000000" lines.txt
   for job in "${jobs[@]}"; do
-    ours=("$program" run "../../jobs/$job.spark")
-    theirs=("$plain" "$job" lines.txt)
-    if ! cmp -s <("${ours[@]}" 2>&1) <("${theirs[@]}" 2>&1); then
-      echo "| $job | $megabytes | the outputs differ | | | | |"
-      result=1
-      continue
-    fi
-    rm -f "$scratch/ours" "$scratch/theirs"
-    for ((round = 0; round < rounds; round++)); do
-      measure "$scratch/ours" "${ours[@]}"
-      measure "$scratch/theirs" "${theirs[@]}"
-    done
-    awk -v job="$job" -v mb="$megabytes" \
-      -v a="$(median "$scratch/ours")" -v b="$(median "$scratch/theirs")" \
-      -v m="$(peak "$scratch/ours")" -v n="$(peak "$scratch/theirs")" 'BEGIN {
-        printf "| %s | %d | %.3f | %.3f | %.2f | %.0f | %.0f |\n",
-          job, mb, a / 1e6, b / 1e6, a / b, m / 1024, n / 1024
-      }'
+    measure_job "$job" "$megabytes" lines.txt
   done
 done
+mkdir -p "$here/data/25" "$here/data/10"
+cd "$here/data/25"
+make_keys 25
+for job in "${keyed[@]}"; do
+  measure_job "$job" 25 keys.txt
+done
+measure_job join 25 left.txt right.txt
+cd "$here/data/10"
+make_keys 10
+measure_job few_buckets 10 keys.txt
+measure_job buckets 10 keys.txt
 
 if ! command -v mawk >/dev/null 2>&1; then
   echo "bench: no table of starts, since there is no mawk" >&2
