@@ -1,0 +1,89 @@
+-- Attempts by their numbers, and tests on them.
+use Rattle.std.proofs.Common.{◌≡◌, ◌≢◌, ℕ, ◌+◌, ◌-◌, ◌<◌, ◌==◌, ◌&&◌, not, Bool, true, false, cond, if◌then◌else◌, List, [], ◌∷◌, length, Option, Some, None, slice_get, nat_lt, refl, ap, sym, subst, ◌∙◌, arith, rules, true≢false}
+use Rattle.std.proofs.lemmas.Bool.Decides.{nat_tests}
+use Rattle.sc_commit.specs.Committing.{is_same}
+use Rattle.sc_ids.specs.declared.attempts.AttemptId.{AttemptId}
+use Rattle.sc_taskset.specs.TaskSetData.{TaskSetData}
+use Rattle.sc_dag.specs.DagData.{DagData, StageState, attempt_in, newest_at, newest_set, place_of_attempt, set_in}
+use Rattle.sc_dag.specs.Offers.{newest_number, number_in}
+use Rattle.sc_dag.specs.Reports.{set_of}
+use Rattle.sc_dag.specs.Sound.{runner_in, runner_of}
+
+pub clash : {b : Bool} → b ≡ true → b ≡ false → ⊥
+clash t f = true≢false (sym t ∙ f)
+
+pub both_left : (a b : Bool) → (a && b) ≡ true → a ≡ true
+both_left true b e = refl
+both_left false b e = e
+
+pub both_right : (a b : Bool) → (a && b) ≡ true → b ≡ true
+both_right true b e = e
+both_right false b e = absurd (true≢false (sym e))
+
+pub not_true : (b : Bool) → not b ≡ true → b ≡ false
+not_true true e = sym e
+not_true false e = refl
+
+-- ---- attempts
+
+abbrev pub attempt : ℕ → ℕ → ℕ → ℕ → AttemptId
+attempt stage number partition nth =
+    record { stage = stage; stage_attempt = number; partition = partition; nth = nth }
+
+-- attempts of the same numbers are one
+pub same_is : (a b : AttemptId) → is_same a b ≡ true → a ≡ b
+same_is a b e =
+    let s : a.stage ≡ b.stage = grind (arith, nat_tests, e) in
+    let k : a.stage_attempt ≡ b.stage_attempt = grind (arith, nat_tests, e) in
+    let p : a.partition ≡ b.partition = grind (arith, nat_tests, e) in
+    let n : a.nth ≡ b.nth = grind (arith, nat_tests, e) in
+    λ i. record { stage = s i; stage_attempt = k i; partition = p i; nth = n i }
+
+pub is_itself : (a : AttemptId) → is_same a a ≡ true
+is_itself a = grind (arith, nat_tests)
+
+-- ---- the set of an attempt
+
+-- the task set of a number among those of a stage that may be there
+abbrev pub set_among : Option StageState → ℕ → Option TaskSetData
+set_among None number = None
+set_among (Some state) number = set_in (attempt_in state number)
+
+pub set_is : (d : DagData) (a : AttemptId)
+    → set_of d a ≡ set_among (slice_get d.states a.stage) a.stage_attempt
+set_is d a = refl
+
+-- the newest set of a stage that may be there
+abbrev pub newest_among : Option StageState → Option TaskSetData
+newest_among None = None
+newest_among (Some state) = newest_set state
+
+pub newest_is : (d : DagData) (s : ℕ) → newest_at d s ≡ newest_among (slice_get d.states s)
+newest_is d s = refl
+
+-- the place of the newest attempt
+pub newest_place : (state : StageState)
+    → place_of_attempt state (state.before + (length state.attempts - 1))
+    ≡ length state.attempts - 1
+newest_place state = by (nat_lt number state.before) refl
+  where
+    number : ℕ
+    number = state.before + (length state.attempts - 1)
+
+    by : (b : Bool) → nat_lt number state.before ≡ b
+        → (if b then length state.attempts else number - state.before)
+        ≡ length state.attempts - 1
+    by true e = absurd (grind (arith, nat_tests, e))
+    by false e = omega arith
+
+pub newest_among_is : (o : Option StageState) → set_among o (number_in o) ≡ newest_among o
+newest_among_is None = refl
+newest_among_is (Some state) =
+    ap (λ place. set_in (slice_get state.attempts place)) (newest_place state)
+
+-- the set of an attempt of the newest number is the newest one
+pub set_of_newest : (d : DagData) (a : AttemptId) → a.stage_attempt ≡ newest_number d a.stage
+    → set_of d a ≡ newest_at d a.stage
+set_of_newest d a e =
+    ap (λ n. set_among (slice_get d.states a.stage) n) e
+    ∙ newest_among_is (slice_get d.states a.stage)

@@ -1,0 +1,8 @@
+use Rattle.sc_core.proofs.Waiting.{waits_have_cause}
+use Rattle.sc_core.proofs.laws.jobs_never_stick.Goals as goal
+
+pub returns-clause-waits : goal.returns-clause-waits
+returns-clause-waits c = waits_have_cause ?
+
+pub returns-clause-spent : goal.returns-clause-spent
+returns-clause-spent c = ?
