@@ -1,2 +1,4 @@
 pub mod Lookups
 pub mod Waiting
+pub mod Sets
+pub mod States
