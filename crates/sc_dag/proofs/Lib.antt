@@ -1,0 +1,9 @@
+pub mod Basics
+pub mod Submitting
+pub mod Stuck
+pub mod Repeating
+pub mod Sets
+pub mod SoundStages
+pub mod Keeping
+pub mod Successes
+pub mod SoundSuccesses

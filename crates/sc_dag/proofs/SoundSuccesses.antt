@@ -1,0 +1,2 @@
+-- Successes keep what holds of every job.
+use Rattle.std.proofs.Common.{◌≡◌}
