@@ -4,3 +4,6 @@ pub mod Sets
 pub mod States
 pub mod Moves
 pub mod Calls
+pub mod Offering
+pub mod RunningLists
+pub mod Told

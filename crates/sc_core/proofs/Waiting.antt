@@ -20,7 +20,7 @@ use Rattle.sc_core.specs.declared.running.Running as core
 use Rattle.sc_core.proofs.Lookups.{attempt, clash, newest_among, set_of_newest}
 
 -- what holds of all attempts of a stage holds of its newest set
-newest_holds :
+pub newest_holds :
     (P : TaskSetData → Type 0) (o : Option StageState) (set : TaskSetData)
     → All (λ a. P a.set) (attempts_in o) → newest_among o ≡ Some set → P set
 newest_holds P None set all is = absurd (search (rules, is))
