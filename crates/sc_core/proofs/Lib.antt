@@ -7,3 +7,4 @@ pub mod Calls
 pub mod Offering
 pub mod RunningLists
 pub mod Told
+pub mod Taking
