@@ -112,6 +112,9 @@ pub ended_moves : (d : DagData) (a : AttemptId) → Moves (is_same a) None d (en
 ended_moves d a =
     own_ends d a (λ set. after_end set a.partition a.nth) (λ set. end_ends set a)
 
+pub ended_results : (d : DagData) (a : AttemptId) → SameResults d (ended_in_own d a)
+ended_results d a = own_results d a (λ set. after_end set a.partition a.nth)
+
 pub failed_moves : (d : DagData) (a : AttemptId) (cause : FailureCause)
     → Moves (is_same a) None d (after_failed d a cause)
 failed_moves d a cause =

@@ -8,3 +8,7 @@ pub mod Offering
 pub mod RunningLists
 pub mod Told
 pub mod Taking
+pub mod TellingMap
+pub mod TellingResult
+pub mod TellingFailure
+pub mod Stepping

@@ -1,13 +1,15 @@
 -- Attempts by their numbers, and tests on them.
-use Rattle.std.proofs.Common.{◌≡◌, ◌≢◌, ℕ, ◌+◌, ◌-◌, ◌<◌, ◌==◌, ◌&&◌, not, Bool, true, false, cond, if◌then◌else◌, List, [], ◌∷◌, length, Option, Some, None, slice_get, nat_lt, refl, ap, sym, subst, ◌∙◌, arith, rules, true≢false}
+use Rattle.std.proofs.Common.{◌≡◌, ◌≢◌, ℕ, ◌+◌, ◌-◌, ◌<◌, ◌==◌, ◌&&◌, not, All, Bool, true, false, cond, if◌then◌else◌, List, [], ◌∷◌, length, Option, Some, None, slice_get, nat_lt, refl, ap, sym, subst, ◌∙◌, arith, rules, true≢false}
 use Rattle.std.proofs.lemmas.Bool.Decides.{nat_tests}
+use Rattle.std.proofs.lemmas.Option.{get_or_from_slice_get, slice_get_within}
 use Rattle.sc_commit.specs.Committing.{is_same}
 use Rattle.sc_ids.specs.declared.attempts.AttemptId.{AttemptId}
 use Rattle.sc_taskset.specs.TaskSetData.{TaskSetData}
 use Rattle.sc_dag.specs.DagData.{DagData, StageState, attempt_in, newest_at, newest_set, place_of_attempt, set_in}
 use Rattle.sc_dag.specs.Offers.{newest_number, number_in}
 use Rattle.sc_dag.specs.Reports.{set_of}
-use Rattle.sc_dag.specs.Sound.{runner_in, runner_of}
+use Rattle.sc_dag.specs.Sound.{attempts_in, runner_in, runner_of}
+use Rattle.sc_dag.specs.declared.attempts.StageAttempt.{StageAttempt}
 
 pub clash : {b : Bool} → b ≡ true → b ≡ false → ⊥
 clash t f = true≢false (sym t ∙ f)
@@ -87,3 +89,19 @@ pub set_of_newest : (d : DagData) (a : AttemptId) → a.stage_attempt ≡ newest
 set_of_newest d a e =
     ap (λ n. set_among (slice_get d.states a.stage) n) e
     ∙ newest_among_is (slice_get d.states a.stage)
+
+-- what holds of all attempts of a stage holds of the set of a number
+pub set_holds :
+    (P : TaskSetData → Type 0) (o : Option StageState) (n : ℕ) (set : TaskSetData)
+    → All (λ a. P a.set) (attempts_in o) → set_among o n ≡ Some set → P set
+set_holds P None n set all is = absurd (search (rules, is))
+set_holds P (Some state) n set all is = by (attempt_in state n) refl is
+  where
+    by : (a : Option StageAttempt) → attempt_in state n ≡ a → set_in a ≡ Some set → P set
+    by None at e = absurd (search (rules, e))
+    by (Some a) at e =
+        let same : a.set ≡ set = search (rules, e) in
+        subst P same
+        (subst (λ b. P b.set) (get_or_from_slice_get state.attempts (place_of_attempt state n) a a at)
+        (all (place_of_attempt state n) a
+        (slice_get_within state.attempts (place_of_attempt state n) a at)))

@@ -47,27 +47,34 @@ complete_same d after s stages results kind =
     ∙ complete_by_results after.tracker d.tracker (stage_at d s)
     (results_in (slice_get d.states s)) kind
 
--- a job whose stages go on does, where the result stage isn't complete
+-- a stage of results that is under way is still, where no result is won
+pub under_kept :
+    (d after : DagData) (r : ℕ) → after.stages ≡ d.stages → SameResults d after
+    → is_map (stage_at d r).target ≡ false → dag.GoesOn d after → IsUnderWay d r
+    → IsUnderWay after r
+under_kept d after r stages results kind on under =
+    let lacks : is_complete after r ≡ false =
+    complete_same d after r stages (results r) kind ∙ under.0 in
+    (lacks, on.1 r under lacks)
+
+-- a job whose result stage is under way goes on
 pub goes_with :
-    (c after : CoreData) → GoesOn c → after.dag.stages ≡ c.dag.stages
-    → dag.GoesOn c.dag after.dag → is_complete after.dag (result_stage c.dag) ≡ false
-    → GoesOn after
-goes_with c after goes stages on lacks =
+    (c after : CoreData) → after.dag.stages ≡ c.dag.stages → IsSettled after.dag
+    → IsUnderWay after.dag (result_stage c.dag) → GoesOn after
+goes_with c after stages settled under =
     record {
-      settled = on.0;
+      settled = settled;
       result = subst (λ (s : ℕ). IsUnderWay after.dag s)
-          (ap (λ (all : List StageData). length all - 1) (sym stages))
-          (lacks, on.1 (result_stage c.dag) goes.result lacks);
+          (ap (λ (all : List StageData). length all - 1) (sym stages)) under;
     }
 
--- where no result is won, it isn't
+-- where no result is won, it does
 pub goes_same :
     (c after : CoreData) → IsSoundCore c → GoesOn c → after.dag.stages ≡ c.dag.stages
     → SameResults c.dag after.dag → dag.GoesOn c.dag after.dag → GoesOn after
 goes_same c after sound goes stages results on =
-    goes_with c after goes stages on
-    (complete_same c.dag after.dag (result_stage c.dag) stages (results (result_stage c.dag))
-    sound.result ∙ goes.result.0)
+    goes_with c after stages on.0
+    (under_kept c.dag after.dag (result_stage c.dag) stages results sound.result on goes.result)
 
 -- what is left of a core is sound, once an attempt's report is told
 pub told_sound :

@@ -1,0 +1,1 @@
+-- Every event keeps what holds of every core.
