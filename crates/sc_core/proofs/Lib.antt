@@ -12,3 +12,5 @@ pub mod TellingMap
 pub mod TellingResult
 pub mod TellingFailure
 pub mod Stepping
+pub mod Spending
+pub mod Limits

@@ -1,0 +1,1 @@
+-- A job ends as it says.
