@@ -14,3 +14,4 @@ pub mod TellingFailure
 pub mod Stepping
 pub mod Spending
 pub mod Limits
+pub mod AgreeingTakes
