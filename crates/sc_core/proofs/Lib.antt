@@ -15,3 +15,4 @@ pub mod Stepping
 pub mod Spending
 pub mod Limits
 pub mod AgreeingTakes
+pub mod Agreeing
