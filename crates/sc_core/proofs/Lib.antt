@@ -16,3 +16,4 @@ pub mod Spending
 pub mod Limits
 pub mod AgreeingTakes
 pub mod Agreeing
+pub mod Opening

@@ -1,0 +1,272 @@
+-- The core of a job that begins is sound.
+use Rattle.std.proofs.Common.{◌≡◌, ◌≢◌, ◌⊎◌, inl, inr, ℕ, zero, suc, ◌+◌, ◌-◌, ◌*◌, ◌<◌, ◌≤◌, ◌==◌, ◌&&◌, ◌||◌, not, All, Bool, true, false, cond, if◌then◌else◌, List, [], ◌∷◌, ◌++◌, length, replicate, Option, Some, None, IfSome, option_map, slice_get, refl, ap, sym, subst, ◌∙◌, arith, rules, true≢false, length-append}
+use Rattle.std.proofs.Math.Seq.{get_or-append_seam}
+use Rattle.std.specs.List.{AllPairs, Contains, list_all, list_any}
+use Rattle.std.proofs.lemmas.Bool.Decides.{nat_tests}
+use Rattle.std.proofs.lemmas.List.Elements.{All-append, All-contains, All-cons, All-replicate, All-weaker}
+use Rattle.sc_base.specs.Lists.{at_or, numbers_below}
+use Rattle.sc_ids.specs.Graphs.{StageData}
+use Rattle.sc_ids.specs.declared.attempts.AttemptId.{AttemptId}
+use Rattle.sc_ids.specs.declared.blocks.Target.{Target}
+use Rattle.sc_ids.specs.declared.blocks.Target.TheVariants as targets
+use Rattle.sc_ids.specs.declared.limits.Limits.{Limits}
+use Rattle.sc_tracker.specs.TrackerData.{TrackerData, tracker_data}
+use Rattle.sc_tracker.specs.TrackerFacts.{HasMarkBelow, IsSoundTracker}
+use Rattle.sc_tracker.specs.Trust.{untold}
+use Rattle.sc_dag.specs.DagData.{DagData, StageState, is_live_set, newest_at, no_stage, stage_at}
+use Rattle.sc_dag.specs.Laws.{CallsKeepSound, SubmissionsSettle}
+use Rattle.sc_dag.specs.Laws as dag
+use Rattle.sc_dag.specs.Openings.{FitsJob, IsJob, Opens, attempts_so_far, blank_state, blank_states, number_behind}
+use Rattle.sc_dag.specs.Outputs.{is_complete, is_complete_by, is_done_by, results_in}
+use Rattle.sc_dag.specs.Settled.{IsSettled, IsSettledBy, IsUnderWay, will_go_on}
+use Rattle.sc_dag.specs.Sound.{IsSoundDag, attempts_in, runner_of}
+use Rattle.sc_dag.specs.Submission.{is_map, this_stage, waiting_stages}
+use Rattle.sc_dag.proofs.Basics.{any_mono}
+use Rattle.sc_core.specs.CoreData.{CoreData, is_running_job, job_runs, result_stage, running_of}
+use Rattle.sc_core.specs.Laws.{OpeningsAreSound}
+use Rattle.sc_core.specs.Openings.{IsOpening, tracker_behind}
+use Rattle.sc_core.specs.Sound.{AreTwo, GoesOn, IsSoundCore, IsUnheld, RunsWell}
+use Rattle.sc_core.specs.declared.answers.Job.TheVariants as jobs
+use Rattle.sc_core.specs.declared.running.Running.{Running}
+use Rattle.sc_core.proofs.Calls.{submitted_calm}
+use Rattle.sc_core.proofs.Lookups.{newest_among}
+use Rattle.sc_core.proofs.Moves.{Calm}
+use Rattle.sc_core.proofs.States.{runs_in}
+
+-- ---- stages that nothing was done for
+
+blank_runs : (last : Option DagData) (n : ℕ) (stages : List StageData) (s : ℕ) (b : AttemptId)
+    → runs_in (slice_get (blank_states last n stages) s) b ≡ None
+blank_runs last n [] s b = refl
+blank_runs last n (stage ∷ stages) zero b = refl
+blank_runs last n (stage ∷ stages) (suc s) b = blank_runs last (n + 1) stages s b
+
+blank_attempts : (last : Option DagData) (n : ℕ) (stages : List StageData) (s : ℕ)
+    → attempts_in (slice_get (blank_states last n stages) s) ≡ []
+blank_attempts last n [] s = refl
+blank_attempts last n (stage ∷ stages) zero = refl
+blank_attempts last n (stage ∷ stages) (suc s) = blank_attempts last (n + 1) stages s
+
+blank_dead : (last : Option DagData) (n : ℕ) (stages : List StageData) (s : ℕ)
+    → is_live_set (newest_among (slice_get (blank_states last n stages) s)) ≡ false
+blank_dead last n [] s = refl
+blank_dead last n (stage ∷ stages) zero = refl
+blank_dead last n (stage ∷ stages) (suc s) = blank_dead last (n + 1) stages s
+
+blank_results : (last : Option DagData) (n : ℕ) (stages : List StageData) (s : ℕ)
+    (stage : StageData) → slice_get stages s ≡ Some stage
+    → results_in (slice_get (blank_states last n stages) s)
+    ≡ replicate (if is_map stage.target then 0 else stage.tasks) false
+blank_results last n [] s stage e = absurd (search (rules, e))
+blank_results last n (x ∷ stages) zero stage e =
+    let same : x ≡ stage = search (rules, e) in
+    ap (λ (y : StageData). replicate (if is_map y.target then 0 else y.tasks) false) same
+blank_results last n (x ∷ stages) (suc s) stage e = blank_results last (n + 1) stages s stage e
+
+-- a stage of results that has a task isn't complete, where it has no result
+blank_lacks : (t : TrackerData) (stage : StageData) → is_map stage.target ≡ false
+    → 0 < stage.tasks
+    → is_complete_by t stage (replicate (if is_map stage.target then 0 else stage.tasks) false)
+    ≡ false
+blank_lacks t stage kind some = by stage.target kind stage.tasks some
+  where
+    by : (target : Target) → is_map target ≡ false → (tasks : ℕ) → 0 < tasks
+        → list_all (is_done_by t target
+        (replicate (if is_map target then 0 else tasks) false)) (numbers_below tasks) ≡ false
+    by (targets.Map shuffle) e tasks lt = absurd (true≢false e)
+    by (targets.Result node) e zero lt = absurd (omega (arith, lt))
+    by (targets.Result node) e (suc n) lt = refl
+
+-- ---- the stages of a job
+
+number_of_last : (maps : List StageData) (result : StageData)
+    → number_behind (maps ++ result ∷ []) ≡ result.id + 1
+number_of_last [] result = refl
+number_of_last (x ∷ []) result = refl
+number_of_last (x ∷ y ∷ ys) result = number_of_last (y ∷ ys) result
+
+at_or_found : {A : Type 0} (xs : List A) (i : ℕ) (x d : A) → slice_get xs i ≡ Some x
+    → at_or xs i d ≡ x
+at_or_found [] i x d e = absurd (search (rules, e))
+at_or_found (y ∷ ys) zero x d e = search (rules, e)
+at_or_found (y ∷ ys) (suc i) x d e = at_or_found ys i x d e
+
+-- what is known of the stages of a job that begins
+record Begins (graph : List StageData) (d : DagData) : Type 0 where
+  result : StageData
+  at : slice_get d.stages (result_stage d) ≡ Some result
+  kind : is_map result.target ≡ false
+  some : 0 < result.tasks
+  maps : (s : ℕ) → s ≢ result_stage d
+      → (is_map (stage_at d s).target ≡ true) ⊎ (stage_at d s ≡ no_stage)
+
+begins : (graph : List StageData) (last : Option DagData) (t : TrackerData) (d : DagData)
+    → IsJob graph → Opens graph last t d → Begins graph d
+begins graph last t d job opens =
+    record {
+      result = job.result;
+      at = rw number (All-contains (λ x. slice_get d.stages x.id ≡ Some x) graph job.result
+          opens.numbered.each is_one);
+      kind = job.is_result;
+      some = job.some;
+      maps = maps;
+    }
+  where
+    number : result_stage d ≡ job.result.id
+    number =
+        let many : length d.stages ≡ job.result.id + 1 =
+        opens.numbered.many ∙ ap number_behind job.all ∙ number_of_last job.maps job.result in
+        omega (arith, many)
+
+    is_one : Contains graph job.result
+    is_one =
+        subst (λ xs. Contains xs job.result) (sym job.all)
+        (length job.maps, omega (arith, length-append job.maps (job.result ∷ [])),
+        get_or-append_seam job.maps job.result [] job.result)
+
+    kinds : All (λ x. (is_map x.target ≡ true) ⊎ (x ≡ job.result)) graph
+    kinds =
+        subst (λ xs. All (λ x. (is_map x.target ≡ true) ⊎ (x ≡ job.result)) xs) (sym job.all)
+        (All-append (λ x. (is_map x.target ≡ true) ⊎ (x ≡ job.result)) job.maps (job.result ∷ [])
+        (All-weaker (λ x. is_map x.target ≡ true)
+        (λ x. (is_map x.target ≡ true) ⊎ (x ≡ job.result)) (λ x h. inl h) job.maps job.are_maps)
+        (All-cons (λ x. (is_map x.target ≡ true) ⊎ (x ≡ job.result)) job.result [] (inr refl)
+        (λ i x l. absurd (omega (arith, l)))))
+
+    maps : (s : ℕ) → s ≢ result_stage d
+        → (is_map (stage_at d s).target ≡ true) ⊎ (stage_at d s ≡ no_stage)
+    maps s other = by (opens.numbered.only s)
+      where
+        which : (stage_at d s).id ≡ s
+            → (is_map (stage_at d s).target ≡ true) ⊎ (stage_at d s ≡ job.result)
+            → (is_map (stage_at d s).target ≡ true) ⊎ (stage_at d s ≡ no_stage)
+        which id (inl h) = inl h
+        which id (inr h) =
+            absurd (other (sym id ∙ ap (λ (x : StageData). x.id) h ∙ sym number))
+
+        by : (stage_at d s ≡ no_stage)
+            ⊎ (Contains graph (stage_at d s) × ((stage_at d s).id ≡ s))
+            → (is_map (stage_at d s).target ≡ true) ⊎ (stage_at d s ≡ no_stage)
+        by (inl h) = inr h
+        by (inr (one, id)) =
+            which id (All-contains (λ x. (is_map x.target ≡ true) ⊎ (x ≡ job.result)) graph
+            (stage_at d s) kinds one)
+
+-- ---- the tracker
+
+behind_sound : (last : Option CoreData) (limits : Limits) → IfSome last IsSoundCore
+    → IsSoundTracker (tracker_behind last limits)
+behind_sound None limits sound =
+    record {
+      outputs = λ i x l. absurd (omega (arith, l));
+      marks = All-replicate (HasMarkBelow 0) limits.executors untold tt;
+      events = omega arith;
+    }
+behind_sound (Some last) limits sound = sound.dag.tracker
+
+-- ---- the core
+
+settled_by : (d : DagData) (submitted : ℕ → Bool) → IsSettled d → IsSettledBy d submitted
+settled_by d submitted settled =
+    record {
+      dead = settled.dead;
+      lacking = settled.lacking;
+      waits = λ s w. by s (settled.waits s w);
+      failed = settled.failed;
+    }
+  where
+    will : (p : ℕ) → will_go_on d (λ s. false) p ≡ true → will_go_on d submitted p ≡ true
+    will p e = grind (arith, nat_tests, e)
+
+    by : (s : ℕ)
+        → (false ≡ true) ⊎ (list_any (will_go_on d (λ s. false)) (stage_at d s).parents ≡ true)
+        → (submitted s ≡ true)
+        ⊎ (list_any (will_go_on d submitted) (stage_at d s).parents ≡ true)
+    by s (inl e) = absurd (true≢false (sym e))
+    by s (inr e) =
+        inr (any_mono (will_go_on d (λ s. false)) (will_go_on d submitted) (stage_at d s).parents
+        will e)
+
+pub openings_are_sound :
+    CallsKeepSound → dag.OpeningsAreSound → SubmissionsSettle → OpeningsAreSound
+openings_are_sound calls opening settles graph limits saved last c job fits sound o =
+    record {
+      dag = (calls d first.0).0 (this_stage (result_stage d)) c.dag o.submits;
+      result = rw (calm.stages, at_or_found d.stages (result_stage d) begin.result no_stage begin.at)
+          begin.kind;
+      maps = rw calm.stages begin.maps;
+      running = subst (λ rs. All (RunsWell c) rs) (sym o.running)
+          (λ i r l. absurd (omega (arith, l)));
+      known = λ a exec r. absurd (search (rules, r, runs a));
+      apart = subst (λ rs. AllPairs AreTwo rs) (sym o.running)
+          (λ i j r lt l. absurd (omega (arith, l)));
+      shelf = o.shelf;
+      unheld = calm.unheld unheld;
+      budget = rw o.handed (omega arith);
+      goes_on = λ r. record {
+        settled = on.0.0;
+        result = subst (λ (s : ℕ). IsUnderWay c.dag s)
+            (ap (λ (all : List StageData). length all - 1) (sym calm.stages))
+            (on.1 (result_stage d) itself lacks);
+      };
+      done = λ e. absurd (search (rules, e, o.job));
+    }
+  where
+    d : DagData
+    d = o.dag
+
+    begin : Begins graph o.dag
+    begin =
+        begins graph (option_map (λ l. l.dag) last) (tracker_behind last limits) o.dag job o.opens
+
+    first : IsSoundDag o.dag × IsSettled o.dag
+    first =
+        opening graph (option_map (λ l. l.dag) last) (tracker_behind last limits) o.dag job fits
+        (behind_sound last limits sound) o.opens
+
+    calm : Calm o.dag c.dag
+    calm = submitted_calm o.dag c.dag (this_stage (result_stage o.dag)) o.submits
+
+    before : Option DagData
+    before = option_map (λ l. l.dag) last
+
+    runs : (a : AttemptId) → runner_of c.dag a ≡ None
+    runs a =
+        calm.runners a
+        ∙ ap (λ (states : List StageState). runs_in (slice_get states a.stage) a) o.opens.states
+        ∙ blank_runs before 0 o.dag.stages a.stage a
+
+    unheld : (s : ℕ) → All IsUnheld (attempts_in (slice_get o.dag.states s))
+    unheld s =
+        subst (λ xs. All IsUnheld xs)
+        (sym (ap (λ (states : List StageState). attempts_in (slice_get states s)) o.opens.states
+        ∙ blank_attempts before 0 o.dag.stages s))
+        (λ i x l. absurd (omega (arith, l)))
+
+    dead : (s : ℕ) → this_stage (result_stage o.dag) s ≡ true
+        → is_live_set (newest_at o.dag s) ≡ false
+    dead s e =
+        ap (λ (states : List StageState). is_live_set (newest_among (slice_get states s)))
+        o.opens.states
+        ∙ blank_dead before 0 o.dag.stages s
+
+    lacks : is_complete o.dag (result_stage o.dag) ≡ false
+    lacks =
+        ap (λ (stage : StageData). is_complete_by o.dag.tracker stage
+        (results_in (slice_get o.dag.states (result_stage o.dag))))
+        (at_or_found o.dag.stages (result_stage o.dag) begin.result no_stage begin.at)
+        ∙ ap (λ (rs : List Bool). is_complete_by o.dag.tracker begin.result rs)
+        (ap (λ (states : List StageState). results_in (slice_get states (result_stage o.dag)))
+        o.opens.states
+        ∙ blank_results before 0 o.dag.stages (result_stage o.dag) begin.result begin.at)
+        ∙ blank_lacks o.dag.tracker begin.result begin.kind begin.some
+
+    itself : this_stage (result_stage o.dag) (result_stage o.dag) ≡ true
+    itself = grind (arith, nat_tests)
+
+    on : dag.GoesOn o.dag c.dag
+        × ((s : ℕ) → this_stage (result_stage o.dag) s ≡ true → is_complete o.dag s ≡ false
+        → IsUnderWay c.dag s)
+    on =
+        settles o.dag (this_stage (result_stage o.dag)) c.dag first.0
+        (settled_by o.dag (this_stage (result_stage o.dag)) first.1) dead o.submits
