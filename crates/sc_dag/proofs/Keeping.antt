@@ -14,9 +14,10 @@ use Rattle.sc_dag.specs.Offers.{handed_out, may_be_given_in}
 use Rattle.sc_dag.specs.Reports.{after_failed, after_hold, completed, ended_in_own, failed_attempt, forgiven, with_failed}
 use Rattle.sc_dag.specs.Sound.{IsAttemptOf, IsSoundDag}
 use Rattle.sc_dag.specs.declared.attempts.StageAttempt.{StageAttempt}
+use Rattle.sc_dag.proofs.Moving.{newest_among}
 use Rattle.sc_dag.proofs.Sets.{KeepsSet, SameFinish, keeps_end, keeps_failure, keeps_handed, keeps_hold, keeps_zombie, same_end, same_failure, same_handed, same_hold, same_zombie}
-use Rattle.sc_dag.proofs.SoundStages.{IsNewest, IsSoundState, KeepsAttempt, attempt_kept, attempts_mapped, keeps_with, set_kept, sound_with, state_quiet}
-use Rattle.sc_dag.proofs.Submitting.{newest_among}
+use Rattle.sc_dag.proofs.SoundAttempts.{KeepsAttempt, attempts_mapped, keeps_with, set_kept, state_quiet}
+use Rattle.sc_dag.proofs.SoundStages.{IsNewest, sound_with}
 
 -- a change of a set that finishes no task
 pub quiet :
@@ -79,13 +80,16 @@ pub with_failed_sound :
 with_failed_sound d s number sound =
     sound_with d s (with_failed number) sound (λ state at is.
     state_quiet d.tracker (stage_at d s) state (place_of_attempt state number) failed_attempt
-    (λ x there. (record {
-      is = λ was. record {
-        set = set_kept (stage_at d s) x.set (as_zombie x.set) (keeps_zombie x.set) was.set;
-        failed = λ e. refl;
-      };
-      dead = λ z. refl;
-    }, same_zombie x.set)) is)
+    (λ x there. (
+      record {
+        is = λ was. record {
+          set = set_kept (stage_at d s) x.set (as_zombie x.set) (keeps_zombie x.set) was.set;
+          failed = λ e. refl;
+        };
+        dead = λ z. refl;
+      },
+      same_zombie x.set,
+    )) is)
 
 -- the newest set where all attempts were changed
 pub newest_mapped :

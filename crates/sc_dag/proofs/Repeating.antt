@@ -9,8 +9,10 @@ use Rattle.sc_dag.specs.Laws.{SubmissionsRepeat}
 use Rattle.sc_dag.specs.Outputs.{has_inputs, is_complete}
 use Rattle.sc_dag.specs.Sound.{AreSoundStages, IsSoundDag}
 use Rattle.sc_dag.specs.Submission.{AreLookedAt, IsSubmitted, as_waiting, by_number, is_asked_for, is_idle_in, moved_if, reads, started, this_stage}
-use Rattle.sc_dag.proofs.Basics.{any_found, both_left, both_right, by_number_same, clash}
-use Rattle.sc_dag.proofs.Submitting.{after_looking, asked_by, complete_after, complete_past, idle_dead, lacking_below, lacking_there, looked_asked, looked_goes, looked_lacks, looked_submitted, looked_why, newest_among, newest_started, read_before, state_after, state_kept}
+use Rattle.sc_dag.proofs.Items.{by_number_same}
+use Rattle.sc_dag.proofs.Looking.{asked_by, complete_past, lacking_below, lacking_there, looked_asked, looked_lacks, looked_submitted, looked_why, read_before}
+use Rattle.sc_dag.proofs.Moving.{after_looking, complete_after, idle_dead, looked_goes, newest_among, newest_started, state_after, state_kept}
+use Rattle.sc_dag.proofs.Tests.{any_found, both_left, both_right, clash}
 
 module _ (d : DagData) (s : ℕ) (one two : ℕ → Bool)
     (sound : AreSoundStages d.stages d.tracker) (long : length d.states ≡ length d.stages)

@@ -15,8 +15,9 @@ use Rattle.sc_dag.specs.Settled.{IsSettled, IsUnderWay, goes_on, goes_on_in, wil
 use Rattle.sc_dag.specs.Sound.{IsAttemptOf, IsSetOf, IsSoundDag, attempts_in}
 use Rattle.sc_dag.specs.Submission.{waiting_stages, waits_in}
 use Rattle.sc_dag.specs.declared.attempts.StageAttempt.{StageAttempt}
-use Rattle.sc_dag.proofs.Basics.{all_at, all_unmapped, any_member, any_found, any_within, both_left, both_right, clash, find_all, is_in, all_in, not_true, not_false, pairs_head, pairs_tail}
-use Rattle.sc_dag.proofs.Submitting.{newest_among}
+use Rattle.sc_dag.proofs.Items.{all_at, all_unmapped, find_all, pairs_head, pairs_tail}
+use Rattle.sc_dag.proofs.Moving.{newest_among}
+use Rattle.sc_dag.proofs.Tests.{all_in, any_member, both_left, both_right, clash, left_only, not_true}
 
 -- a task that isn't finished, by its partition
 pub unfinished_task :
@@ -96,17 +97,19 @@ live_holds d s exec set sound none is live =
     let some : are_finished set.tasks ≡ false =
     by (are_finished set.tasks) refl (λ e. of.sound.ends e) in
     let found = unfinished_task set.tasks of.sound.rising some in
-    let offer : OffersIn (Some set) exec None = rw is at (none s) in
-    (found.0.partition, record {
-      set = set;
-      task = found.0;
-      newest = is;
-      live = live;
-      is_task = found.1;
-      unfinished = found.2;
-      held = held_back found.0 found.2
-          (not_pending set found.0.partition found.0 live found.1 (offer.0 found.0.partition));
-    })
+    let offer : OffersIn (Some set) exec None = rw is at (none s) in (
+      found.0.partition,
+      record {
+        set = set;
+        task = found.0;
+        newest = is;
+        live = live;
+        is_task = found.1;
+        unfinished = found.2;
+        held = held_back found.0 found.2
+            (not_pending set found.0.partition found.0 live found.1 (offer.0 found.0.partition));
+      },
+    )
   where
     by : (b : Bool) → are_finished set.tasks ≡ b
         → (are_finished set.tasks ≡ true → set.is_zombie ≡ true) → b ≡ false
@@ -125,14 +128,11 @@ stuck_below d exec sound settled none (suc n) s lt under =
     one : (p : ℕ) × HoldsBack d s p → (r : ℕ) × (p : ℕ) × HoldsBack d r p
     one h = (s, h.0, h.1)
 
-    or_false : (b : Bool) → (b || false) ≡ true → b ≡ true
-    or_false true e = refl
-    or_false false e = e
-
     way : (p : ℕ) → will_go_on d (λ q. false) p ≡ true → IsUnderWay d p
-    way p e =
-        (not_true (is_complete d p) (both_left (not (is_complete d p)) _ e),
-        or_false (goes_on d p) (both_right (not (is_complete d p)) (goes_on d p || false) e))
+    way p e = (
+      not_true (is_complete d p) (both_left (not (is_complete d p)) _ e),
+      left_only (goes_on d p) (both_right (not (is_complete d p)) (goes_on d p || false) e),
+    )
 
     parents : (false ≡ true)
         ⊎ (list_any (will_go_on d (λ q. false)) (stage_at d s).parents ≡ true)

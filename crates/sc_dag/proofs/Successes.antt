@@ -20,80 +20,12 @@ use Rattle.sc_dag.specs.Reports.{wants_in}
 use Rattle.sc_dag.specs.Sound.{IsAttemptOf, IsSetOf, finish_in, runner_in, runner_of}
 use Rattle.sc_dag.specs.Submission.{is_map}
 use Rattle.sc_dag.specs.declared.attempts.StageAttempt.{StageAttempt}
-use Rattle.sc_dag.proofs.Basics.{clash, find_all, find_passes}
-use Rattle.sc_dag.proofs.Sets.{finished_unwanted, keeps_success, success_older, success_other, success_own}
-use Rattle.sc_dag.proofs.SoundStages.{AreAttempts, HasPlaces, IsNewest, IsSoundState, attempts_changed, keeps_with, newest_changed, newest_kept}
-
--- the attempt's set, where it runs on an executor
-pub record RunsIn (state : StageState) (a : AttemptId) (exec : ℕ) : Type 0 where
-  pub attempt : StageAttempt
-  pub there : slice_get state.attempts (place_of_attempt state a.stage_attempt) ≡ Some attempt
-  pub runs : runner_in (Some attempt.set) a ≡ Some exec
-
-abbrev set_among : Option StageState → ℕ → Option TaskSetData
-set_among None number = None
-set_among (Some state) number = set_in (attempt_in state number)
-
-pub runs_in :
-    (d : DagData) (a : AttemptId) (exec : ℕ) (state : StageState)
-    → slice_get d.states a.stage ≡ Some state → runner_of d a ≡ Some exec → RunsIn state a exec
-runs_in d a exec state at runs =
-    by (slice_get state.attempts (place_of_attempt state a.stage_attempt)) refl
-    (sym (ap (λ o. runner_in (set_among o a.stage_attempt) a) at) ∙ runs)
-  where
-    by : (o : Option StageAttempt)
-        → slice_get state.attempts (place_of_attempt state a.stage_attempt) ≡ o
-        → runner_in (set_in o) a ≡ Some exec → RunsIn state a exec
-    by None is h = absurd (search (rules, h))
-    by (Some x) is h = record { attempt = x; there = is; runs = h }
-
--- the newest attempt by its number
-pub place_newest :
-    (state : StageState) (number : ℕ) → number ≡ state.before + (length state.attempts - 1)
-    → place_of_attempt state number ≡ length state.attempts - 1
-place_newest state number is = by (nat_lt number state.before) refl
-  where
-    by : (b : Bool) → nat_lt number state.before ≡ b
-        → (if b then length state.attempts else number - state.before)
-        ≡ length state.attempts - 1
-    by true e = absurd (grind (arith, nat_tests, e, is))
-    by false e = omega (arith, is)
-
--- another one that is there
-pub place_other :
-    (state : StageState) (number : ℕ) (x : StageAttempt)
-    → slice_get state.attempts (place_of_attempt state number) ≡ Some x
-    → (number ≡ state.before + (length state.attempts - 1) → ⊥)
-    → place_of_attempt state number ≡ length state.attempts - 1 → ⊥
-place_other state number x there ne e =
-    by (nat_lt number state.before) refl e
-    (slice_get_within state.attempts (place_of_attempt state number) x there)
-  where
-    by : (b : Bool) → nat_lt number state.before ≡ b
-        → (if b then length state.attempts else number - state.before)
-        ≡ length state.attempts - 1
-        → (if b then length state.attempts else number - state.before) < length state.attempts
-        → ⊥
-    by true h same lt = omega (arith, lt)
-    by false h same lt =
-        let above : state.before ≤ number = grind (arith, nat_tests, h) in
-        ne (omega (arith, same, above, lt))
-
--- a partition that is wanted is one of the stage
-pub wanted_within :
-    (stage : StageData) (set : TaskSetData) (p : ℕ) → IsSetOf stage set
-    → wants_in (Some set) p ≡ true → p < stage.tasks
-wanted_within stage set p of wants = by (task_at p set.tasks) refl wants
-  where
-    by : (o : Option TaskData) → task_at p set.tasks ≡ o
-        → is_there_and (λ t. not (is_finished t)) o ≡ true → p < stage.tasks
-    by None e w = absurd (true≢false (sym w))
-    by (Some t) e w =
-        let lt : t.partition < stage.tasks =
-        find_all (λ u. u.partition < stage.tasks) (is_task_of p) set.tasks t of.within e in
-        let passes : is_task_of p t ≡ true = find_passes (is_task_of p) set.tasks t e in
-        let same : t.partition ≡ p = grind (arith, nat_tests, passes) in
-        subst (λ n. n < stage.tasks) same lt
+use Rattle.sc_dag.proofs.Finishes.{finished_unwanted, success_older, success_other, success_own}
+use Rattle.sc_dag.proofs.Runners.{RunsIn}
+use Rattle.sc_dag.proofs.Sets.{keeps_success}
+use Rattle.sc_dag.proofs.SoundAttempts.{attempts_changed, keeps_with, newest_changed, newest_kept}
+use Rattle.sc_dag.proofs.SoundStages.{HasPlaces, IsNewest, IsSoundState}
+use Rattle.sc_dag.proofs.Tests.{clash}
 
 -- what a success on an executor does to the outputs of its stage
 pub record SucceedsTo
@@ -253,8 +185,10 @@ success_in_both t u stage state results a exec now is wants older places to =
       attempts = attempts_changed stage before (length before - 1) (with_set h)
           (λ x there. keeps_with stage x h (keeps_success x.set a.partition None now))
           (success_in_older t stage state a now is older).attempts;
-      newest = rw (newest_changed before (length before - 1) (with_set h) refl,
-          newest_kept state.attempts i (with_set g) older)
+      newest = rw (
+        newest_changed before (length before - 1) (with_set h) refl,
+        newest_kept state.attempts i (with_set g) older,
+      )
           (by (slice_get state.attempts (length state.attempts - 1)) wants is.newest);
     }
   where

@@ -34,12 +34,13 @@ SubmissionsRepeat =
     → is_live_set (newest_at after s) ≡ false
     → IsSubmitted after (this_stage s) again → again ≡ after
 
--- a job begins sound and settled, and with its result stage submitted it is under way
+-- A job begins sound and settled. Its result stage isn't complete, so once that is submitted it is
+-- under way.
 abbrev pub OpeningsAreSound : Type 0
 OpeningsAreSound =
     (graph : List StageData) (last : Option DagData) (t : TrackerData) (d : DagData)
-    → IsJob graph → FitsJob t graph → IsSoundTracker t → Opens graph last t d
-    → IsSoundDag d × IsSettled d
+    (job : IsJob graph) → FitsJob t graph → IsSoundTracker t → Opens graph last t d
+    → IsSoundDag d × IsSettled d × (is_complete d job.result.id ≡ false)
 
 -- what every call keeps
 abbrev pub CallsKeepSound : Type 0

@@ -19,6 +19,7 @@
 
 mod attempts;
 mod reports;
+mod laws;
 
 pub use attempts::StageAttempt;
 pub use reports::Success;

@@ -1,4 +1,4 @@
--- Lemmas on tests and lists.
+-- Lemmas on items by their places, and on how many pass a test.
 use Rattle.std.proofs.Common.{◌≡◌, ◌≢◌, ℕ, zero, suc, ◌+◌, ◌-◌, ◌<◌, ◌≤◌, ◌==◌, ◌||◌, ◌&&◌, not, Bool, true, false, cond, List, [], ◌∷◌, ◌++◌, All, AllPairs, find, length, map, take, Option, Some, None, is_some, option_map, slice_get, refl, ap, sym, subst, ◌∙◌, arith, rules, true≢false, add-zero, zero-add, suc-add, add-suc, length-append}
 use Rattle.std.specs.List.{list_all, list_any}
 use Rattle.std.proofs.lemmas.Bool.Decides.{nat_tests}
@@ -7,152 +7,40 @@ use Rattle.std.proofs.lemmas.Option.{get_or_from_slice_get, slice_get_within}
 use Rattle.sc_base.specs.Lists.{at_or, numbers_below, numbers_from}
 use Rattle.sc_ids.specs.Changes.{change_at}
 use Rattle.sc_dag.specs.Submission.{by_number}
-
--- ---- tests
-
-pub both_left : (a b : Bool) → (a && b) ≡ true → a ≡ true
-both_left true b e = refl
-both_left false b e = e
-
-pub both_right : (a b : Bool) → (a && b) ≡ true → b ≡ true
-both_right true b e = e
-both_right false b e = absurd (true≢false (sym e))
-
-pub not_true : (b : Bool) → not b ≡ true → b ≡ false
-not_true true e = sym e
-not_true false e = refl
-
-pub not_false : (b : Bool) → not b ≡ false → b ≡ true
-not_false true e = refl
-not_false false e = sym e
-
-pub clash : {b : Bool} → b ≡ true → b ≡ false → ⊥
-clash t f = true≢false (sym t ∙ f)
-
--- ---- some and all of a list
-
-pub any_mono :
-    {A : Type 0} (p q : A → Bool) (xs : List A) → ((x : A) → p x ≡ true → q x ≡ true)
-    → list_any p xs ≡ true → list_any q xs ≡ true
-any_mono p q [] h e = e
-any_mono p q (x ∷ xs) h e = by (p x) refl e (λ k. any_mono p q xs h k)
-  where
-    or_true : (b : Bool) → (b || true) ≡ true
-    or_true true = refl
-    or_true false = refl
-
-    by : (b : Bool) → p x ≡ b → (b || list_any p xs) ≡ true
-        → (list_any p xs ≡ true → list_any q xs ≡ true) → (q x || list_any q xs) ≡ true
-    by true b e f = rw (h x b) refl
-    by false b e f = rw (f e) (or_true (q x))
-
--- a number is one of a list
-abbrev pub is_in : List ℕ → ℕ → Bool
-is_in xs x = list_any (λ y. y == x) xs
-
--- the same where each that passes is one of the list
-pub any_within :
-    (p q : ℕ → Bool) (xs : List ℕ)
-    → ((x : ℕ) → is_in xs x ≡ true → p x ≡ true → q x ≡ true)
-    → list_any p xs ≡ true → list_any q xs ≡ true
-any_within p q [] h e = e
-any_within p q (x ∷ xs) h e =
-    by (p x) refl e (λ k. any_within p q xs (λ y i. h y (or_true (x == y) (is_in xs y) i)) k)
-  where
-    or_true : (a b : Bool) → b ≡ true → (a || b) ≡ true
-    or_true true b e = refl
-    or_true false b e = e
-
-    itself : is_in (x ∷ xs) x ≡ true
-    itself = grind (arith, nat_tests)
-
-    by : (b : Bool) → p x ≡ b → (b || list_any p xs) ≡ true
-        → (list_any p xs ≡ true → list_any q xs ≡ true) → (q x || list_any q xs) ≡ true
-    by true b e f = rw (h x itself b) refl
-    by false b e f = or_true (q x) (list_any q xs) (f e)
-
--- one of a list on which a test passes
-pub any_found :
-    {A : Type 0} (p : A → Bool) (xs : List A) → list_any p xs ≡ true → (x : A) × (p x ≡ true)
-any_found p [] e = absurd (true≢false (sym e))
-any_found {A = A} p (x ∷ xs) e = by (p x) refl e (λ k. any_found p xs k)
-  where
-    by : (b : Bool) → p x ≡ b → (b || list_any p xs) ≡ true
-        → (list_any p xs ≡ true → (y : A) × (p y ≡ true)) → (y : A) × (p y ≡ true)
-    by true b e f = (x, b)
-    by false b e f = f e
-
--- tests that agree
-pub any_alike :
-    {A : Type 0} (p q : A → Bool) (xs : List A) → ((x : A) → p x ≡ q x)
-    → list_any p xs ≡ list_any q xs
-any_alike p q xs h = ap (λ f. list_any f xs) (λ i. λ x. h x i)
-
--- what holds of all holds of one
-pub all_in : (P : ℕ → Type 0) (xs : List ℕ) (x : ℕ) → All P xs → is_in xs x ≡ true → P x
-all_in P [] x a e = absurd (true≢false (sym e))
-all_in P (y ∷ ys) x a e = by (y == x) refl e (λ k. all_in P ys x (All-tail P y ys a) k)
-  where
-    by : (b : Bool) → (y == x) ≡ b → (b || is_in ys x) ≡ true → (is_in ys x ≡ true → P x) → P x
-    by true same e f =
-        let is : y ≡ x = grind (arith, nat_tests, same) in subst P is (All-head P y ys a)
-    by false other e f = f e
-
--- a test that doesn't pass on all fails on one
-pub not_all :
-    {A : Type 0} (p : A → Bool) (xs : List A) → list_all p xs ≡ false
-    → list_any (λ x. not (p x)) xs ≡ true
-not_all p [] e = absurd (true≢false e)
-not_all p (x ∷ xs) e = by (p x) e (λ k. not_all p xs k)
-  where
-    by : (b : Bool) → (b && list_all p xs) ≡ false
-        → (list_all p xs ≡ false → list_any (λ y. not (p y)) xs ≡ true)
-        → (not b || list_any (λ y. not (p y)) xs) ≡ true
-    by true e f = f e
-    by false e f = refl
-
--- what fails on all of a list
-pub all_false :
-    {A : Type 0} (p q : A → Bool) (xs : List A) → ((x : A) → p x ≡ false → q x ≡ false)
-    → list_all p xs ≡ false → list_all q xs ≡ false
-all_false p q [] h e = e
-all_false p q (x ∷ xs) h e = by (p x) refl e (λ k. all_false p q xs h k)
-  where
-    and_no : (b : Bool) → (b && false) ≡ false
-    and_no true = refl
-    and_no false = refl
-
-    by : (b : Bool) → p x ≡ b → (b && list_all p xs) ≡ false
-        → (list_all p xs ≡ false → list_all q xs ≡ false) → (q x && list_all q xs) ≡ false
-    by false b e f = rw (h x b) refl
-    by true b e f = rw (f e) (and_no (q x))
-
--- a test that passes on a number below a bound
-any_from :
-    (p : ℕ → Bool) (first count k : ℕ) → first ≤ k → k < first + count → p k ≡ true
-    → list_any p (numbers_from first count) ≡ true
-any_from p first zero k le lt e = absurd (omega (arith, le, lt))
-any_from p first (suc count) k le lt e =
-    by (first == k) refl (λ more. any_from p (suc first) count k more (omega (arith, lt)) e)
-  where
-    or_true : (a b : Bool) → b ≡ true → (a || b) ≡ true
-    or_true true b e = refl
-    or_true false b e = e
-
-    by : (b : Bool) → (first == k) ≡ b
-        → (suc first ≤ k → list_any p (numbers_from (suc first) count) ≡ true)
-        → list_any p (numbers_from first (suc count)) ≡ true
-    by true same f =
-        let is : k ≡ first = grind (arith, nat_tests, same) in
-        let here : p first ≡ true = rw is at e in rw here refl
-    by false other f =
-        let more : suc first ≤ k = grind (arith, nat_tests, other, le) in
-        or_true (p first) (list_any p (numbers_from (suc first) count)) (f more)
-
-pub any_below :
-    (p : ℕ → Bool) (bound k : ℕ) → k < bound → p k ≡ true
-    → list_any p (numbers_below bound) ≡ true
-any_below p bound k lt e = any_from p 0 bound k (omega arith) (omega (arith, lt)) e
+use Rattle.std.proofs.Common.{◌≡◌, ◌⊎◌, inl, inr, ℕ, zero, suc, ◌+◌, ◌-◌, ◌<◌, ◌||◌, ◌&&◌, not, Bool, true, false, cond, if◌then◌else◌, List, [], ◌∷◌, count_by, length, map, Option, Some, None, option_map, slice_get, refl, ap, sym, subst, ◌∙◌, arith, rules, true≢false}
+use Rattle.std.specs.List.{list_any}
+use Rattle.std.proofs.lemmas.Bool.{cases_eq}
+use Rattle.std.proofs.lemmas.List.Sums.{sum_by-cons}
+use Rattle.std.proofs.lemmas.Option.{slice_get-map}
+use Rattle.sc_base.specs.Lists.{numbers_below}
+use Rattle.sc_ids.specs.Graphs.{StageData}
+use Rattle.sc_ids.specs.declared.attempts.AttemptId.{AttemptId}
+use Rattle.sc_ids.specs.declared.failures.FailureCause.{FailureCause}
+use Rattle.sc_ids.proofs.ChangeLemmas.{slice_get_change_other, slice_get_change_same}
+use Rattle.sc_taskset.specs.Offers.{handed}
+use Rattle.sc_taskset.specs.Reports.{after_end, after_failure, after_held, after_loss}
+use Rattle.sc_taskset.specs.TaskSetData.{TaskSetData}
+use Rattle.sc_tracker.specs.TrackerData.{TrackerData}
+use Rattle.sc_tracker.specs.Tracking.{after_executor_lost, after_gone}
+use Rattle.sc_tracker.specs.Trust.{is_live as is_live_executor, is_newer}
+use Rattle.sc_dag.specs.DagData.{DagData, StageState, dag_data, is_live_set, newest_at, newest_set, place_of_attempt, set_in, stage_at, with_attempts, with_set, with_state}
+use Rattle.sc_dag.specs.Laws.{GoesOn, OthersGoOn}
+use Rattle.sc_dag.specs.Losses.{after_lost, after_seen, without_executor}
+use Rattle.sc_dag.specs.Offers.{handed_out}
+use Rattle.sc_dag.specs.Outputs.{is_complete, is_complete_by, is_done_by, results_in}
+use Rattle.sc_dag.specs.Reports.{after_failed, after_hold, ended_in_own, failed_count}
+use Rattle.sc_dag.specs.Settled.{IsSettled, IsUnderWay, goes_on, goes_on_in, will_go_on}
+use Rattle.sc_dag.specs.Sound.{IsSoundDag}
+use Rattle.sc_dag.specs.Submission.{waiting_stages, waits_in}
+use Rattle.sc_dag.specs.declared.attempts.StageAttempt.{StageAttempt}
+use Rattle.std.proofs.Common.{◌≡◌, ◌⊎◌, inl, inr, ℕ, ◌+◌, ◌-◌, ◌<◌, ◌||◌, ◌&&◌, not, Bool, true, false, cond, if◌then◌else◌, List, [], ◌∷◌, count_by, find, length, map, Option, Some, None, option_map, slice_get, refl, ap, sym, subst, ◌∙◌, arith, rules, true≢false, zero-add}
+use Rattle.sc_ids.proofs.ChangeLemmas.{slice_get_change_same}
+use Rattle.sc_taskset.specs.Lookups.{are_finished, is_finished, is_task_of, is_there_and, task_at}
+use Rattle.sc_taskset.specs.TaskSetData.{TaskData, TaskSetData}
+use Rattle.sc_dag.specs.DagData.{StageState, is_live_set, newest_set, set_in, with_attempts, with_set}
+use Rattle.sc_dag.specs.Reports.{wants_in}
+use Rattle.sc_dag.specs.Submission.{is_idle_in, waits_in}
+use Rattle.sc_dag.specs.Settled.{goes_on_in}
 
 -- ---- items by their places
 
@@ -273,27 +161,6 @@ all_unmapped P f (x ∷ xs) a =
     All-cons (λ y. P (f y)) x xs (All-head P (f x) (map f xs) a)
     (all_unmapped P f xs (All-tail P (f x) (map f xs) a))
 
--- one of some numbers on which a test passes
-pub any_member :
-    (p : ℕ → Bool) (xs : List ℕ) → list_any p xs ≡ true
-    → (x : ℕ) × (is_in xs x ≡ true) × (p x ≡ true)
-any_member p [] e = absurd (true≢false (sym e))
-any_member p (x ∷ xs) e = by (p x) refl e (λ k. any_member p xs k)
-  where
-    itself : is_in (x ∷ xs) x ≡ true
-    itself = grind (arith, nat_tests)
-
-    or_true : (a b : Bool) → b ≡ true → (a || b) ≡ true
-    or_true true b e = refl
-    or_true false b e = e
-
-    by : (b : Bool) → p x ≡ b → (b || list_any p xs) ≡ true
-        → (list_any p xs ≡ true → (y : ℕ) × (is_in xs y ≡ true) × (p y ≡ true))
-        → (y : ℕ) × (is_in (x ∷ xs) y ≡ true) × (p y ≡ true)
-    by true b e f = (x, itself, b)
-    by false b e f =
-        let r = f e in (r.0, or_true (x == r.0) (is_in xs r.0) r.1, r.2)
-
 -- the first items, where one was changed
 pub take_change :
     {A : Type 0} (n : ℕ) (xs : List A) (i : ℕ) (f : A → A)
@@ -342,3 +209,38 @@ pub change_twice :
 change_twice [] i f g = refl
 change_twice (x ∷ xs) zero f g = refl
 change_twice (x ∷ xs) (suc i) f g = ap (λ ys. x ∷ ys) (change_twice xs i f g)
+
+-- ---- counts
+
+pub count_changed :
+    {A : Type 0} (p : A → Bool) (xs : List A) (i : ℕ) (f : A → A)
+    → ((x : A) → p (f x) ≡ p x) → count_by p (change_at xs i f) ≡ count_by p xs
+count_changed p [] i f h = refl
+count_changed p (x ∷ xs) zero f h =
+    sum_by-cons (λ y. cond (p y) 1 0) (f x) xs
+    ∙ ap (λ b. cond b 1 0 + count_by p xs) (h x)
+    ∙ sym (sum_by-cons (λ y. cond (p y) 1 0) x xs)
+count_changed p (x ∷ xs) (suc i) f h =
+    sum_by-cons (λ y. cond (p y) 1 0) x (change_at xs i f)
+    ∙ ap (λ n. cond (p x) 1 0 + n) (count_changed p xs i f h)
+    ∙ sym (sum_by-cons (λ y. cond (p y) 1 0) x xs)
+
+pub count_mapped :
+    {A : Type 0} (p : A → Bool) (xs : List A) (f : A → A)
+    → ((x : A) → p (f x) ≡ p x) → count_by p (map f xs) ≡ count_by p xs
+count_mapped p [] f h = refl
+count_mapped p (x ∷ xs) f h =
+    sum_by-cons (λ y. cond (p y) 1 0) (f x) (map f xs)
+    ∙ ap (λ b. cond b 1 0 + count_by p (map f xs)) (h x)
+    ∙ ap (λ n. cond (p x) 1 0 + n) (count_mapped p xs f h)
+    ∙ sym (sum_by-cons (λ y. cond (p y) 1 0) x xs)
+
+-- nothing is counted where the test fails on all
+pub count_none :
+    {A B : Type 0} (p : B → Bool) (f : A → B) (xs : List A) → ((x : A) → p (f x) ≡ false)
+    → count_by p (map f xs) ≡ 0
+count_none p f [] h = refl
+count_none p f (x ∷ xs) h =
+    sum_by-cons (λ y. cond (p y) 1 0) (f x) (map f xs)
+    ∙ ap (λ b. cond b 1 0 + count_by p (map f xs)) (h x)
+    ∙ (zero-add (count_by p (map f xs)) ∙ count_none p f xs h)
