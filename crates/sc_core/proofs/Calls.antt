@@ -21,8 +21,8 @@ use Rattle.sc_dag.specs.Losses.{after_seen}
 use Rattle.sc_dag.specs.Outputs.{has_inputs, is_complete, results_in}
 use Rattle.sc_dag.specs.Reports.{CompletesMap, FailsStage, after_failed, after_hold, after_map_success, after_result_success, block_by, completed, completed_if, ended_in_own, in_own_set, is_of_newest, is_repeat, registered_by, succeeded_in_both, succeeded_in_own, with_failed, with_output, with_result}
 use Rattle.sc_dag.specs.Submission.{IsSubmitted, as_waiting, by_number, moved_if, started, waiting_stages}
-use Rattle.sc_dag.proofs.Basics.{by_number_at}
-use Rattle.sc_dag.proofs.Submitting.{results_after}
+use Rattle.sc_dag.proofs.Items.{by_number_at}
+use Rattle.sc_dag.proofs.Moving.{results_after}
 use Rattle.sc_core.proofs.Moves.{Calm, Moves, SameResults, calm_then, moves_then, results_then, state_calm, state_moves, state_results, states_calm, still, tracker_calm}
 use Rattle.sc_core.proofs.Sets.{MovesIn, end_ends, failure_ends, hold_calm, is_copy_of, nothing, success_calm, success_ends}
 use Rattle.sc_core.proofs.States.{MovesOf, attempt_moves, calm_same, completed_calm, failed_calm, is_number_of, newest_calm, result_calm, started_calm, waiting_calm}

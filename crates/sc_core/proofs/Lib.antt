@@ -17,3 +17,4 @@ pub mod Limits
 pub mod AgreeingTakes
 pub mod Agreeing
 pub mod Opening
+pub mod Proved

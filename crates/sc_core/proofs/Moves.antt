@@ -12,7 +12,6 @@ use Rattle.sc_dag.specs.DagData.{DagData, StageState, with_state, with_states, w
 use Rattle.sc_dag.specs.Outputs.{results_in}
 use Rattle.sc_dag.specs.Sound.{attempts_in, attempts_of, runner_of}
 use Rattle.sc_dag.specs.Submission.{by_number}
-use Rattle.sc_dag.proofs.Basics.{by_number_at}
 use Rattle.sc_core.specs.Sound.{IsUnheld}
 use Rattle.sc_core.proofs.Sets.{nothing}
 use Rattle.sc_core.proofs.States.{MovesOf, calm_same, is_number_of, runs_in}

@@ -21,7 +21,7 @@ use Rattle.sc_dag.specs.Outputs.{is_complete, is_complete_by, is_done_by, result
 use Rattle.sc_dag.specs.Settled.{IsSettled, IsSettledBy, IsUnderWay, will_go_on}
 use Rattle.sc_dag.specs.Sound.{IsSoundDag, attempts_in, runner_of}
 use Rattle.sc_dag.specs.Submission.{is_map, this_stage, waiting_stages}
-use Rattle.sc_dag.proofs.Basics.{any_mono}
+use Rattle.sc_dag.proofs.Tests.{any_mono}
 use Rattle.sc_core.specs.CoreData.{CoreData, is_running_job, job_runs, result_stage, running_of}
 use Rattle.sc_core.specs.Laws.{OpeningsAreSound}
 use Rattle.sc_core.specs.Openings.{IsOpening, tracker_behind}
@@ -53,30 +53,6 @@ blank_dead last n [] s = refl
 blank_dead last n (stage ∷ stages) zero = refl
 blank_dead last n (stage ∷ stages) (suc s) = blank_dead last (n + 1) stages s
 
-blank_results : (last : Option DagData) (n : ℕ) (stages : List StageData) (s : ℕ)
-    (stage : StageData) → slice_get stages s ≡ Some stage
-    → results_in (slice_get (blank_states last n stages) s)
-    ≡ replicate (if is_map stage.target then 0 else stage.tasks) false
-blank_results last n [] s stage e = absurd (search (rules, e))
-blank_results last n (x ∷ stages) zero stage e =
-    let same : x ≡ stage = search (rules, e) in
-    ap (λ (y : StageData). replicate (if is_map y.target then 0 else y.tasks) false) same
-blank_results last n (x ∷ stages) (suc s) stage e = blank_results last (n + 1) stages s stage e
-
--- a stage of results that has a task isn't complete, where it has no result
-blank_lacks : (t : TrackerData) (stage : StageData) → is_map stage.target ≡ false
-    → 0 < stage.tasks
-    → is_complete_by t stage (replicate (if is_map stage.target then 0 else stage.tasks) false)
-    ≡ false
-blank_lacks t stage kind some = by stage.target kind stage.tasks some
-  where
-    by : (target : Target) → is_map target ≡ false → (tasks : ℕ) → 0 < tasks
-        → list_all (is_done_by t target
-        (replicate (if is_map target then 0 else tasks) false)) (numbers_below tasks) ≡ false
-    by (targets.Map shuffle) e tasks lt = absurd (true≢false e)
-    by (targets.Result node) e zero lt = absurd (omega (arith, lt))
-    by (targets.Result node) e (suc n) lt = refl
-
 -- ---- the stages of a job
 
 number_of_last : (maps : List StageData) (result : StageData)
@@ -92,23 +68,21 @@ at_or_found (y ∷ ys) zero x d e = search (rules, e)
 at_or_found (y ∷ ys) (suc i) x d e = at_or_found ys i x d e
 
 -- what is known of the stages of a job that begins
-record Begins (graph : List StageData) (d : DagData) : Type 0 where
-  result : StageData
-  at : slice_get d.stages (result_stage d) ≡ Some result
-  kind : is_map result.target ≡ false
-  some : 0 < result.tasks
+record Begins (d : DagData) (result : StageData) : Type 0 where
+  number : result_stage d ≡ result.id
+  at : stage_at d (result_stage d) ≡ result
   maps : (s : ℕ) → s ≢ result_stage d
       → (is_map (stage_at d s).target ≡ true) ⊎ (stage_at d s ≡ no_stage)
 
 begins : (graph : List StageData) (last : Option DagData) (t : TrackerData) (d : DagData)
-    → IsJob graph → Opens graph last t d → Begins graph d
+    → (job : IsJob graph) → Opens graph last t d → Begins d job.result
 begins graph last t d job opens =
     record {
-      result = job.result;
-      at = rw number (All-contains (λ x. slice_get d.stages x.id ≡ Some x) graph job.result
-          opens.numbered.each is_one);
-      kind = job.is_result;
-      some = job.some;
+      number = number;
+      at = at_or_found d.stages (result_stage d) job.result no_stage
+          (subst (λ (s : ℕ). slice_get d.stages s ≡ Some job.result) (sym number)
+          (All-contains (λ x. slice_get d.stages x.id ≡ Some x) graph job.result
+          opens.numbered.each is_one));
       maps = maps;
     }
   where
@@ -192,8 +166,7 @@ pub openings_are_sound :
 openings_are_sound calls opening settles graph limits saved last c job fits sound o =
     record {
       dag = (calls d first.0).0 (this_stage (result_stage d)) c.dag o.submits;
-      result = rw (calm.stages, at_or_found d.stages (result_stage d) begin.result no_stage begin.at)
-          begin.kind;
+      result = rw (calm.stages, begin.at) job.is_result;
       maps = rw calm.stages begin.maps;
       running = subst (λ rs. All (RunsWell c) rs) (sym o.running)
           (λ i r l. absurd (omega (arith, l)));
@@ -215,11 +188,11 @@ openings_are_sound calls opening settles graph limits saved last c job fits soun
     d : DagData
     d = o.dag
 
-    begin : Begins graph o.dag
+    begin : Begins o.dag job.result
     begin =
         begins graph (option_map (λ l. l.dag) last) (tracker_behind last limits) o.dag job o.opens
 
-    first : IsSoundDag o.dag × IsSettled o.dag
+    first : IsSoundDag o.dag × IsSettled o.dag × (is_complete o.dag job.result.id ≡ false)
     first =
         opening graph (option_map (λ l. l.dag) last) (tracker_behind last limits) o.dag job fits
         (behind_sound last limits sound) o.opens
@@ -251,15 +224,7 @@ openings_are_sound calls opening settles graph limits saved last c job fits soun
         ∙ blank_dead before 0 o.dag.stages s
 
     lacks : is_complete o.dag (result_stage o.dag) ≡ false
-    lacks =
-        ap (λ (stage : StageData). is_complete_by o.dag.tracker stage
-        (results_in (slice_get o.dag.states (result_stage o.dag))))
-        (at_or_found o.dag.stages (result_stage o.dag) begin.result no_stage begin.at)
-        ∙ ap (λ (rs : List Bool). is_complete_by o.dag.tracker begin.result rs)
-        (ap (λ (states : List StageState). results_in (slice_get states (result_stage o.dag)))
-        o.opens.states
-        ∙ blank_results before 0 o.dag.stages (result_stage o.dag) begin.result begin.at)
-        ∙ blank_lacks o.dag.tracker begin.result begin.kind begin.some
+    lacks = subst (λ (s : ℕ). is_complete o.dag s ≡ false) (sym begin.number) first.2
 
     itself : this_stage (result_stage o.dag) (result_stage o.dag) ≡ true
     itself = grind (arith, nat_tests)

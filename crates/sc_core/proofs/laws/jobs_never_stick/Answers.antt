@@ -1,8 +1,10 @@
+use Rattle.sc_dag.proofs.Stuck.{nothing_is_stuck}
+use Rattle.sc_core.proofs.Spending.{steps_are_spent}
 use Rattle.sc_core.proofs.Waiting.{waits_have_cause}
 use Rattle.sc_core.proofs.laws.jobs_never_stick.Goals as goal
 
 pub returns-clause-waits : goal.returns-clause-waits
-returns-clause-waits c = waits_have_cause ?
+returns-clause-waits c = waits_have_cause nothing_is_stuck
 
 pub returns-clause-spent : goal.returns-clause-spent
-returns-clause-spent c = ?
+returns-clause-spent c = steps_are_spent
