@@ -59,9 +59,11 @@ fails_agree one d x y s number verdicts.Limit verdicts.Again sound (e, a) (f, b)
     absurd (clash e f)
 fails_agree one d x y s number verdicts.Again verdicts.Limit sound (e, a) (f, b) =
     absurd (clash f e)
-fails_agree one d x y s number verdicts.Again verdicts.Again sound (e, a) (f, b) =
-    (refl, one (with_state d s (with_failed number)) x y (this_stage s)
-    (with_failed_sound d s number sound) a b)
+fails_agree one d x y s number verdicts.Again verdicts.Again sound (e, a) (f, b) = (
+  refl,
+  one (with_state d s (with_failed number)) x y (this_stage s)
+      (with_failed_sound d s number sound) a b,
+)
 
 -- what follows a map success
 follows_agree :

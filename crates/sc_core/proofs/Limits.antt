@@ -325,11 +325,15 @@ task_limits_are_reached steps c after a outcome stage number p sound step =
     limit true d cause same e (told, is) =
         let s : stage ≡ a.stage = search (rules, told) in
         let k : number ≡ a.stage_attempt = search (rules, told) in
-        let q : p ≡ a.partition = search (rules, told) in
-        (s, k, q, subst (λ (n : ℕ). HasFailedOften (set_of after.dag a) n) (sym q)
-        (full_fails after a a.partition after_sound
-        (ap (λ (x : CoreData). is_full (set_of x.dag a) a.partition) is
-        ∙ failure_full d a cause (rw same e))))
+        let q : p ≡ a.partition = search (rules, told) in (
+          s,
+          k,
+          q,
+          subst (λ (n : ℕ). HasFailedOften (set_of after.dag a) n) (sym q)
+              (full_fails after a a.partition after_sound
+              (ap (λ (x : CoreData). is_full (set_of x.dag a) a.partition) is
+              ∙ failure_full d a cause (rw same e))),
+        )
     limit false d cause same e h =
         absurd (no_cause (after_failure d a cause) after a cause (is_zombie_in (set_of d.dag a))
         stage number p h)

@@ -94,9 +94,11 @@ begins graph last t d job opens =
 
     is_one : Contains graph job.result
     is_one =
-        subst (λ xs. Contains xs job.result) (sym job.all)
-        (length job.maps, omega (arith, length-append job.maps (job.result ∷ [])),
-        get_or-append_seam job.maps job.result [] job.result)
+        subst (λ xs. Contains xs job.result) (sym job.all) (
+          length job.maps,
+          omega (arith, length-append job.maps (job.result ∷ [])),
+          get_or-append_seam job.maps job.result [] job.result,
+        )
 
     kinds : All (λ x. (is_map x.target ≡ true) ⊎ (x ≡ job.result)) graph
     kinds =

@@ -215,7 +215,7 @@ told_less c after a runs left =
     let many : length after.running ≡ length (taken_off c a).running =
     ap (λ (rs : List Running). length rs) left.running in
     let same : 2 * (after.dag.limits.hand_outs - after.handed)
-        ≡ 2 * (c.dag.limits.hand_outs - c.handed) =
+    ≡ 2 * (c.dag.limits.hand_outs - c.handed) =
     ap (λ (limits : Limits). 2 * (limits.hand_outs - after.handed)) left.limits
     ∙ ap (λ (n : ℕ). 2 * (c.dag.limits.hand_outs - n)) left.handed in
     omega (arith, less, many, same)

@@ -133,9 +133,12 @@ task_sound c exec h calls others sound asks out below =
     other r w false e = refl
     other r w true e =
         let same : h.attempt ≡ r.hand_out.attempt = same_is h.attempt r.hand_out.attempt e in
-        absurd (search (rules, w.in_set,
-        subst (λ b. runner_of c.dag b ≡ None) same
-        (offered_new c.dag exec h.attempt o out.offer.newest)))
+        absurd (search (
+          rules,
+          w.in_set,
+          subst (λ b. runner_of c.dag b ≡ None) same
+              (offered_new c.dag exec h.attempt o out.offer.newest),
+        ))
 
     runs : (r : Running) → RunsWell c r → RunsWell after r
     runs r w =
