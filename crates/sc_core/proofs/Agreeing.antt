@@ -1,5 +1,5 @@
 -- An event has one answer in a state, and leaves one state; so a journal leaves one.
-use Rattle.std.proofs.Common.{◌≡◌, ◌≢◌, ℕ, ◌==◌, ◌&&◌, not, Bool, true, false, cond, if◌then◌else◌, List, [], ◌∷◌, Option, Some, None, slice_get, refl, ap, sym, subst, ◌∙◌, arith, rules, true≢false}
+use Rattle.std.proofs.Common.{◌≡◌, ℕ, ◌==◌, ◌&&◌, not, Bool, true, false, [], ◌∷◌, Option, Some, None, slice_get, refl, ap, sym, subst, ◌∙◌, arith}
 use Rattle.std.proofs.lemmas.Bool.Decides.{nat_tests}
 use Rattle.sc_ids.specs.declared.attempts.AttemptId.{AttemptId}
 use Rattle.sc_ids.specs.declared.blocks.Loc.{Loc}
@@ -13,20 +13,19 @@ use Rattle.sc_dag.specs.DagData.{DagData, stage_at, with_state}
 use Rattle.sc_dag.specs.Laws.{CallsKeepSound, OthersGoOn, SubmissionsAgree}
 use Rattle.sc_dag.specs.Losses.{after_seen}
 use Rattle.sc_dag.specs.Outputs.{is_complete}
-use Rattle.sc_dag.specs.Reports.{CompletesMap, FailsStage, after_failed, after_map_success, completed, has_failed_often, is_finished_short, is_of_newest, map_success_of, reaches_limit_in, set_of, with_failed}
-use Rattle.sc_dag.specs.Sound.{IsSoundDag, runner_of}
+use Rattle.sc_dag.specs.Reports.{CompletesMap, FailsStage, after_failed, after_map_success, completed, is_finished_short, is_of_newest, map_success_of, reaches_limit_in, set_of, with_failed}
+use Rattle.sc_dag.specs.Sound.{IsSoundDag}
 use Rattle.sc_dag.specs.Submission.{is_map, this_stage, waiting_stages}
 use Rattle.sc_dag.specs.declared.reports.Success.{Success}
 use Rattle.sc_dag.specs.declared.reports.Success.TheVariants as successes
 use Rattle.sc_dag.proofs.Keeping.{completed_sound, with_failed_sound}
-use Rattle.sc_core.specs.CoreData.{CoreData, ended, is_of, job_runs, running_of, taken_off, with_dag}
+use Rattle.sc_core.specs.CoreData.{CoreData, job_runs, running_of, taken_off, with_dag}
 use Rattle.sc_core.specs.Journals.{Replays}
 use Rattle.sc_core.specs.Laws.{ReplaysAgree, StepsAgree, StepsKeepSound}
-use Rattle.sc_core.specs.Posts.{Posts, PostsIf, PostsOf, fits}
-use Rattle.sc_core.specs.Sound.{IsSoundCore, RunsWell}
-use Rattle.sc_core.specs.Tells.{FailsBy, FailsOrAborts, FollowsUp, IsGone, LooksAgain, Misses, MissesIf, Tells, TellsFailure, TellsFailureIf, TellsMap, TellsResult, after_failure, is_zombie_in, released, success_answer}
+use Rattle.sc_core.specs.Posts.{PostsIf, PostsOf, fits}
+use Rattle.sc_core.specs.Sound.{RunsWell}
+use Rattle.sc_core.specs.Tells.{FailsBy, FailsOrAborts, FollowsUp, IsGone, LooksAgain, Misses, MissesIf, Tells, TellsFailure, TellsFailureIf, TellsMap, after_failure, is_zombie_in}
 use Rattle.sc_core.specs.declared.answers.Answer.{Answer}
-use Rattle.sc_core.specs.declared.entries.Entry.{Entry}
 use Rattle.sc_core.specs.declared.events.Event.TheVariants.{Post, Take}
 use Rattle.sc_core.specs.declared.events.Outcome.{Outcome}
 use Rattle.sc_core.specs.declared.events.Outcome.TheVariants as outcomes

@@ -1,5 +1,5 @@
 -- An executor that asks has one answer, which leaves one state.
-use Rattle.std.proofs.Common.{◌≡◌, ◌≢◌, ◌⊎◌, inl, inr, ℕ, ◌+◌, ◌-◌, ◌<◌, ◌≤◌, ◌==◌, ◌&&◌, ◌||◌, not, nat_lt, Bool, true, false, cond, if◌then◌else◌, List, [], ◌∷◌, Option, Some, None, refl, ap, sym, subst, ◌∙◌, arith, rules, true≢false}
+use Rattle.std.proofs.Common.{◌≡◌, inl, inr, ℕ, nat_lt, Bool, true, false, Option, Some, None, refl, ap, sym, subst, ◌∙◌, arith, rules}
 use Rattle.std.proofs.lemmas.Bool.Decides.{nat_tests}
 use Rattle.sc_ids.specs.declared.attempts.AttemptId.{AttemptId}
 use Rattle.sc_taskset.specs.Offers.{IsNever, IsNext, IsSmallest, Offers, is_copyable, is_pending}
@@ -10,11 +10,9 @@ use Rattle.sc_dag.specs.DagData.{DagData, newest_at}
 use Rattle.sc_dag.specs.Offers.{HasNone, IsOffer, OffersIn, given_of, newest_number}
 use Rattle.sc_core.specs.CoreData.{CoreData}
 use Rattle.sc_core.specs.HandOuts.{HandOutData, inputs_of}
-use Rattle.sc_core.specs.Takes.{IsAsking, IsHandOut, Takes, with_task}
-use Rattle.sc_core.specs.declared.answers.Abort.TheVariants as aborts
+use Rattle.sc_core.specs.Takes.{IsHandOut, Takes}
 use Rattle.sc_core.specs.declared.answers.Answer.{Answer}
-use Rattle.sc_core.specs.declared.answers.Answer.TheVariants as says
-use Rattle.sc_core.proofs.Lookups.{attempt, clash}
+use Rattle.sc_core.proofs.Lookups.{clash}
 
 -- two smallest partitions are one
 smallest_agree : (test : ℕ → Bool) (p q : ℕ) → IsSmallest test p → IsSmallest test q → p ≡ q

@@ -1,7 +1,5 @@
 -- What each call of the stages does to the attempts that run.
-use Rattle.std.proofs.Common.{◌≡◌, ◌≢◌, ℕ, zero, suc, ◌+◌, ◌==◌, ◌&&◌, not, All, Bool, true, false, cond, if◌then◌else◌, List, [], ◌∷◌, map, Option, Some, None, option_map, slice_get, refl, ap, sym, subst, ◌∙◌, arith, rules, true≢false}
-use Rattle.std.proofs.lemmas.Bool.Decides.{nat_tests}
-use Rattle.sc_base.specs.Lists.{at_or}
+use Rattle.std.proofs.Common.{◌≡◌, ℕ, zero, suc, ◌+◌, ◌==◌, Bool, true, false, if◌then◌else◌, List, [], ◌∷◌, map, Option, Some, None, option_map, slice_get, refl, sym, subst}
 use Rattle.sc_ids.specs.Changes.{change_at}
 use Rattle.sc_ids.specs.declared.attempts.AttemptId.{AttemptId}
 use Rattle.sc_ids.specs.declared.blocks.BlockId.{BlockId}
@@ -9,23 +7,23 @@ use Rattle.sc_ids.specs.declared.blocks.Loc.{Loc}
 use Rattle.sc_ids.specs.declared.failures.FailureCause.{FailureCause}
 use Rattle.sc_commit.specs.Committing.{is_same}
 use Rattle.sc_taskset.specs.Reports.{after_end, after_failure, after_held, after_success}
-use Rattle.sc_tracker.specs.TrackerData.{TrackerData, tracker_data, trust_of}
-use Rattle.sc_tracker.specs.Tracking.{after_gone, is_bogus, with_forgotten_on}
-use Rattle.sc_tracker.specs.Trust.{is_newer, seen_at, trust_at, untold}
+use Rattle.sc_tracker.specs.TrackerData.{tracker_data}
+use Rattle.sc_tracker.specs.Tracking.{is_bogus, with_forgotten_on}
+use Rattle.sc_tracker.specs.Trust.{is_newer, seen_at, trust_at}
 use Rattle.sc_tracker.specs.declared.trust.Trust.{Trust}
 use Rattle.sc_taskset.specs.TaskSetData.{TaskSetData}
 use Rattle.sc_taskset.specs.declared.tasks.Verdict.{Verdict}
 use Rattle.sc_taskset.specs.declared.tasks.Verdict.TheVariants as verdicts
-use Rattle.sc_dag.specs.DagData.{DagData, StageState, attempt_in, changed_newest, changed_set, place_of_attempt, stage_at, with_set, with_state, with_states, with_tracker}
+use Rattle.sc_dag.specs.DagData.{DagData, StageState, changed_newest, changed_set, stage_at, with_set, with_state, with_tracker}
 use Rattle.sc_dag.specs.Losses.{after_seen}
-use Rattle.sc_dag.specs.Outputs.{has_inputs, is_complete, results_in}
+use Rattle.sc_dag.specs.Outputs.{has_inputs, is_complete}
 use Rattle.sc_dag.specs.Reports.{CompletesMap, FailsStage, after_failed, after_hold, after_map_success, after_result_success, block_by, completed, completed_if, ended_in_own, in_own_set, is_of_newest, is_repeat, registered_by, succeeded_in_both, succeeded_in_own, with_failed, with_output, with_result}
 use Rattle.sc_dag.specs.Submission.{IsSubmitted, as_waiting, by_number, moved_if, started, waiting_stages}
 use Rattle.sc_dag.proofs.Items.{by_number_at}
 use Rattle.sc_dag.proofs.Moving.{results_after}
-use Rattle.sc_core.proofs.Moves.{Calm, Moves, SameResults, calm_then, moves_then, results_then, state_calm, state_moves, state_results, states_calm, still, tracker_calm}
+use Rattle.sc_core.proofs.Moves.{Calm, Moves, SameResults, calm_then, moves_then, results_then, state_calm, state_moves, state_results, states_calm, tracker_calm}
 use Rattle.sc_core.proofs.Sets.{MovesIn, end_ends, failure_ends, hold_calm, is_copy_of, nothing, success_calm, success_ends}
-use Rattle.sc_core.proofs.States.{MovesOf, attempt_moves, calm_same, completed_calm, failed_calm, is_number_of, newest_calm, result_calm, started_calm, waiting_calm}
+use Rattle.sc_core.proofs.States.{MovesOf, attempt_moves, calm_same, completed_calm, failed_calm, newest_calm, result_calm, started_calm, waiting_calm}
 
 -- ---- submissions
 

@@ -1,8 +1,8 @@
 -- A job ends as it says: whole, or for as many failures as are allowed.
-use Rattle.std.proofs.Common.{◌≡◌, ◌≢◌, ℕ, zero, suc, ◌+◌, ◌-◌, ◌<◌, ◌≤◌, ◌==◌, ◌&&◌, not, All, AllPairs, Bool, true, false, cond, if◌then◌else◌, List, [], ◌∷◌, ◌++◌, length, nat_le, nat_lt, Option, Some, None, option_map, slice_get, refl, ap, sym, subst, ◌∙◌, arith, rules, true≢false, length-append}
+use Rattle.std.proofs.Common.{◌≡◌, ◌≢◌, ℕ, zero, suc, ◌+◌, ◌-◌, ◌<◌, ◌≤◌, ◌==◌, ◌&&◌, not, All, Bool, true, false, if◌then◌else◌, List, [], ◌∷◌, length, nat_le, nat_lt, Option, Some, None, option_map, slice_get, refl, ap, sym, subst, ◌∙◌, arith, rules, true≢false, length-append}
 use Rattle.std.specs.List.{list_all}
 use Rattle.std.proofs.lemmas.Bool.Decides.{nat_tests}
-use Rattle.sc_base.specs.Lists.{numbers_below, numbers_from}
+use Rattle.sc_base.specs.Lists.{numbers_from}
 use Rattle.sc_ids.specs.Changes.{change_at}
 use Rattle.sc_ids.specs.declared.attempts.AttemptId.{AttemptId}
 use Rattle.sc_ids.specs.declared.failures.FailureCause.{FailureCause}
@@ -10,22 +10,20 @@ use Rattle.sc_ids.specs.declared.failures.FailureCause.TheVariants as causes
 use Rattle.sc_ids.proofs.ChangeLemmas.{length_change_at, slice_get_change_other, slice_get_change_same}
 use Rattle.sc_commit.specs.Committers.{committer_at}
 use Rattle.sc_commit.specs.Committing.{holds}
-use Rattle.sc_commit.specs.declared.committers.Ending.TheVariants as endings
-use Rattle.sc_taskset.specs.Lookups.{has_task_and, is_running, is_task_of, is_there_and, task_at, with_task}
+use Rattle.sc_taskset.specs.Lookups.{is_task_of, is_there_and, task_at, with_task}
 use Rattle.sc_taskset.specs.Reports.{after_held, ended_task, failed_task, held_task, is_counted_in, is_failure, is_last_failure, noted_task, reaches_limit}
 use Rattle.sc_taskset.specs.Reports as taskset
-use Rattle.sc_taskset.specs.Sound.{IsSoundSet, IsSoundTask}
+use Rattle.sc_taskset.specs.Sound.{IsSoundTask}
 use Rattle.sc_taskset.specs.TaskSetData.{TaskData, TaskSetData}
 use Rattle.sc_taskset.specs.declared.tasks.Verdict.{Verdict}
 use Rattle.sc_taskset.specs.declared.tasks.Verdict.TheVariants as verdicts
 use Rattle.sc_taskset.proofs.ChangeLemmas.{find_changed, find_other}
 use Rattle.sc_taskset.proofs.FindLemmas.{found_is}
 use Rattle.sc_tracker.specs.Trust.{is_newer}
-use Rattle.sc_dag.specs.DagData.{DagData, StageState, attempt_in, changed_newest, changed_set, place_of_attempt, set_in, stage_at, with_attempts, with_set}
+use Rattle.sc_dag.specs.DagData.{DagData, StageState, changed_newest, changed_set, place_of_attempt, set_in, stage_at, with_set}
 use Rattle.sc_dag.specs.Losses.{after_seen}
 use Rattle.sc_dag.specs.Outputs.{is_complete, is_done}
-use Rattle.sc_dag.specs.Reports.{FailsStage, after_failed, after_hold, in_own_set, is_of_newest, map_success_of, reaches_limit_in, result_success_of, set_of}
-use Rattle.sc_dag.specs.Sound.{attempts_in}
+use Rattle.sc_dag.specs.Reports.{after_failed, after_hold, in_own_set, is_of_newest, map_success_of, reaches_limit_in, result_success_of, set_of}
 use Rattle.sc_dag.specs.declared.attempts.StageAttempt.{StageAttempt}
 use Rattle.sc_dag.specs.declared.reports.Success.{Success}
 use Rattle.sc_dag.specs.declared.reports.Success.TheVariants as successes
@@ -33,9 +31,8 @@ use Rattle.sc_core.specs.CoreData.{CoreData, job_runs, result_stage, running_of,
 use Rattle.sc_core.specs.Laws.{DoneJobsAreWhole, HasFailedOften, StepsKeepSound, TaskLimitsAreReached}
 use Rattle.sc_core.specs.Posts.{PostsIf, PostsOf}
 use Rattle.sc_core.specs.Sound.{IsSoundCore}
-use Rattle.sc_core.specs.Tells.{FailsBy, FailsOrAborts, IsGone, Misses, MissesIf, Tells, TellsFailureIf, after_failure, is_zombie_in, limit_of, success_answer}
+use Rattle.sc_core.specs.Tells.{FailsBy, FailsOrAborts, IsGone, Misses, MissesIf, Tells, TellsFailureIf, after_failure, is_zombie_in, success_answer}
 use Rattle.sc_core.specs.declared.answers.Abort.TheVariants.{TaskLimit}
-use Rattle.sc_core.specs.declared.answers.Answer.{Answer}
 use Rattle.sc_core.specs.declared.answers.Answer.TheVariants as says
 use Rattle.sc_core.specs.declared.events.Event.TheVariants.{Post}
 use Rattle.sc_core.specs.declared.events.Outcome.{Outcome}

@@ -1,5 +1,5 @@
 -- Attempts by their numbers, and tests on them.
-use Rattle.std.proofs.Common.{◌≡◌, ◌≢◌, ℕ, ◌+◌, ◌-◌, ◌<◌, ◌==◌, ◌&&◌, not, All, Bool, true, false, cond, if◌then◌else◌, List, [], ◌∷◌, length, Option, Some, None, slice_get, nat_lt, refl, ap, sym, subst, ◌∙◌, arith, rules, true≢false}
+use Rattle.std.proofs.Common.{◌≡◌, ℕ, ◌+◌, ◌-◌, ◌&&◌, not, All, Bool, true, false, if◌then◌else◌, length, Option, Some, None, slice_get, nat_lt, refl, ap, sym, subst, ◌∙◌, arith, rules, true≢false}
 use Rattle.std.proofs.lemmas.Bool.Decides.{nat_tests}
 use Rattle.std.proofs.lemmas.Option.{get_or_from_slice_get, slice_get_within}
 use Rattle.sc_commit.specs.Committing.{is_same}
@@ -8,7 +8,7 @@ use Rattle.sc_taskset.specs.TaskSetData.{TaskSetData}
 use Rattle.sc_dag.specs.DagData.{DagData, StageState, attempt_in, newest_at, newest_set, place_of_attempt, set_in}
 use Rattle.sc_dag.specs.Offers.{newest_number, number_in}
 use Rattle.sc_dag.specs.Reports.{set_of}
-use Rattle.sc_dag.specs.Sound.{attempts_in, runner_in, runner_of}
+use Rattle.sc_dag.specs.Sound.{attempts_in}
 use Rattle.sc_dag.specs.declared.attempts.StageAttempt.{StageAttempt}
 
 pub clash : {b : Bool} → b ≡ true → b ≡ false → ⊥

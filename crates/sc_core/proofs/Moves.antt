@@ -1,17 +1,14 @@
 -- What a change of the stages of a job does to the attempts that run.
-use Rattle.std.proofs.Common.{◌≡◌, ◌≢◌, ℕ, ◌==◌, ◌&&◌, not, All, Bool, true, false, cond, if◌then◌else◌, List, [], ◌∷◌, Option, Some, None, option_map, slice_get, refl, ap, sym, subst, ◌∙◌, arith, rules, true≢false}
+use Rattle.std.proofs.Common.{◌≡◌, ℕ, ◌==◌, ◌&&◌, All, Bool, true, false, if◌then◌else◌, List, Option, Some, None, option_map, slice_get, refl, ap, subst, ◌∙◌, arith}
 use Rattle.std.proofs.lemmas.Bool.Decides.{nat_tests}
 use Rattle.sc_ids.specs.Changes.{change_at}
-use Rattle.sc_ids.specs.Graphs.{StageData}
 use Rattle.sc_ids.specs.declared.attempts.AttemptId.{AttemptId}
-use Rattle.sc_ids.specs.declared.limits.Limits.{Limits}
 use Rattle.sc_ids.proofs.ChangeLemmas.{slice_get_change_other, slice_get_change_same}
 use Rattle.sc_commit.specs.Committing.{is_same}
 use Rattle.sc_tracker.specs.TrackerData.{TrackerData, trust_of}
 use Rattle.sc_dag.specs.DagData.{DagData, StageState, with_state, with_states, with_tracker}
 use Rattle.sc_dag.specs.Outputs.{results_in}
 use Rattle.sc_dag.specs.Sound.{attempts_in, attempts_of, runner_of}
-use Rattle.sc_dag.specs.Submission.{by_number}
 use Rattle.sc_core.specs.Sound.{IsUnheld}
 use Rattle.sc_core.proofs.Sets.{nothing}
 use Rattle.sc_core.proofs.States.{MovesOf, calm_same, is_number_of, runs_in}

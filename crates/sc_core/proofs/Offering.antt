@@ -1,20 +1,18 @@
 -- A task that is handed out runs then, and what ran before runs on.
-use Rattle.std.proofs.Common.{◌≡◌, ◌≢◌, ◌⊎◌, inl, inr, ℕ, zero, suc, ◌+◌, ◌-◌, ◌<◌, ◌==◌, ◌&&◌, ◌||◌, not, All, Bool, true, false, cond, if◌then◌else◌, List, [], ◌∷◌, length, Option, Some, None, option_map, slice_get, refl, ap, sym, subst, ◌∙◌, arith, rules, true≢false}
-use Rattle.std.proofs.lemmas.Bool.Decides.{nat_tests}
+use Rattle.std.proofs.Common.{◌≡◌, inl, inr, ℕ, ◌-◌, ◌&&◌, ◌||◌, not, All, Bool, true, false, length, Option, Some, None, slice_get, refl, ap, sym, subst, ◌∙◌, rules, true≢false}
 use Rattle.sc_ids.specs.Changes.{change_at}
 use Rattle.sc_ids.specs.declared.attempts.AttemptId.{AttemptId}
 use Rattle.sc_commit.specs.Committing.{is_same}
-use Rattle.sc_taskset.specs.Lookups.{has_task_and, is_task_of, is_there_and, task_at}
-use Rattle.sc_taskset.specs.Offers as taskset
-use Rattle.sc_taskset.specs.Offers.{IsNext, given_in, handed, is_copyable, is_copyable_task, is_pending, is_pending_task, may_be_given}
-use Rattle.sc_taskset.specs.Sound.{IsSoundSet, IsSoundTask}
+use Rattle.sc_taskset.specs.Lookups.{is_task_of, is_there_and, task_at}
+use Rattle.sc_taskset.specs.Offers.{IsNext, given_in, handed, is_copyable_task, is_pending, is_pending_task, may_be_given}
+use Rattle.sc_taskset.specs.Sound.{IsSoundTask}
 use Rattle.sc_taskset.specs.TaskSetData.{TaskData, TaskSetData}
 use Rattle.sc_taskset.proofs.FindLemmas.{found_is}
-use Rattle.sc_dag.specs.DagData.{DagData, StageState, attempt_in, changed_newest, newest_at, newest_set, place_of_attempt, set_in, with_attempts, with_set}
+use Rattle.sc_dag.specs.DagData.{DagData, StageState, attempt_in, changed_newest, newest_at, place_of_attempt, set_in, with_attempts, with_set}
 use Rattle.sc_dag.specs.Offers.{IsOffer, OffersIn, given_of, handed_out, may_be_given_in, newest_number, number_in}
-use Rattle.sc_dag.specs.Sound.{IsAttemptOf, IsSoundDag, attempts_in, attempts_of, runner_in, runner_of}
+use Rattle.sc_dag.specs.Sound.{IsSoundDag}
 use Rattle.sc_dag.specs.declared.attempts.StageAttempt.{StageAttempt}
-use Rattle.sc_core.proofs.Lookups.{both_left, both_right, newest_among, newest_place, set_of_newest}
+use Rattle.sc_core.proofs.Lookups.{newest_among, newest_place}
 use Rattle.sc_core.proofs.Moves.{Moves, state_moves}
 use Rattle.sc_core.proofs.Sets.{MovesIn, handed_moves, is_copy_of}
 use Rattle.sc_core.proofs.States.{MovesOf, attempt_moves, is_number_of}

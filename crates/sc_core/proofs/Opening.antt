@@ -1,33 +1,29 @@
 -- The core of a job that begins is sound.
-use Rattle.std.proofs.Common.{◌≡◌, ◌≢◌, ◌⊎◌, inl, inr, ℕ, zero, suc, ◌+◌, ◌-◌, ◌*◌, ◌<◌, ◌≤◌, ◌==◌, ◌&&◌, ◌||◌, not, All, Bool, true, false, cond, if◌then◌else◌, List, [], ◌∷◌, ◌++◌, length, replicate, Option, Some, None, IfSome, option_map, slice_get, refl, ap, sym, subst, ◌∙◌, arith, rules, true≢false, length-append}
+use Rattle.std.proofs.Common.{◌≡◌, ◌≢◌, ◌⊎◌, inl, inr, ℕ, zero, suc, ◌+◌, ◌-◌, All, Bool, true, false, List, [], ◌∷◌, ◌++◌, length, Option, Some, None, IfSome, option_map, slice_get, refl, ap, sym, subst, ◌∙◌, arith, rules, true≢false, length-append}
 use Rattle.std.proofs.Math.Seq.{get_or-append_seam}
-use Rattle.std.specs.List.{AllPairs, Contains, list_all, list_any}
+use Rattle.std.specs.List.{AllPairs, Contains, list_any}
 use Rattle.std.proofs.lemmas.Bool.Decides.{nat_tests}
 use Rattle.std.proofs.lemmas.List.Elements.{All-append, All-contains, All-cons, All-replicate, All-weaker}
-use Rattle.sc_base.specs.Lists.{at_or, numbers_below}
+use Rattle.sc_base.specs.Lists.{at_or}
 use Rattle.sc_ids.specs.Graphs.{StageData}
 use Rattle.sc_ids.specs.declared.attempts.AttemptId.{AttemptId}
-use Rattle.sc_ids.specs.declared.blocks.Target.{Target}
-use Rattle.sc_ids.specs.declared.blocks.Target.TheVariants as targets
 use Rattle.sc_ids.specs.declared.limits.Limits.{Limits}
-use Rattle.sc_tracker.specs.TrackerData.{TrackerData, tracker_data}
+use Rattle.sc_tracker.specs.TrackerData.{TrackerData}
 use Rattle.sc_tracker.specs.TrackerFacts.{HasMarkBelow, IsSoundTracker}
 use Rattle.sc_tracker.specs.Trust.{untold}
 use Rattle.sc_dag.specs.DagData.{DagData, StageState, is_live_set, newest_at, no_stage, stage_at}
 use Rattle.sc_dag.specs.Laws.{CallsKeepSound, SubmissionsSettle}
 use Rattle.sc_dag.specs.Laws as dag
-use Rattle.sc_dag.specs.Openings.{FitsJob, IsJob, Opens, attempts_so_far, blank_state, blank_states, number_behind}
-use Rattle.sc_dag.specs.Outputs.{is_complete, is_complete_by, is_done_by, results_in}
+use Rattle.sc_dag.specs.Openings.{IsJob, Opens, blank_states, number_behind}
+use Rattle.sc_dag.specs.Outputs.{is_complete}
 use Rattle.sc_dag.specs.Settled.{IsSettled, IsSettledBy, IsUnderWay, will_go_on}
 use Rattle.sc_dag.specs.Sound.{IsSoundDag, attempts_in, runner_of}
-use Rattle.sc_dag.specs.Submission.{is_map, this_stage, waiting_stages}
+use Rattle.sc_dag.specs.Submission.{is_map, this_stage}
 use Rattle.sc_dag.proofs.Tests.{any_mono}
-use Rattle.sc_core.specs.CoreData.{CoreData, is_running_job, job_runs, result_stage, running_of}
+use Rattle.sc_core.specs.CoreData.{CoreData, result_stage}
 use Rattle.sc_core.specs.Laws.{OpeningsAreSound}
-use Rattle.sc_core.specs.Openings.{IsOpening, tracker_behind}
-use Rattle.sc_core.specs.Sound.{AreTwo, GoesOn, IsSoundCore, IsUnheld, RunsWell}
-use Rattle.sc_core.specs.declared.answers.Job.TheVariants as jobs
-use Rattle.sc_core.specs.declared.running.Running.{Running}
+use Rattle.sc_core.specs.Openings.{tracker_behind}
+use Rattle.sc_core.specs.Sound.{AreTwo, IsSoundCore, IsUnheld, RunsWell}
 use Rattle.sc_core.proofs.Calls.{submitted_calm}
 use Rattle.sc_core.proofs.Lookups.{newest_among}
 use Rattle.sc_core.proofs.Moves.{Calm}

@@ -1,15 +1,13 @@
 -- What the calls of a task set do to the attempts that run in it.
-use Rattle.std.proofs.Common.{◌≡◌, ℕ, ◌+◌, ◌<◌, ◌==◌, ◌&&◌, not, All, Bool, true, false, cond, if◌then◌else◌, List, [], ◌∷◌, ◌++◌, Option, Some, None, find, option_map, refl, ap, sym, subst, ◌∙◌, arith, rules, true≢false}
-use Rattle.std.specs.List.{filter}
+use Rattle.std.proofs.Common.{◌≡◌, ℕ, ◌<◌, ◌==◌, ◌&&◌, not, All, Bool, true, false, cond, if◌then◌else◌, List, [], ◌∷◌, ◌++◌, Option, Some, None, option_map, refl, ap, subst, ◌∙◌, arith}
 use Rattle.std.proofs.lemmas.Bool.Decides.{nat_tests}
 use Rattle.std.proofs.lemmas.List.Elements.{All-cons, All-head, All-tail}
-use Rattle.sc_ids.specs.Failures.{is_counted}
 use Rattle.sc_ids.specs.declared.attempts.AttemptId.{AttemptId}
 use Rattle.sc_ids.specs.declared.failures.FailureCause.{FailureCause}
 use Rattle.sc_ids.specs.declared.limits.Limits.{Limits}
-use Rattle.sc_taskset.specs.Lookups.{copy_at, is_nth, is_task_of, task_at, with_task, without_copy}
+use Rattle.sc_taskset.specs.Lookups.{copy_at, is_task_of, task_at, with_task, without_copy}
 use Rattle.sc_taskset.specs.Offers.{handed, handed_task, running}
-use Rattle.sc_taskset.specs.Reports.{after_end, after_failure, after_held, after_success, as_zombie, copies_left, ended_task, failed_task, held_task, is_counted_in, is_failure, noted_task, succeeded_task}
+use Rattle.sc_taskset.specs.Reports.{after_end, after_failure, after_held, after_success, as_zombie, ended_task, failed_task, held_task, is_counted_in, is_failure, noted_task, succeeded_task}
 use Rattle.sc_taskset.specs.TaskSetData.{TaskData, TaskSetData, fresh_set, fresh_task}
 use Rattle.sc_taskset.specs.declared.tasks.Running.{Running}
 use Rattle.sc_taskset.proofs.ChangeLemmas.{all_kept, find_changed, find_other}

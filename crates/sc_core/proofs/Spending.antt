@@ -1,13 +1,12 @@
 -- Every answer but those that only say how things are leaves less to do.
-use Rattle.std.proofs.Common.{◌≡◌, ◌≢◌, ℕ, suc, ◌+◌, ◌-◌, ◌*◌, ◌<◌, ◌≤◌, ◌==◌, ◌&&◌, not, Bool, true, false, cond, if◌then◌else◌, List, [], ◌∷◌, ◌++◌, length, Option, Some, None, find, slice_get, refl, ap, sym, subst, ◌∙◌, arith, rules, true≢false, length-append}
-use Rattle.std.specs.List.{filter}
+use Rattle.std.proofs.Common.{◌≡◌, ◌≢◌, ℕ, ◌+◌, ◌-◌, ◌*◌, ◌<◌, ◌&&◌, not, Bool, true, false, if◌then◌else◌, List, [], ◌∷◌, length, Option, Some, None, slice_get, refl, ap, sym, subst, ◌∙◌, arith, rules, true≢false, length-append}
 use Rattle.sc_ids.specs.declared.attempts.AttemptId.{AttemptId}
 use Rattle.sc_ids.specs.declared.blocks.Loc.{Loc}
 use Rattle.sc_ids.specs.declared.failures.FailureCause.{FailureCause}
 use Rattle.sc_ids.specs.declared.failures.FailureCause.TheVariants as causes
 use Rattle.sc_ids.specs.declared.limits.Limits.{Limits}
 use Rattle.sc_commit.specs.Committers.{committer_at}
-use Rattle.sc_commit.specs.Committing.{holds, is_same}
+use Rattle.sc_commit.specs.Committing.{holds}
 use Rattle.sc_commit.specs.declared.committers.Ending.{Ending}
 use Rattle.sc_commit.specs.declared.committers.Ending.TheVariants as endings
 use Rattle.sc_taskset.specs.declared.tasks.Verdict.{Verdict}
@@ -20,21 +19,19 @@ use Rattle.sc_dag.specs.Reports.{FailsStage, after_failed, after_hold, after_map
 use Rattle.sc_dag.specs.Submission.{this_stage}
 use Rattle.sc_dag.specs.declared.reports.Success.{Success}
 use Rattle.sc_dag.specs.declared.reports.Success.TheVariants as successes
-use Rattle.sc_core.specs.CoreData.{CoreData, ended, is_of, is_running_job, job_runs, running_of, taken_off, told_once, with_dag}
+use Rattle.sc_core.specs.CoreData.{CoreData, is_of, job_runs, running_of, taken_off, with_dag}
 use Rattle.sc_core.specs.Laws.{StepsAreSpent, changes_nothing, left_to_do}
-use Rattle.sc_core.specs.Posts.{Posts, PostsIf, PostsOf}
-use Rattle.sc_core.specs.Sound.{IsSoundCore}
-use Rattle.sc_core.specs.Takes.{running_on, with_task}
+use Rattle.sc_core.specs.Posts.{PostsIf, PostsOf}
+use Rattle.sc_core.specs.Takes.{running_on}
 use Rattle.sc_core.specs.Tells.{FailsBy, FailsOrAborts, FollowsUp, IsGone, LooksAgain, Misses, MissesIf, Tells, TellsFailure, TellsFailureIf, TellsMap, TellsResult, after_failure, after_result, done_if, is_zombie_in, released, with_result_of}
 use Rattle.sc_core.specs.declared.answers.Abort.TheVariants as aborts
 use Rattle.sc_core.specs.declared.answers.Answer.{Answer}
 use Rattle.sc_core.specs.declared.answers.Answer.TheVariants as says
-use Rattle.sc_core.specs.declared.answers.Job.TheVariants as jobs
 use Rattle.sc_core.specs.declared.events.Event.TheVariants.{Post, Take}
 use Rattle.sc_core.specs.declared.events.Outcome.{Outcome}
 use Rattle.sc_core.specs.declared.events.Outcome.TheVariants as outcomes
 use Rattle.sc_core.specs.declared.running.Running.{Running}
-use Rattle.sc_core.proofs.Calls.{completes_calm, fails_calm, failed_moves, hold_free, map_moves, result_moves, seen_calm, submitted_calm}
+use Rattle.sc_core.proofs.Calls.{completes_calm, fails_calm, map_moves, result_moves, seen_calm, submitted_calm}
 use Rattle.sc_core.proofs.RunningLists.{shorter}
 
 -- What a told report leaves, as far as it may run: the limits, what was handed out, and what runs.

@@ -1,5 +1,5 @@
 -- What changes of a stage do to the attempts that run in its task sets.
-use Rattle.std.proofs.Common.{◌≡◌, ◌≢◌, ℕ, zero, suc, ◌+◌, ◌-◌, ◌<◌, ◌≤◌, ◌==◌, ◌&&◌, not, All, Bool, true, false, cond, if◌then◌else◌, List, [], ◌∷◌, ◌++◌, length, map, Option, Some, None, option_map, slice_get, nat_lt, refl, ap, sym, subst, ◌∙◌, arith, rules, true≢false}
+use Rattle.std.proofs.Common.{◌≡◌, ℕ, zero, suc, ◌-◌, ◌≤◌, ◌==◌, ◌&&◌, All, Bool, true, false, if◌then◌else◌, List, [], ◌∷◌, ◌++◌, length, map, Option, Some, None, option_map, slice_get, nat_lt, refl, ap, sym, subst, ◌∙◌, arith}
 use Rattle.std.proofs.lemmas.Bool.Decides.{nat_tests}
 use Rattle.std.proofs.lemmas.List.{length-map}
 use Rattle.std.proofs.lemmas.List.Elements.{All-cons, All-head, All-map, All-push, All-tail, All-weaker}
@@ -8,19 +8,19 @@ use Rattle.sc_ids.specs.Changes.{change_at}
 use Rattle.sc_ids.specs.Graphs.{StageData}
 use Rattle.sc_ids.specs.declared.attempts.AttemptId.{AttemptId}
 use Rattle.sc_ids.specs.declared.limits.Limits.{Limits}
-use Rattle.sc_ids.proofs.ChangeLemmas.{All_change_at, length_change_at, slice_get_change_other, slice_get_change_same}
+use Rattle.sc_ids.proofs.ChangeLemmas.{length_change_at, slice_get_change_other, slice_get_change_same}
 use Rattle.sc_taskset.specs.Reports.{as_zombie}
 use Rattle.sc_taskset.specs.TaskSetData.{TaskSetData}
 use Rattle.sc_tracker.specs.TrackerData.{TrackerData}
-use Rattle.sc_dag.specs.DagData.{DagData, StageState, attempt_in, changed_newest, changed_set, place_of_attempt, set_in, stage_attempt, with_attempts, with_set}
+use Rattle.sc_dag.specs.DagData.{StageState, attempt_in, changed_newest, place_of_attempt, set_in, stage_attempt, with_attempts, with_set}
 use Rattle.sc_dag.specs.Outputs.{missing_by}
 use Rattle.sc_dag.specs.Reports.{completed, failed_attempt, forgiven, with_failed, with_result}
 use Rattle.sc_dag.specs.Sound.{attempts_in, runner_in}
 use Rattle.sc_dag.specs.Submission.{as_waiting, is_map, new_set, started}
 use Rattle.sc_dag.specs.declared.attempts.StageAttempt.{StageAttempt}
 use Rattle.sc_core.specs.Sound.{IsUnheld}
-use Rattle.sc_core.proofs.Lookups.{newest_place, set_among}
-use Rattle.sc_core.proofs.Sets.{AreUnheld, MovesIn, fresh_runs, fresh_unheld, is_copy_of, nothing, zombie_calm}
+use Rattle.sc_core.proofs.Lookups.{set_among}
+use Rattle.sc_core.proofs.Sets.{MovesIn, fresh_runs, fresh_unheld, is_copy_of, nothing, zombie_calm}
 
 -- where an attempt runs, in the sets of a stage that may be there
 abbrev pub runs_in : Option StageState → AttemptId → Option ℕ

@@ -1,17 +1,13 @@
 -- Every event keeps what holds of every core, and so does every journal.
-use Rattle.std.proofs.Common.{◌≡◌, ◌≢◌, ℕ, ◌==◌, ◌&&◌, not, Bool, true, false, cond, List, [], ◌∷◌, Option, Some, None, find, refl, ap, sym, subst, ◌∙◌, arith, rules, true≢false}
+use Rattle.std.proofs.Common.{◌≡◌, Bool, true, false, [], ◌∷◌, Option, Some, None, refl, sym, subst}
 use Rattle.sc_ids.specs.declared.attempts.AttemptId.{AttemptId}
 use Rattle.sc_taskset.proofs.FindLemmas.{found_is, found_passes}
 use Rattle.sc_dag.specs.Laws.{CallsKeepSound, FailuresGoOn, MapSuccessesGoOn, OthersGoOn, ResultSuccessesGoOn}
 use Rattle.sc_core.specs.CoreData.{CoreData, is_of, job_runs, running_of, taken_off, told_once}
-use Rattle.sc_core.specs.Journals.{Replays}
 use Rattle.sc_core.specs.Laws.{ReplaysKeepSound, StepsKeepSound}
-use Rattle.sc_core.specs.Posts.{Posts, PostsIf, PostsOf, fits}
+use Rattle.sc_core.specs.Posts.{PostsIf, PostsOf, fits}
 use Rattle.sc_core.specs.Sound.{IsSoundCore, RunsWell}
 use Rattle.sc_core.specs.Tells.{Tells}
-use Rattle.sc_core.specs.declared.answers.Answer.{Answer}
-use Rattle.sc_core.specs.declared.entries.Entry.{Entry}
-use Rattle.sc_core.specs.declared.events.Event.{Event}
 use Rattle.sc_core.specs.declared.events.Event.TheVariants.{Post, Take}
 use Rattle.sc_core.specs.declared.events.Outcome.{Outcome}
 use Rattle.sc_core.specs.declared.events.Outcome.TheVariants as outcomes

@@ -1,5 +1,5 @@
 -- What holds of every core holds once an executor has asked for a task.
-use Rattle.std.proofs.Common.{◌≡◌, ◌≢◌, ◌⊎◌, inl, inr, ℕ, zero, suc, ◌+◌, ◌-◌, ◌<◌, ◌≤◌, ◌==◌, ◌&&◌, not, All, Bool, true, false, cond, if◌then◌else◌, List, [], ◌∷◌, ◌++◌, length, Option, Some, None, find, option_map, slice_get, refl, ap, sym, subst, ◌∙◌, arith, rules, true≢false}
+use Rattle.std.proofs.Common.{◌≡◌, ◌≢◌, ℕ, ◌<◌, ◌==◌, All, Bool, true, false, if◌then◌else◌, List, [], ◌∷◌, Option, Some, None, find, option_map, refl, ap, sym, subst, ◌∙◌, arith, rules, true≢false}
 use Rattle.std.specs.List.{AllPairs}
 use Rattle.std.specs.Option.{option_or}
 use Rattle.std.proofs.lemmas.Bool.Decides.{nat_tests}
@@ -8,15 +8,14 @@ use Rattle.std.proofs.lemmas.List.Folds.{find-append}
 use Rattle.std.proofs.lemmas.List.Quantifiers.{all_pairs_push}
 use Rattle.sc_ids.specs.declared.attempts.AttemptId.{AttemptId}
 use Rattle.sc_commit.specs.Committing.{is_same}
-use Rattle.sc_taskset.specs.Lookups.{copy_at, is_nth}
+use Rattle.sc_taskset.specs.Lookups.{copy_at}
 use Rattle.sc_taskset.specs.declared.tasks.Running as taskset
-use Rattle.sc_taskset.proofs.FindLemmas.{found_is, found_passes}
-use Rattle.sc_dag.specs.DagData.{DagData, changed_newest}
+use Rattle.sc_dag.specs.DagData.{DagData}
 use Rattle.sc_dag.specs.Laws.{CallsKeepSound, OthersGoOn}
 use Rattle.sc_dag.specs.Offers.{handed_out, newest_number}
 use Rattle.sc_dag.specs.Outputs.{is_complete}
 use Rattle.sc_dag.specs.Sound.{runner_among, runner_in, runner_of}
-use Rattle.sc_core.specs.CoreData.{CoreData, ended, held_by, is_of, is_out_on, is_running_job, job_runs, result_stage, running_of}
+use Rattle.sc_core.specs.CoreData.{CoreData, ended, is_of, is_out_on, is_running_job, job_runs, result_stage, running_of}
 use Rattle.sc_core.specs.HandOuts.{HandOutData}
 use Rattle.sc_core.specs.Sound.{AreTwo, GoesOn, IsSoundCore, RunsWell}
 use Rattle.sc_core.specs.Takes.{IsAsking, IsHandOut, Takes, running_on, with_task}
@@ -24,11 +23,10 @@ use Rattle.sc_core.specs.declared.answers.Abort.{Abort}
 use Rattle.sc_core.specs.declared.answers.Abort.TheVariants as aborts
 use Rattle.sc_core.specs.declared.answers.Answer.{Answer}
 use Rattle.sc_core.specs.declared.answers.Answer.TheVariants as says
-use Rattle.sc_core.specs.declared.answers.Job.{Job}
 use Rattle.sc_core.specs.declared.answers.Job.TheVariants as jobs
 use Rattle.sc_core.specs.declared.running.Running.{Running}
 use Rattle.sc_core.proofs.Lookups.{clash, is_itself, same_is, set_of_newest}
-use Rattle.sc_core.proofs.Moves.{Calm, Moves, SameResults, state_results, still}
+use Rattle.sc_core.proofs.Moves.{Moves, state_results}
 use Rattle.sc_core.proofs.Offering.{IsOffered, handed_out_moves, offered, offered_may}
 use Rattle.sc_core.proofs.RunningLists.{none_passes, same_sym}
 use Rattle.sc_core.proofs.Told.{goes_same}

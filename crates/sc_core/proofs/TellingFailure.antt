@@ -1,5 +1,5 @@
 -- What holds of every core holds once a failure was told.
-use Rattle.std.proofs.Common.{◌≡◌, ◌≢◌, ℕ, ◌-◌, ◌==◌, ◌&&◌, not, Bool, true, false, cond, if◌then◌else◌, List, [], ◌∷◌, length, Option, Some, None, slice_get, refl, ap, sym, subst, ◌∙◌, arith, rules, true≢false}
+use Rattle.std.proofs.Common.{◌≡◌, ℕ, ◌==◌, ◌&&◌, not, Bool, true, false, List, [], None, slice_get, refl, ap, sym, subst, arith, rules, true≢false}
 use Rattle.std.proofs.lemmas.Bool.Decides.{nat_tests}
 use Rattle.sc_base.specs.Lists.{at_or}
 use Rattle.sc_ids.specs.Graphs.{StageData}
@@ -11,7 +11,7 @@ use Rattle.sc_commit.specs.declared.committers.Ending.TheVariants as endings
 use Rattle.sc_taskset.specs.declared.tasks.Verdict.{Verdict}
 use Rattle.sc_taskset.specs.declared.tasks.Verdict.TheVariants as verdicts
 use Rattle.sc_tracker.specs.Trust.{is_newer}
-use Rattle.sc_dag.specs.DagData.{DagData, no_stage, stage_at}
+use Rattle.sc_dag.specs.DagData.{DagData, no_stage}
 use Rattle.sc_dag.specs.Laws.{CallsKeepSound, FailuresGoOn, OthersGoOn}
 use Rattle.sc_dag.specs.Laws as dag
 use Rattle.sc_dag.specs.Losses.{after_seen}
@@ -22,7 +22,7 @@ use Rattle.sc_dag.specs.Settled.{IsSettled, IsUnderWay}
 use Rattle.sc_dag.specs.Sound.{IsSoundDag}
 use Rattle.sc_dag.specs.Submission.{is_map}
 use Rattle.sc_core.specs.CoreData.{CoreData, ended, is_running_job, job_runs, result_stage, taken_off, with_dag}
-use Rattle.sc_core.specs.Sound.{IsSoundCore, RunsWell}
+use Rattle.sc_core.specs.Sound.{IsSoundCore}
 use Rattle.sc_core.specs.Tells.{FailsBy, FailsOrAborts, IsGone, Misses, MissesIf, TellsFailure, TellsFailureIf, after_failure, is_zombie_in, limit_of, released}
 use Rattle.sc_core.specs.declared.answers.Abort.{Abort}
 use Rattle.sc_core.specs.declared.answers.Abort.TheVariants as aborts
@@ -33,7 +33,7 @@ use Rattle.sc_core.proofs.Calls.{failed_moves, failed_results, fails_calm, fails
 use Rattle.sc_core.proofs.Lookups.{both_left, both_right, clash, not_true}
 use Rattle.sc_core.proofs.Moves.{Calm, Moves, SameResults, moves_then, results_then, still}
 use Rattle.sc_core.proofs.TellingResult.{Frees, frees}
-use Rattle.sc_core.proofs.Told.{complete_same, goes_with, told_sound, under_kept}
+use Rattle.sc_core.proofs.Told.{goes_with, told_sound, under_kept}
 
 -- A core of which all is known that a failure leaves, whose job runs on.
 record Fails (c : CoreData) (a : AttemptId) (m : CoreData) : Type 0 where

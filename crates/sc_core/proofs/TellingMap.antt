@@ -1,5 +1,5 @@
 -- What holds of every core holds once a map success was told.
-use Rattle.std.proofs.Common.{◌≡◌, ◌≢◌, ℕ, ◌==◌, ◌&&◌, not, Bool, true, false, cond, if◌then◌else◌, List, [], ◌∷◌, Option, Some, None, refl, ap, sym, subst, ◌∙◌, arith, rules, true≢false}
+use Rattle.std.proofs.Common.{◌≡◌, ℕ, ◌==◌, Bool, true, false, if◌then◌else◌, Some, None, refl, ap, sym, subst, ◌∙◌, arith, rules}
 use Rattle.std.proofs.lemmas.Bool.Decides.{nat_tests}
 use Rattle.sc_ids.specs.declared.attempts.AttemptId.{AttemptId}
 use Rattle.sc_ids.specs.declared.blocks.Loc.{Loc}
@@ -10,7 +10,7 @@ use Rattle.sc_dag.specs.DagData.{DagData, stage_at}
 use Rattle.sc_dag.specs.Laws.{CallsKeepSound, MapSuccessesGoOn, OthersGoOn}
 use Rattle.sc_dag.specs.Laws as dag
 use Rattle.sc_dag.specs.Outputs.{is_complete}
-use Rattle.sc_dag.specs.Reports.{after_failed, after_map_success, ended_in_own, is_finished_short, is_repeat, map_success_of, succeeded_in_both, succeeded_in_own, with_output}
+use Rattle.sc_dag.specs.Reports.{after_map_success, ended_in_own, is_finished_short, is_repeat, map_success_of, succeeded_in_both, succeeded_in_own, with_output}
 use Rattle.sc_dag.specs.Settled.{IsSettled}
 use Rattle.sc_dag.specs.Sound.{IsSoundDag, runner_of}
 use Rattle.sc_dag.specs.Submission.{is_map, this_stage}
@@ -21,12 +21,11 @@ use Rattle.sc_core.specs.Posts.{fits}
 use Rattle.sc_core.specs.Sound.{IsSoundCore, RunsWell}
 use Rattle.sc_core.specs.Tells.{FollowsUp, LooksAgain, TellsMap}
 use Rattle.sc_core.specs.declared.answers.Answer.{Answer}
-use Rattle.sc_core.specs.declared.answers.Job.TheVariants as jobs
 use Rattle.sc_core.specs.declared.events.Outcome.TheVariants as outcomes
 use Rattle.sc_core.specs.declared.running.Running.{Running}
 use Rattle.sc_core.proofs.Calls.{completes_calm, completes_results, map_moves, map_results, submitted_calm, submitted_results}
 use Rattle.sc_core.proofs.Lookups.{both_left, both_right, clash}
-use Rattle.sc_core.proofs.Moves.{Calm, Moves, SameResults, moves_then, results_then, still}
+use Rattle.sc_core.proofs.Moves.{Calm, SameResults, moves_then, results_then, still}
 use Rattle.sc_core.proofs.Told.{goes_same, told_sound}
 
 -- an attempt that ends and changes nothing else is one whose failure doesn't count

@@ -1,5 +1,5 @@
 -- What holds of every core holds once the success of a result task was told.
-use Rattle.std.proofs.Common.{◌≡◌, ◌≢◌, ◌⊎◌, inl, inr, ℕ, ◌+◌, ◌-◌, ◌<◌, ◌==◌, ◌&&◌, not, All, Bool, true, false, cond, if◌then◌else◌, List, [], ◌∷◌, length, Option, Some, None, slice_get, refl, ap, sym, subst, ◌∙◌, arith, rules, true≢false}
+use Rattle.std.proofs.Common.{◌≡◌, ◌≢◌, ◌⊎◌, inl, inr, ℕ, ◌-◌, ◌<◌, ◌==◌, All, Bool, true, false, if◌then◌else◌, List, [], length, Option, Some, None, slice_get, refl, ap, sym, subst, ◌∙◌, arith, rules, true≢false}
 use Rattle.std.proofs.lemmas.Bool.Decides.{nat_tests}
 use Rattle.sc_ids.specs.Graphs.{StageData}
 use Rattle.sc_ids.specs.declared.attempts.AttemptId.{AttemptId}
@@ -10,18 +10,18 @@ use Rattle.sc_commit.specs.declared.committers.Ending.TheVariants as endings
 use Rattle.sc_taskset.specs.Lookups.{is_task_of, task_at}
 use Rattle.sc_taskset.specs.TaskSetData.{TaskData, TaskSetData}
 use Rattle.sc_taskset.proofs.FindLemmas.{found_is}
-use Rattle.sc_dag.specs.DagData.{DagData, StageState, attempt_in, no_stage, set_in, stage_at}
+use Rattle.sc_dag.specs.DagData.{DagData, no_stage, stage_at}
 use Rattle.sc_dag.specs.Laws.{CallsKeepSound, OthersGoOn, ResultSuccessesGoOn}
 use Rattle.sc_dag.specs.Laws as dag
 use Rattle.sc_dag.specs.Outputs.{is_complete}
 use Rattle.sc_dag.specs.Reports.{after_hold, after_result_success, ended_in_own, is_repeat, result_success_of, set_of}
 use Rattle.sc_dag.specs.Settled.{IsSettled, IsUnderWay}
-use Rattle.sc_dag.specs.Sound.{IsAttemptOf, IsSoundDag, attempts_in, attempts_of, runner_among, runner_in, runner_of}
+use Rattle.sc_dag.specs.Sound.{IsSoundDag, runner_among, runner_in, runner_of}
 use Rattle.sc_dag.specs.Submission.{is_map}
 use Rattle.sc_dag.specs.declared.reports.Success.{Success}
 use Rattle.sc_dag.specs.declared.reports.Success.TheVariants as successes
-use Rattle.sc_core.specs.CoreData.{CoreData, ended, is_running_job, job_runs, result_stage, taken_off, with_dag}
-use Rattle.sc_core.specs.Posts.{fits, has_moved}
+use Rattle.sc_core.specs.CoreData.{CoreData, ended, is_running_job, job_runs, result_stage, taken_off}
+use Rattle.sc_core.specs.Posts.{fits}
 use Rattle.sc_core.specs.Sound.{GoesOn, IsSoundCore, RunsWell}
 use Rattle.sc_core.specs.Tells.{TellsResult, after_result, done_if, released, with_result_of}
 use Rattle.sc_core.specs.declared.answers.Answer.{Answer}
@@ -29,9 +29,9 @@ use Rattle.sc_core.specs.declared.answers.Job.TheVariants as jobs
 use Rattle.sc_core.specs.declared.events.Outcome.TheVariants as outcomes
 use Rattle.sc_core.specs.declared.running.Running.{Running}
 use Rattle.sc_core.proofs.Calls.{ended_results, hold_free, hold_results, result_moves}
-use Rattle.sc_core.proofs.Lookups.{both_left, both_right, clash, not_true, set_holds}
-use Rattle.sc_core.proofs.Moves.{Calm, Moves, SameResults, calm_then, moves_then, results_then, still}
-use Rattle.sc_core.proofs.Told.{complete_same, goes_same, goes_with, told_sound, under_kept}
+use Rattle.sc_core.proofs.Lookups.{both_left, clash, not_true, set_holds}
+use Rattle.sc_core.proofs.Moves.{Calm, Moves, SameResults, calm_then, still}
+use Rattle.sc_core.proofs.Told.{goes_same, goes_with, told_sound, under_kept}
 
 -- A grant that is freed lets nothing run and stops nothing, and no stage is forgotten.
 pub record Frees (d after : DagData) : Type 0 where

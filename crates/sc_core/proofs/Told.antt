@@ -1,7 +1,7 @@
 -- What holds of every core holds once a report was told, if its stages go on.
-use Rattle.std.proofs.Common.{◌≡◌, ◌≢◌, ◌⊎◌, inl, inr, ℕ, zero, suc, ◌+◌, ◌-◌, ◌<◌, ◌≤◌, ◌==◌, ◌&&◌, not, All, Bool, true, false, cond, if◌then◌else◌, List, [], ◌∷◌, ◌++◌, length, Option, Some, None, find, option_map, slice_get, refl, ap, sym, subst, ◌∙◌, arith, rules, true≢false}
+use Rattle.std.proofs.Common.{◌≡◌, ◌≢◌, ℕ, ◌-◌, not, All, Bool, true, false, cond, if◌then◌else◌, List, [], ◌∷◌, length, Some, None, slice_get, refl, ap, sym, subst, ◌∙◌, arith, rules, true≢false}
 use Rattle.std.specs.List.{AllPairs, filter, list_all}
-use Rattle.std.proofs.lemmas.List.Elements.{All-cons, All-filter, All-head, All-tail, All-weaker, filter_passes}
+use Rattle.std.proofs.lemmas.List.Elements.{All-cons, All-head, All-tail}
 use Rattle.std.proofs.lemmas.List.Kept.{AllPairs-filter}
 use Rattle.sc_base.specs.Lists.{at_or, numbers_below}
 use Rattle.sc_ids.specs.Graphs.{StageData}
@@ -9,7 +9,7 @@ use Rattle.sc_ids.specs.declared.attempts.AttemptId.{AttemptId}
 use Rattle.sc_ids.specs.declared.blocks.Target.{Target}
 use Rattle.sc_ids.specs.declared.blocks.Target.TheVariants as targets
 use Rattle.sc_commit.specs.Committing.{is_same}
-use Rattle.sc_tracker.specs.TrackerData.{TrackerData, trust_of}
+use Rattle.sc_tracker.specs.TrackerData.{TrackerData}
 use Rattle.sc_dag.specs.DagData.{DagData, no_stage, stage_at}
 use Rattle.sc_dag.specs.Laws as dag
 use Rattle.sc_dag.specs.Outputs.{is_complete, is_complete_by, is_done_by, results_in}
@@ -20,7 +20,6 @@ use Rattle.sc_core.specs.CoreData.{CoreData, is_of, job_runs, result_stage, runn
 use Rattle.sc_core.specs.Sound.{AreTwo, GoesOn, IsSoundCore, RunsWell}
 use Rattle.sc_core.specs.declared.answers.Job.TheVariants as jobs
 use Rattle.sc_core.specs.declared.running.Running.{Running}
-use Rattle.sc_core.proofs.Lookups.{clash, not_true}
 use Rattle.sc_core.proofs.Moves.{Moves, SameResults}
 use Rattle.sc_core.proofs.RunningLists.{found_beside, same_sym}
 

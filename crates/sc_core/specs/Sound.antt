@@ -1,8 +1,8 @@
 -- What holds of every core.
-use Rattle.std.specs.Prelude.{ℕ, ◌<◌, ◌≤◌, ◌≡◌, ◌≢◌, ◌⊎◌, List, [], Bool, true, false, Option, Some, None, All}
+use Rattle.std.specs.Prelude.{ℕ, ◌≤◌, ◌≡◌, ◌≢◌, ◌⊎◌, [], true, false, Some, None, All}
 use Rattle.std.specs.List.{AllPairs}
 use Rattle.sc_commit.specs.Committing.{is_same}
-use Rattle.sc_dag.specs.DagData.{DagData, no_stage, stage_at}
+use Rattle.sc_dag.specs.DagData.{no_stage, stage_at}
 use Rattle.sc_dag.specs.Outputs.{is_complete}
 use Rattle.sc_dag.specs.Settled.{IsSettled, IsUnderWay}
 use Rattle.sc_dag.specs.Sound.{IsSoundDag, attempts_of, runner_of}
