@@ -1,46 +1,13 @@
 -- Lemmas on items by their places, and on how many pass a test.
-use Rattle.std.proofs.Common.{◌≡◌, ◌≢◌, ℕ, zero, suc, ◌+◌, ◌-◌, ◌<◌, ◌≤◌, ◌==◌, ◌||◌, ◌&&◌, not, Bool, true, false, cond, List, [], ◌∷◌, ◌++◌, All, AllPairs, find, length, map, take, Option, Some, None, is_some, option_map, slice_get, refl, ap, sym, subst, ◌∙◌, arith, rules, true≢false, add-zero, zero-add, suc-add, add-suc, length-append}
-use Rattle.std.specs.List.{list_all, list_any}
-use Rattle.std.proofs.lemmas.Bool.Decides.{nat_tests}
+use Rattle.std.proofs.Common.{◌≡◌, ℕ, zero, suc, ◌+◌, ◌-◌, ◌<◌, ◌≤◌, Bool, true, false, cond, List, [], ◌∷◌, ◌++◌, All, AllPairs, find, length, map, take, Some, is_some, option_map, slice_get, refl, ap, sym, subst, ◌∙◌, arith, rules, add-zero, zero-add, length-append}
 use Rattle.std.proofs.lemmas.List.Elements.{All-cons, All-head, All-tail}
 use Rattle.std.proofs.lemmas.Option.{get_or_from_slice_get, slice_get_within}
-use Rattle.sc_base.specs.Lists.{at_or, numbers_below, numbers_from}
+use Rattle.sc_base.specs.Lists.{at_or}
 use Rattle.sc_ids.specs.Changes.{change_at}
 use Rattle.sc_dag.specs.Submission.{by_number}
-use Rattle.std.proofs.Common.{◌≡◌, ◌⊎◌, inl, inr, ℕ, zero, suc, ◌+◌, ◌-◌, ◌<◌, ◌||◌, ◌&&◌, not, Bool, true, false, cond, if◌then◌else◌, List, [], ◌∷◌, count_by, length, map, Option, Some, None, option_map, slice_get, refl, ap, sym, subst, ◌∙◌, arith, rules, true≢false}
-use Rattle.std.specs.List.{list_any}
-use Rattle.std.proofs.lemmas.Bool.{cases_eq}
+use Rattle.std.proofs.Common.{◌≡◌, ℕ, zero, suc, ◌+◌, ◌-◌, ◌<◌, Bool, true, false, cond, List, [], ◌∷◌, count_by, length, map, Some, option_map, slice_get, refl, ap, sym, subst, ◌∙◌, arith, rules}
 use Rattle.std.proofs.lemmas.List.Sums.{sum_by-cons}
-use Rattle.std.proofs.lemmas.Option.{slice_get-map}
-use Rattle.sc_base.specs.Lists.{numbers_below}
-use Rattle.sc_ids.specs.Graphs.{StageData}
-use Rattle.sc_ids.specs.declared.attempts.AttemptId.{AttemptId}
-use Rattle.sc_ids.specs.declared.failures.FailureCause.{FailureCause}
-use Rattle.sc_ids.proofs.ChangeLemmas.{slice_get_change_other, slice_get_change_same}
-use Rattle.sc_taskset.specs.Offers.{handed}
-use Rattle.sc_taskset.specs.Reports.{after_end, after_failure, after_held, after_loss}
-use Rattle.sc_taskset.specs.TaskSetData.{TaskSetData}
-use Rattle.sc_tracker.specs.TrackerData.{TrackerData}
-use Rattle.sc_tracker.specs.Tracking.{after_executor_lost, after_gone}
-use Rattle.sc_tracker.specs.Trust.{is_live as is_live_executor, is_newer}
-use Rattle.sc_dag.specs.DagData.{DagData, StageState, dag_data, is_live_set, newest_at, newest_set, place_of_attempt, set_in, stage_at, with_attempts, with_set, with_state}
-use Rattle.sc_dag.specs.Laws.{GoesOn, OthersGoOn}
-use Rattle.sc_dag.specs.Losses.{after_lost, after_seen, without_executor}
-use Rattle.sc_dag.specs.Offers.{handed_out}
-use Rattle.sc_dag.specs.Outputs.{is_complete, is_complete_by, is_done_by, results_in}
-use Rattle.sc_dag.specs.Reports.{after_failed, after_hold, ended_in_own, failed_count}
-use Rattle.sc_dag.specs.Settled.{IsSettled, IsUnderWay, goes_on, goes_on_in, will_go_on}
-use Rattle.sc_dag.specs.Sound.{IsSoundDag}
-use Rattle.sc_dag.specs.Submission.{waiting_stages, waits_in}
-use Rattle.sc_dag.specs.declared.attempts.StageAttempt.{StageAttempt}
-use Rattle.std.proofs.Common.{◌≡◌, ◌⊎◌, inl, inr, ℕ, ◌+◌, ◌-◌, ◌<◌, ◌||◌, ◌&&◌, not, Bool, true, false, cond, if◌then◌else◌, List, [], ◌∷◌, count_by, find, length, map, Option, Some, None, option_map, slice_get, refl, ap, sym, subst, ◌∙◌, arith, rules, true≢false, zero-add}
-use Rattle.sc_ids.proofs.ChangeLemmas.{slice_get_change_same}
-use Rattle.sc_taskset.specs.Lookups.{are_finished, is_finished, is_task_of, is_there_and, task_at}
-use Rattle.sc_taskset.specs.TaskSetData.{TaskData, TaskSetData}
-use Rattle.sc_dag.specs.DagData.{StageState, is_live_set, newest_set, set_in, with_attempts, with_set}
-use Rattle.sc_dag.specs.Reports.{wants_in}
-use Rattle.sc_dag.specs.Submission.{is_idle_in, waits_in}
-use Rattle.sc_dag.specs.Settled.{goes_on_in}
+use Rattle.std.proofs.Common.{◌≡◌, ℕ, ◌+◌, ◌-◌, ◌<◌, Bool, true, false, cond, List, [], ◌∷◌, count_by, find, length, map, Some, option_map, slice_get, refl, ap, sym, subst, ◌∙◌, arith, rules, zero-add}
 
 -- ---- items by their places
 

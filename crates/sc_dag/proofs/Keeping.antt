@@ -1,18 +1,16 @@
 -- Calls that finish no task keep what holds of every job.
-use Rattle.std.proofs.Common.{◌≡◌, ◌⊎◌, inl, inr, ℕ, zero, suc, ◌+◌, ◌-◌, ◌<◌, ◌≤◌, ◌==◌, ◌||◌, ◌&&◌, not, Bool, true, false, if◌then◌else◌, List, [], ◌∷◌, ◌++◌, All, length, map, take, Option, Some, None, IfSome, is_some, option_map, slice_get, refl, ap, sym, subst, ◌∙◌, arith, rules, true≢false}
+use Rattle.std.proofs.Common.{◌≡◌, ℕ, zero, suc, ◌-◌, Bool, true, List, [], ◌∷◌, length, map, Option, Some, None, option_map, slice_get, refl, ap, sym, ◌∙◌, true≢false}
 use Rattle.std.proofs.lemmas.List.{length-map}
-use Rattle.sc_ids.specs.Changes.{change_at}
 use Rattle.sc_ids.specs.Graphs.{StageData}
 use Rattle.sc_ids.specs.declared.attempts.AttemptId.{AttemptId}
 use Rattle.sc_ids.specs.declared.failures.FailureCause.{FailureCause}
 use Rattle.sc_taskset.specs.Offers.{handed, may_be_given}
 use Rattle.sc_taskset.specs.Reports.{after_end, after_failure, after_held, as_zombie}
 use Rattle.sc_taskset.specs.TaskSetData.{TaskSetData}
-use Rattle.sc_tracker.specs.TrackerData.{TrackerData}
-use Rattle.sc_dag.specs.DagData.{DagData, StageState, newest_at, newest_set, place_of_attempt, set_in, stage_at, with_set, with_state}
+use Rattle.sc_dag.specs.DagData.{DagData, StageState, newest_at, place_of_attempt, set_in, stage_at, with_set, with_state}
 use Rattle.sc_dag.specs.Offers.{handed_out, may_be_given_in}
 use Rattle.sc_dag.specs.Reports.{after_failed, after_hold, completed, ended_in_own, failed_attempt, forgiven, with_failed}
-use Rattle.sc_dag.specs.Sound.{IsAttemptOf, IsSoundDag}
+use Rattle.sc_dag.specs.Sound.{IsSoundDag}
 use Rattle.sc_dag.specs.declared.attempts.StageAttempt.{StageAttempt}
 use Rattle.sc_dag.proofs.Moving.{newest_among}
 use Rattle.sc_dag.proofs.Sets.{KeepsSet, SameFinish, keeps_end, keeps_failure, keeps_handed, keeps_hold, keeps_zombie, same_end, same_failure, same_handed, same_hold, same_zombie}

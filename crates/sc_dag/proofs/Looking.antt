@@ -1,24 +1,12 @@
 -- Which stages a submission looks at.
-use Rattle.std.proofs.Common.{◌≡◌, ◌⊎◌, inl, inr, ℕ, zero, suc, ◌+◌, ◌-◌, ◌<◌, ◌≤◌, ◌==◌, ◌||◌, ◌&&◌, not, Bool, true, false, cond, if◌then◌else◌, List, [], ◌∷◌, ◌++◌, All, length, map, Option, Some, None, is_some, option_map, slice_get, refl, ap, sym, subst, ◌∙◌, arith, rules, true≢false, lt_of_not-le}
+use Rattle.std.proofs.Common.{◌≡◌, ℕ, zero, suc, ◌+◌, ◌<◌, ◌≤◌, ◌||◌, ◌&&◌, not, Bool, true, false, length, is_some, slice_get, refl, ap, sym, ◌∙◌, arith, lt_of_not-le}
 use Rattle.std.proofs.lemmas.Bool.{or_right}
-use Rattle.std.specs.List.{list_all, list_any}
-use Rattle.std.proofs.lemmas.Bool.Decides.{nat_tests}
-use Rattle.std.proofs.lemmas.Option.{slice_get_cases}
-use Rattle.sc_base.specs.Lists.{at_or, numbers_below}
-use Rattle.sc_ids.specs.Changes.{change_at}
-use Rattle.sc_ids.proofs.ChangeLemmas.{length_change_at}
-use Rattle.sc_ids.specs.Graphs.{StageData}
-use Rattle.sc_ids.specs.declared.limits.Limits.{Limits}
-use Rattle.sc_taskset.specs.Reports.{as_zombie}
-use Rattle.sc_taskset.specs.TaskSetData.{TaskSetData}
-use Rattle.sc_tracker.specs.TrackerData.{TrackerData}
-use Rattle.sc_dag.specs.DagData.{DagData, StageState, is_live, is_live_set, changed_newest, newest_at, newest_set, no_stage, set_in, stage_at, stage_attempt, with_set, with_states}
-use Rattle.sc_dag.specs.Laws.{GoesOn, SubmissionsAgree, SubmissionsRepeat, SubmissionsSettle}
-use Rattle.sc_dag.specs.Outputs.{has_inputs, is_complete, is_complete_by, results_in}
-use Rattle.sc_dag.specs.Reports.{failed_count}
-use Rattle.sc_dag.specs.Settled.{IsSettled, IsSettledBy, IsUnderWay, goes_on, goes_on_in, will_go_on}
-use Rattle.sc_dag.specs.Sound.{AreSoundStages, IsSoundDag}
-use Rattle.sc_dag.specs.Submission.{AreLookedAt, IsSubmitted, as_waiting, by_number, is_asked_for, is_idle, is_idle_in, moved_if, moved_on, new_set, reads, started, this_stage, waiting_stages, waits_in}
+use Rattle.sc_base.specs.Lists.{numbers_below}
+use Rattle.sc_dag.specs.DagData.{DagData, no_stage, stage_at, with_states}
+use Rattle.sc_dag.specs.Laws.{SubmissionsAgree}
+use Rattle.sc_dag.specs.Outputs.{is_complete, is_complete_by, results_in}
+use Rattle.sc_dag.specs.Sound.{AreSoundStages}
+use Rattle.sc_dag.specs.Submission.{AreLookedAt, by_number, is_asked_for, is_idle_in, moved_if, reads}
 use Rattle.sc_dag.proofs.Items.{at_or_past, is_there}
 use Rattle.sc_dag.proofs.Tests.{all_in, any_alike, any_below, both_left, both_right, clash, not_true}
 

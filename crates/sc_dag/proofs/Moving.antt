@@ -1,23 +1,14 @@
 -- What a submission leaves.
-use Rattle.std.proofs.Common.{◌≡◌, ◌⊎◌, inl, inr, ℕ, zero, suc, ◌+◌, ◌-◌, ◌<◌, ◌≤◌, ◌==◌, ◌||◌, ◌&&◌, not, Bool, true, false, cond, if◌then◌else◌, List, [], ◌∷◌, ◌++◌, All, length, map, Option, Some, None, is_some, option_map, slice_get, refl, ap, sym, subst, ◌∙◌, arith, rules, true≢false, lt_of_not-le}
-use Rattle.std.specs.List.{list_all, list_any}
-use Rattle.std.proofs.lemmas.Bool.Decides.{nat_tests}
-use Rattle.std.proofs.lemmas.Option.{slice_get_cases}
-use Rattle.sc_base.specs.Lists.{at_or, numbers_below}
-use Rattle.sc_ids.specs.Changes.{change_at}
-use Rattle.sc_ids.proofs.ChangeLemmas.{length_change_at}
+use Rattle.std.proofs.Common.{◌≡◌, ℕ, ◌||◌, ◌&&◌, not, Bool, true, false, if◌then◌else◌, Option, Some, None, is_some, option_map, slice_get, refl, ap, sym, ◌∙◌, true≢false}
 use Rattle.sc_ids.specs.Graphs.{StageData}
 use Rattle.sc_ids.specs.declared.limits.Limits.{Limits}
 use Rattle.sc_taskset.specs.Reports.{as_zombie}
 use Rattle.sc_taskset.specs.TaskSetData.{TaskSetData}
 use Rattle.sc_tracker.specs.TrackerData.{TrackerData}
-use Rattle.sc_dag.specs.DagData.{DagData, StageState, is_live, is_live_set, changed_newest, newest_at, newest_set, no_stage, set_in, stage_at, stage_attempt, with_set, with_states}
-use Rattle.sc_dag.specs.Laws.{GoesOn, SubmissionsAgree, SubmissionsRepeat, SubmissionsSettle}
+use Rattle.sc_dag.specs.DagData.{DagData, StageState, is_live, is_live_set, changed_newest, newest_at, newest_set, set_in, stage_at, stage_attempt, with_states}
 use Rattle.sc_dag.specs.Outputs.{has_inputs, is_complete, is_complete_by, results_in}
-use Rattle.sc_dag.specs.Reports.{failed_count}
-use Rattle.sc_dag.specs.Settled.{IsSettled, IsSettledBy, IsUnderWay, goes_on, goes_on_in, will_go_on}
-use Rattle.sc_dag.specs.Sound.{AreSoundStages, IsSoundDag}
-use Rattle.sc_dag.specs.Submission.{AreLookedAt, IsSubmitted, as_waiting, by_number, is_asked_for, is_idle, is_idle_in, moved_if, moved_on, new_set, reads, started, this_stage, waiting_stages, waits_in}
+use Rattle.sc_dag.specs.Settled.{goes_on, goes_on_in}
+use Rattle.sc_dag.specs.Submission.{as_waiting, by_number, is_idle_in, moved_if, new_set, started, waiting_stages, waits_in}
 use Rattle.sc_dag.proofs.Items.{by_number_at, last_is}
 
 -- the states after it
@@ -138,7 +129,8 @@ newest_among (Some state) = newest_set state
 pub waits_looked :
     (d : DagData) (looked : ℕ → Bool) (s : ℕ) → looked s ≡ true
     → waiting_stages (after_looking d looked) s ≡ true → has_inputs d s ≡ false
-waits_looked d looked s is w = by (slice_get d.states s) (sym (ap waits_in (state_after d looked s)) ∙ w)
+waits_looked d looked s is w =
+    by (slice_get d.states s) (sym (ap waits_in (state_after d looked s)) ∙ w)
   where
     moved : (b : Bool) (state : StageState) → has_inputs d s ≡ b
         → (if b then started d.tracker d.limits (stage_at d s) state else as_waiting state).waits

@@ -1,23 +1,21 @@
 -- A job begins sound and settled.
-use Rattle.std.proofs.Common.{◌≡◌, ◌≢◌, ◌⊎◌, inl, inr, ℕ, zero, suc, ◌+◌, ◌-◌, ◌<◌, ◌≤◌, ◌==◌, ◌&&◌, Bool, true, false, if◌then◌else◌, List, [], ◌∷◌, ◌++◌, All, AllPairs, Contains, get_or, length, replicate, Option, Some, None, slice_get, refl, ap, sym, subst, ◌∙◌, arith, rules, true≢false}
+use Rattle.std.proofs.Common.{◌≡◌, ℕ, zero, suc, ◌+◌, ◌<◌, true, false, if◌then◌else◌, List, [], ◌∷◌, Contains, length, replicate, Option, Some, slice_get, refl, ap, sym, subst, ◌∙◌, arith, rules}
 use Rattle.std.specs.List.{list_all}
-use Rattle.std.proofs.lemmas.Bool.{cases_eq, cases_lt}
-use Rattle.std.proofs.lemmas.List.{get_or_append_left, get_or_push, length-append, length-replicate}
-use Rattle.std.proofs.lemmas.List.Elements.{All-contains, All-nil, All-weaker, Contains-push, Contains-push_cases, at_from_Contains}
+use Rattle.std.proofs.lemmas.List.{length-replicate}
+use Rattle.std.proofs.lemmas.List.Elements.{All-contains, All-nil, Contains-push}
 use Rattle.sc_base.specs.Lists.{at_or, numbers_below}
 use Rattle.sc_ids.specs.Graphs.{StageData}
-use Rattle.sc_ids.specs.declared.blocks.ShuffleId.{ShuffleId}
 use Rattle.sc_ids.specs.declared.blocks.Target.{Target}
 use Rattle.sc_ids.specs.declared.blocks.Target.TheVariants as targets
-use Rattle.sc_tracker.specs.TrackerData.{TrackerData, outputs_of}
+use Rattle.sc_tracker.specs.TrackerData.{TrackerData}
 use Rattle.sc_tracker.specs.TrackerFacts.{IsSoundTracker}
-use Rattle.sc_dag.specs.DagData.{DagData, StageState, no_stage, stage_at}
+use Rattle.sc_dag.specs.DagData.{DagData, no_stage, stage_at}
 use Rattle.sc_dag.specs.Laws.{OpeningsAreSound}
-use Rattle.sc_dag.specs.Openings.{AreNumbered, AreOfTwo, FitsJob, IsJob, Opens, attempts_so_far, blank_state, blank_states, sized_for_all}
-use Rattle.sc_dag.specs.Outputs.{is_complete, is_complete_by, is_done_by, results_in}
+use Rattle.sc_dag.specs.Openings.{attempts_so_far, blank_state, blank_states}
+use Rattle.sc_dag.specs.Outputs.{is_complete_by, is_done_by, results_in}
 use Rattle.sc_dag.specs.Reports.{failed_count}
 use Rattle.sc_dag.specs.Settled.{IsSettled}
-use Rattle.sc_dag.specs.Sound.{AreSoundStages, IsAttemptOf, IsSoundDag}
+use Rattle.sc_dag.specs.Sound.{AreSoundStages, IsAttemptOf}
 use Rattle.sc_dag.specs.Submission.{is_map, waits_in}
 use Rattle.sc_dag.proofs.JobStages.{stages_sound}
 use Rattle.sc_dag.proofs.Sizing.{all_sized_sound}

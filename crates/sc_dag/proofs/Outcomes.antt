@@ -1,27 +1,15 @@
 -- What becomes of the stage of a success, and of all others with it.
-use Rattle.std.proofs.Common.{◌≡◌, ◌≢◌, ◌⊎◌, inl, inr, ℕ, ◌+◌, ◌-◌, ◌<◌, ◌==◌, ◌||◌, ◌&&◌, not, Bool, true, false, if◌then◌else◌, List, [], ◌∷◌, length, map, Option, Some, None, option_map, slice_get, refl, ap, sym, subst, ◌∙◌, arith, rules, true≢false}
-use Rattle.std.specs.List.{list_all}
+use Rattle.std.proofs.Common.{◌≡◌, ◌⊎◌, inl, inr, ℕ, ◌<◌, ◌&&◌, not, Bool, true, false, List, length, Option, Some, None, option_map, slice_get, refl, ap, sym, subst, ◌∙◌, arith, true≢false}
 use Rattle.std.proofs.lemmas.Bool.{cases_eq, or_left, or_right}
-use Rattle.sc_base.specs.Lists.{numbers_below}
 use Rattle.sc_ids.specs.Changes.{change_at}
-use Rattle.sc_ids.specs.Graphs.{StageData}
-use Rattle.sc_ids.specs.declared.attempts.AttemptId.{AttemptId}
-use Rattle.sc_ids.specs.declared.blocks.Loc.{Loc}
-use Rattle.sc_ids.specs.declared.blocks.ShuffleId.{ShuffleId}
-use Rattle.sc_ids.specs.declared.blocks.Target.{Target}
-use Rattle.sc_ids.specs.declared.blocks.Target.TheVariants as targets
 use Rattle.sc_ids.proofs.ChangeLemmas.{length_change_at, slice_get_change_other, slice_get_change_same}
-use Rattle.sc_taskset.specs.Reports.{after_end, after_success}
-use Rattle.sc_taskset.specs.TaskSetData.{TaskSetData}
 use Rattle.sc_tracker.specs.TrackerData.{TrackerData}
-use Rattle.sc_tracker.specs.Tracking.{is_bogus, registered}
-use Rattle.sc_dag.specs.DagData.{DagData, StageState, changed_newest, changed_set, dag_data, is_live_set, newest_at, place_of_attempt, stage_at, with_state}
-use Rattle.sc_dag.specs.Laws.{GoesOn, MapSuccessesGoOn, ResultSuccessesGoOn}
-use Rattle.sc_dag.specs.Outputs.{block_of, is_complete, is_complete_by, is_done_by, results_in}
-use Rattle.sc_dag.specs.Reports.{CompletesMap, after_map_success, after_result_success, block_by, completed, completed_if, ended_in_own, failed_count, forgiven, is_finished_short, is_of_newest, is_repeat, registered_by, succeeded_in_both, succeeded_in_own, wants_in, with_output, with_result}
-use Rattle.sc_dag.specs.Settled.{IsSettled, IsSettledBy, IsUnderWay, goes_on, goes_on_in, will_go_on}
-use Rattle.sc_dag.specs.Sound.{IsSoundDag, runner_of}
-use Rattle.sc_dag.specs.Submission.{IsSubmitted, is_idle_in, is_map, this_stage, waiting_stages, waits_in}
+use Rattle.sc_dag.specs.DagData.{DagData, StageState, is_live_set, newest_at, stage_at, with_state}
+use Rattle.sc_dag.specs.Laws.{GoesOn}
+use Rattle.sc_dag.specs.Outputs.{is_complete}
+use Rattle.sc_dag.specs.Reports.{CompletesMap, completed, failed_count, forgiven, is_finished_short}
+use Rattle.sc_dag.specs.Settled.{IsSettled, IsUnderWay, goes_on, goes_on_in}
+use Rattle.sc_dag.specs.Submission.{IsSubmitted, is_idle_in, this_stage, waiting_stages, waits_in}
 use Rattle.sc_dag.proofs.Calm.{complete_with}
 use Rattle.sc_dag.proofs.Ending.{SucceedsAt, all_done, goes_or_ended}
 use Rattle.sc_dag.proofs.GoingOn.{MeetsOwn, SameOthers, itself, moved, resubmitted, settled_moved}

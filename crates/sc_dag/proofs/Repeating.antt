@@ -1,5 +1,5 @@
 -- A stage that is submitted once more.
-use Rattle.std.proofs.Common.{◌≡◌, ◌⊎◌, inl, inr, ℕ, zero, suc, ◌+◌, ◌<◌, ◌≤◌, ◌==◌, ◌||◌, ◌&&◌, Bool, true, false, if◌then◌else◌, length, Option, Some, None, is_some, option_map, slice_get, refl, ap, sym, subst, ◌∙◌, arith, rules, true≢false, zero-add}
+use Rattle.std.proofs.Common.{◌≡◌, ◌⊎◌, inl, inr, ℕ, zero, suc, ◌+◌, ◌<◌, ◌≤◌, ◌&&◌, Bool, true, false, length, Option, Some, None, is_some, option_map, slice_get, refl, ap, sym, subst, ◌∙◌, arith, rules, true≢false, zero-add}
 use Rattle.std.specs.List.{list_all}
 use Rattle.std.proofs.lemmas.Bool.{cases_eq}
 use Rattle.std.proofs.lemmas.Bool.Decides.{nat_tests}
@@ -7,8 +7,8 @@ use Rattle.sc_base.specs.Lists.{numbers_below}
 use Rattle.sc_dag.specs.DagData.{DagData, StageState, is_live_set, newest_at, newest_set, stage_at, with_states}
 use Rattle.sc_dag.specs.Laws.{SubmissionsRepeat}
 use Rattle.sc_dag.specs.Outputs.{has_inputs, is_complete}
-use Rattle.sc_dag.specs.Sound.{AreSoundStages, IsSoundDag}
-use Rattle.sc_dag.specs.Submission.{AreLookedAt, IsSubmitted, as_waiting, by_number, is_asked_for, is_idle_in, moved_if, reads, started, this_stage}
+use Rattle.sc_dag.specs.Sound.{AreSoundStages}
+use Rattle.sc_dag.specs.Submission.{AreLookedAt, as_waiting, is_asked_for, is_idle_in, moved_if, reads, started, this_stage}
 use Rattle.sc_dag.proofs.Items.{by_number_same}
 use Rattle.sc_dag.proofs.Looking.{asked_by, complete_past, lacking_below, lacking_there, looked_asked, looked_lacks, looked_submitted, looked_why, read_before}
 use Rattle.sc_dag.proofs.Moving.{after_looking, complete_after, idle_dead, looked_goes, newest_among, newest_started, state_after, state_kept}
@@ -61,12 +61,16 @@ module _ (d : DagData) (s : ℕ) (one two : ℕ → Bool)
       by : (k ≡ s) ⊎ (k ≡ s → ⊥) → ((c : ℕ) → k < c → two c ≡ true → c ≡ s) → k ≡ s
       by (inl e) below = e
       by (inr ne) below =
-          let why = rw (other ne) at (looked_why (after_looking d one) (this_stage s) two k second is) in
-          let idle = both_left (is_idle_in (slice_get (after_looking d one).states k)) (is_asked_for (after_looking d one) two k) why in
+          let after = after_looking d one in
+          let is_idle = is_idle_in (slice_get after.states k) in
+          let asked = is_asked_for after two k in
+          let why = rw (other ne) at (looked_why after (this_stage s) two k second is) in
+          let idle = both_left is_idle asked why in
           let found = any_found (λ c. two c && reads d c k) (numbers_below (length d.stages))
-          (both_right (is_idle_in (slice_get (after_looking d one).states k)) (is_asked_for (after_looking d one) two k) why) in
+          (both_right is_idle asked why) in
           let looks : two found.0 ≡ true = both_left (two found.0) (reads d found.0 k) found.1 in
-          let read : reads d found.0 k ≡ true = both_right (two found.0) (reads d found.0 k) found.1 in
+          let read : reads d found.0 k ≡ true =
+          both_right (two found.0) (reads d found.0 k) found.1 in
           let same : found.0 ≡ s = below found.0 (read_before d found.0 k sound read) looks in
           absurd (no_parent k is (subst (λ c. two c ≡ true) same looks)
           (subst (λ c. reads d c k ≡ true) same read) idle)
@@ -85,8 +89,11 @@ module _ (d : DagData) (s : ℕ) (one two : ℕ → Bool)
           absurd (true≢false (sym (lacking_there d s long (lacked s is)) ∙ ap is_some e))
       by (Some state) e true h =
           absurd (clash (ap is_live_set (newest_started d.tracker d.limits (stage_at d s) state))
-          (ap is_live_set (sym (ap newest_among (state_after d one s ∙ ap (option_map (moved_if d one s)) e) ∙ started_is)) ∙ still))
+          (ap is_live_set (sym (ap newest_among now ∙ started_is)) ∙ still))
         where
+          now : slice_get (after_looking d one).states s ≡ Some (moved_if d one s state)
+          now = state_after d one s ∙ ap (option_map (moved_if d one s)) e
+
           started_is : newest_set (moved_if d one s state)
               ≡ newest_set (started d.tracker d.limits (stage_at d s) state)
           started_is = rw (was is, h) refl

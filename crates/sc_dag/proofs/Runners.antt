@@ -1,42 +1,21 @@
 -- Where an attempt runs, and which attempt of its stage it is.
-use Rattle.std.proofs.Common.{◌≡◌, ◌≢◌, ◌⊎◌, inl, inr, ℕ, zero, suc, ◌+◌, ◌-◌, ◌<◌, ◌≤◌, ◌==◌, ◌||◌, ◌&&◌, not, nat_lt, Bool, true, false, if◌then◌else◌, List, [], ◌∷◌, All, length, Option, Some, None, IfSome, is_some, option_map, slice_get, refl, ap, sym, subst, ◌∙◌, arith, rules, true≢false}
-use Rattle.std.proofs.lemmas.Bool.{cases_eq}
+use Rattle.std.proofs.Common.{◌≡◌, ℕ, ◌+◌, ◌-◌, ◌<◌, ◌≤◌, not, nat_lt, Bool, true, false, if◌then◌else◌, length, Option, Some, None, slice_get, refl, ap, sym, subst, ◌∙◌, arith, rules, true≢false}
 use Rattle.std.proofs.lemmas.Bool.Decides.{nat_tests}
 use Rattle.std.proofs.lemmas.Option.{slice_get_within}
-use Rattle.sc_ids.specs.Changes.{change_at}
 use Rattle.sc_ids.specs.Graphs.{StageData}
 use Rattle.sc_ids.specs.declared.attempts.AttemptId.{AttemptId}
-use Rattle.sc_ids.specs.declared.blocks.ShuffleId.{ShuffleId}
-use Rattle.sc_ids.specs.declared.blocks.Target.TheVariants as targets
-use Rattle.sc_ids.proofs.ChangeLemmas.{length_change_at}
-use Rattle.sc_taskset.specs.Lookups.{is_finish, is_finished, is_task_of, is_there_and, task_at}
-use Rattle.sc_taskset.specs.Reports.{after_success}
+use Rattle.sc_taskset.specs.Lookups.{is_finished, is_task_of, is_there_and, task_at}
 use Rattle.sc_taskset.specs.TaskSetData.{TaskData, TaskSetData}
-use Rattle.sc_taskset.specs.declared.tasks.Finish.TheVariants.{InOlderSet, OnExecutor}
-use Rattle.sc_tracker.specs.TrackerData.{TrackerData, output_of}
-use Rattle.sc_dag.specs.DagData.{DagData, StageState, attempt_in, changed_newest, changed_set, newest_set, place_of_attempt, set_in, stage_at, with_attempts, with_set}
-use Rattle.sc_dag.specs.Outputs.{block_of, is_done_by}
+use Rattle.sc_dag.specs.DagData.{DagData, StageState, attempt_in, newest_set, place_of_attempt, set_in, stage_at}
 use Rattle.sc_dag.specs.Reports.{wants_in}
-use Rattle.sc_dag.specs.Sound.{IsAttemptOf, IsSetOf, finish_in, runner_in, runner_of}
-use Rattle.sc_dag.specs.Submission.{is_map}
+use Rattle.sc_dag.specs.Sound.{IsSetOf, runner_in, runner_of}
 use Rattle.sc_dag.specs.declared.attempts.StageAttempt.{StageAttempt}
-use Rattle.std.proofs.Common.{◌≡◌, ◌≢◌, ◌⊎◌, inl, inr, ℕ, ◌+◌, ◌-◌, ◌<◌, ◌≤◌, ◌==◌, not, Bool, true, false, if◌then◌else◌, List, [], ◌∷◌, length, Option, Some, None, IfSome, is_some, slice_get, refl, ap, sym, subst, ◌∙◌, arith, rules, true≢false}
-use Rattle.sc_base.specs.Lists.{at_or}
-use Rattle.sc_ids.specs.declared.blocks.BlockId.{BlockId}
-use Rattle.sc_ids.specs.declared.blocks.Loc.{Loc}
-use Rattle.sc_ids.specs.declared.blocks.Target.{Target}
-use Rattle.sc_ids.proofs.ChangeLemmas.{at_or_change_other, at_or_change_same, length_change_at}
+use Rattle.std.proofs.Common.{◌≡◌, ℕ, ◌+◌, ◌-◌, ◌<◌, ◌≤◌, not, Bool, true, false, if◌then◌else◌, length, Option, Some, None, slice_get, refl, ap, sym, subst, ◌∙◌, arith, rules, true≢false}
 use Rattle.sc_taskset.specs.TaskSetData.{TaskSetData}
-use Rattle.sc_tracker.specs.TrackerData.{TrackerData, output_of, outputs_of}
-use Rattle.sc_tracker.specs.TrackerFacts.{IsSoundTracker}
-use Rattle.sc_tracker.specs.Tracking.{is_bogus, registered}
-use Rattle.sc_tracker.proofs.BlockLemmas.{registers_one}
-use Rattle.sc_tracker.proofs.TrackerLemmas.{registered_sound}
-use Rattle.sc_dag.specs.DagData.{DagData, StageState, changed_newest, changed_set, dag_data, newest_at, newest_set, place_of_attempt, stage_at, with_state}
+use Rattle.sc_dag.specs.DagData.{DagData, StageState, newest_at, newest_set, place_of_attempt, stage_at}
 use Rattle.sc_dag.specs.Offers.{newest_number, number_in}
-use Rattle.sc_dag.specs.Outputs.{block_of, is_complete, is_done_by}
-use Rattle.sc_dag.specs.Reports.{after_map_success, after_result_success, block_by, completed, completed_if, ended_in_own, is_of_newest, is_repeat, registered_by, succeeded_in_both, succeeded_in_own, wants_in, with_output, with_result}
-use Rattle.sc_dag.specs.Sound.{AreSoundStages, IsAttemptOf, IsSetOf, IsSoundDag, attempts_in, runner_of}
+use Rattle.sc_dag.specs.Reports.{is_of_newest, wants_in}
+use Rattle.sc_dag.specs.Sound.{IsSetOf, IsSoundDag, runner_of}
 use Rattle.sc_dag.proofs.Items.{find_all, find_passes}
 use Rattle.sc_dag.proofs.Moving.{newest_among}
 use Rattle.sc_dag.proofs.Stuck.{newest_holds}

@@ -1,27 +1,20 @@
 -- What each change of a task set keeps.
-use Rattle.std.proofs.Common.{◌≡◌, ◌⊎◌, inl, inr, ℕ, ◌+◌, ◌<◌, ◌≤◌, ◌==◌, ◌||◌, ◌&&◌, not, Bool, true, false, if◌then◌else◌, List, [], ◌∷◌, All, length, map, Option, Some, None, option_map, refl, ap, sym, subst, ◌∙◌, arith, rules, true≢false}
-use Rattle.std.specs.List.{find}
-use Rattle.std.specs.Option.{unwrap_or}
+use Rattle.std.proofs.Common.{◌≡◌, ℕ, ◌+◌, ◌==◌, not, Bool, true, false, if◌then◌else◌, List, [], ◌∷◌, map, Option, Some, None, option_map, refl, ap, subst, ◌∙◌, arith}
 use Rattle.std.proofs.lemmas.Bool.Decides.{nat_tests}
-use Rattle.std.proofs.lemmas.List.Elements.{All-map}
 use Rattle.sc_ids.specs.declared.failures.FailureCause.{FailureCause}
-use Rattle.sc_taskset.specs.Lookups.{are_finished, copy_at, is_finish, is_finish_on, is_finished, is_there_and, task_at, with_task, is_task_of}
+use Rattle.sc_taskset.specs.Lookups.{is_finish, is_finished, is_there_and, task_at, with_task, is_task_of}
 use Rattle.sc_taskset.specs.Offers.{handed, handed_task, may_be_given}
 use Rattle.sc_taskset.specs.Reports.{after_end, after_failure, after_held, after_loss, after_success, as_zombie, ended_task, failed_task, held_task, is_counted_in, is_failure, lost_task, noted_task, redoes_lost, succeeded_task}
 use Rattle.sc_taskset.specs.Rows.{IsHeld, running_count}
 use Rattle.sc_taskset.specs.Sound.{IsSoundSet}
 use Rattle.sc_taskset.specs.TaskSetData.{TaskData, TaskSetData, partitions_of}
-use Rattle.sc_taskset.specs.declared.tasks.Finish.{Finish}
-use Rattle.sc_taskset.specs.declared.tasks.Finish.TheVariants.{InOlderSet, OnExecutor, Unfinished}
-use Rattle.sc_taskset.specs.declared.tasks.Running.{Running}
-use Rattle.sc_ids.specs.declared.attempts.AttemptId.{AttemptId}
 use Rattle.sc_taskset.proofs.ChangeLemmas.{map_kept}
 use Rattle.sc_taskset.proofs.HandLemmas.{held_handed}
 use Rattle.sc_taskset.proofs.LawLemmas.{task_changed, task_other}
 use Rattle.sc_taskset.proofs.SetLemmas.{held_kept, held_loss, keeps_ended, keeps_failed, keeps_held}
 use Rattle.sc_taskset.proofs.SuccessLemmas.{held_success}
 use Rattle.sc_dag.specs.Reports.{wants_in}
-use Rattle.sc_dag.specs.Sound.{finish_among, finish_in, runner_among, runner_in}
+use Rattle.sc_dag.specs.Sound.{finish_among, finish_in}
 
 -- what a set becomes keeps what holds of every set
 pub record KeepsSet (set after : TaskSetData) : Type 0 where
@@ -182,7 +175,8 @@ pub keeps_success :
 keeps_success set p nth now =
     record {
       sound = λ s.
-          (held_success set p nth now (running_count set.tasks) (omega arith) (held_by set s)).sound;
+          (held_success set p nth now (running_count set.tasks) (omega arith)
+          (held_by set s)).sound;
       kind = refl;
       partitions = partitions_kept p (succeeded_task nth) (λ t. refl) set.tasks;
       dead = λ z. rw z refl;

@@ -1,24 +1,13 @@
 -- A submission settles what was to be submitted.
-use Rattle.std.proofs.Common.{◌≡◌, ◌⊎◌, inl, inr, ℕ, zero, suc, ◌+◌, ◌-◌, ◌<◌, ◌≤◌, ◌==◌, ◌||◌, ◌&&◌, not, Bool, true, false, cond, if◌then◌else◌, List, [], ◌∷◌, ◌++◌, All, length, map, Option, Some, None, is_some, option_map, slice_get, refl, ap, sym, subst, ◌∙◌, arith, rules, true≢false, lt_of_not-le}
+use Rattle.std.proofs.Common.{◌≡◌, ◌⊎◌, inl, inr, ℕ, ◌<◌, ◌||◌, ◌&&◌, not, Bool, true, false, length, Option, Some, None, slice_get, refl, ap, sym, subst, ◌∙◌}
 use Rattle.std.proofs.lemmas.Bool.{or_left}
-use Rattle.std.specs.List.{list_all, list_any}
-use Rattle.std.proofs.lemmas.Bool.Decides.{nat_tests}
-use Rattle.std.proofs.lemmas.Option.{slice_get_cases}
-use Rattle.sc_base.specs.Lists.{at_or, numbers_below}
-use Rattle.sc_ids.specs.Changes.{change_at}
-use Rattle.sc_ids.proofs.ChangeLemmas.{length_change_at}
-use Rattle.sc_ids.specs.Graphs.{StageData}
-use Rattle.sc_ids.specs.declared.limits.Limits.{Limits}
-use Rattle.sc_taskset.specs.Reports.{as_zombie}
-use Rattle.sc_taskset.specs.TaskSetData.{TaskSetData}
-use Rattle.sc_tracker.specs.TrackerData.{TrackerData}
-use Rattle.sc_dag.specs.DagData.{DagData, StageState, is_live, is_live_set, changed_newest, newest_at, newest_set, no_stage, set_in, stage_at, stage_attempt, with_set, with_states}
-use Rattle.sc_dag.specs.Laws.{GoesOn, SubmissionsAgree, SubmissionsRepeat, SubmissionsSettle}
-use Rattle.sc_dag.specs.Outputs.{has_inputs, is_complete, is_complete_by, results_in}
+use Rattle.std.specs.List.{list_any}
+use Rattle.sc_dag.specs.DagData.{DagData, StageState, is_live, is_live_set, newest_at, stage_at}
+use Rattle.sc_dag.specs.Laws.{GoesOn, SubmissionsSettle}
+use Rattle.sc_dag.specs.Outputs.{is_complete}
 use Rattle.sc_dag.specs.Reports.{failed_count}
-use Rattle.sc_dag.specs.Settled.{IsSettled, IsSettledBy, IsUnderWay, goes_on, goes_on_in, will_go_on}
-use Rattle.sc_dag.specs.Sound.{AreSoundStages, IsSoundDag}
-use Rattle.sc_dag.specs.Submission.{AreLookedAt, IsSubmitted, as_waiting, by_number, is_asked_for, is_idle, is_idle_in, moved_if, moved_on, new_set, reads, started, this_stage, waiting_stages, waits_in}
+use Rattle.sc_dag.specs.Settled.{IsSettledBy, IsUnderWay, goes_on, will_go_on}
+use Rattle.sc_dag.specs.Submission.{AreLookedAt, is_asked_for, is_idle_in, waiting_stages, waits_in}
 use Rattle.sc_dag.proofs.Looking.{asked_by, lacking_below, lacking_there, looked_asked, looked_lacks, looked_submitted, looked_why}
 use Rattle.sc_dag.proofs.Moving.{after_looking, busy, complete_after, goes_after, looked_goes, newest_among, newest_looked, state_kept, waits_looked}
 use Rattle.sc_dag.proofs.Tests.{any_mono, any_within, both_left, both_right, clash, is_in, not_all, not_true}
@@ -101,7 +90,8 @@ settles d submitted looked same settled dead_before are =
     parent : (s : ℕ) → looked s ≡ true → (p : ℕ) → is_in (stage_at d s).parents p ≡ true
         → not (is_complete d p) ≡ true → will_go_on after (λ q. false) p ≡ true
     parent s is p read e =
-        rw (lacks p lack) (or_left (goes_on after p) false (by (is_idle_in (slice_get d.states p)) refl))
+        rw (lacks p lack)
+        (or_left (goes_on after p) false (by (is_idle_in (slice_get d.states p)) refl))
       where
         lack : is_complete d p ≡ false
         lack = not_true (is_complete d p) e

@@ -1,9 +1,8 @@
 -- Room for the outputs of all stages of a job.
-use Rattle.std.proofs.Common.{◌≡◌, ◌≢◌, ◌⊎◌, inl, inr, ℕ, zero, suc, ◌+◌, ◌<◌, ◌≤◌, ◌==◌, ◌||◌, Bool, true, false, if◌then◌else◌, List, [], ◌∷◌, ◌++◌, All, AllPairs, get_or, length, replicate, Option, Some, None, IfSome, refl, ap, sym, subst, ◌∙◌, arith, rules, true≢false}
+use Rattle.std.proofs.Common.{◌≡◌, ◌⊎◌, inl, inr, ◌≤◌, ◌||◌, Bool, true, false, if◌then◌else◌, List, [], ◌∷◌, ◌++◌, All, AllPairs, get_or, length, replicate, refl, ap, sym, subst, ◌∙◌, arith}
 use Rattle.std.specs.List.{list_any}
-use Rattle.std.proofs.lemmas.Bool.Decides.{nat_tests}
 use Rattle.std.proofs.lemmas.List.{length-replicate}
-use Rattle.std.proofs.lemmas.List.Elements.{All-cons, All-head, All-nil, All-push, All-replicate, All-tail, All-weaker}
+use Rattle.std.proofs.lemmas.List.Elements.{All-cons, All-head, All-nil, All-push, All-replicate, All-tail}
 use Rattle.sc_ids.specs.Graphs.{StageData}
 use Rattle.sc_ids.specs.declared.blocks.ShuffleId.{ShuffleId}
 use Rattle.sc_ids.specs.declared.blocks.Target.{Target}
@@ -11,7 +10,7 @@ use Rattle.sc_ids.specs.declared.blocks.Target.TheVariants as targets
 use Rattle.sc_tracker.specs.Outputs.{never}
 use Rattle.sc_tracker.specs.TrackerData.{ShuffleData, TrackerData, is_of, outputs_of, outputs_under, shuffle_data, tracker_data}
 use Rattle.sc_tracker.specs.TrackerFacts.{IsSoundOutput, IsSoundTracker}
-use Rattle.sc_tracker.specs.Tracking.{has_room, sized}
+use Rattle.sc_tracker.specs.Tracking.{has_room}
 use Rattle.sc_tracker.proofs.BlockLemmas.{is_of_itself, one_shuffle, room_made, under_behind, under_here}
 use Rattle.sc_dag.specs.Openings.{AreOfTwo, FitsIn, FitsJob, sized_by, sized_for_all}
 use Rattle.sc_dag.proofs.Items.{pairs_head, pairs_tail}

@@ -1,24 +1,15 @@
 -- What a change of attempts keeps of their stage.
-use Rattle.std.proofs.Common.{◌≡◌, ◌≢◌, ◌⊎◌, inl, inr, ℕ, zero, suc, ◌+◌, ◌-◌, ◌<◌, ◌≤◌, ◌==◌, ◌||◌, ◌&&◌, not, Bool, true, false, if◌then◌else◌, List, [], ◌∷◌, ◌++◌, All, length, map, take, Option, Some, None, IfSome, is_some, option_map, slice_get, refl, ap, sym, subst, ◌∙◌, arith, rules, true≢false}
+use Rattle.std.proofs.Common.{◌≡◌, ◌⊎◌, inl, inr, ℕ, zero, suc, ◌-◌, ◌<◌, Bool, true, List, [], ◌∷◌, All, length, map, take, Option, Some, None, option_map, slice_get, refl, ap, sym, subst, ◌∙◌, rules}
 use Rattle.std.proofs.lemmas.Bool.{cases_eq}
 use Rattle.std.proofs.lemmas.List.{length-map}
-use Rattle.std.proofs.lemmas.List.Elements.{All-map, All-nil, All-weaker}
+use Rattle.std.proofs.lemmas.List.Elements.{All-map, All-weaker}
 use Rattle.sc_ids.specs.Changes.{change_at}
 use Rattle.sc_ids.specs.Graphs.{StageData}
-use Rattle.sc_ids.specs.declared.blocks.ShuffleId.{ShuffleId}
-use Rattle.sc_ids.specs.declared.blocks.Target.{Target}
-use Rattle.sc_ids.specs.declared.blocks.Target.TheVariants as targets
 use Rattle.sc_ids.proofs.ChangeLemmas.{length_change_at, slice_get_change_other, slice_get_change_same}
-use Rattle.sc_taskset.specs.TaskSetData.{TaskData, TaskSetData, partitions_of}
-use Rattle.sc_taskset.specs.declared.tasks.Finish.{Finish}
-use Rattle.sc_taskset.specs.declared.tasks.Finish.TheVariants.{OnExecutor, Unfinished}
-use Rattle.sc_tracker.specs.TrackerData.{TrackerData, output_of, outputs_of}
-use Rattle.sc_tracker.specs.TrackerFacts.{IsSoundTracker}
-use Rattle.sc_dag.specs.DagData.{DagData, StageState, dag_data, newest_at, newest_set, set_in, stage_at, stage_attempt, with_attempts, with_set, with_state}
-use Rattle.sc_dag.specs.Outputs.{block_of, is_done, is_done_by, results_in}
-use Rattle.sc_dag.specs.Reports.{wants_in}
-use Rattle.sc_dag.specs.Sound.{AreSoundStages, IsAttemptOf, IsSetOf, IsSoundDag, attempts_in, attempts_of, finish_in}
-use Rattle.sc_dag.specs.Submission.{is_map}
+use Rattle.sc_taskset.specs.TaskSetData.{TaskSetData}
+use Rattle.sc_tracker.specs.TrackerData.{TrackerData}
+use Rattle.sc_dag.specs.DagData.{StageState, newest_set, set_in, stage_attempt, with_attempts, with_set}
+use Rattle.sc_dag.specs.Sound.{IsAttemptOf, IsSetOf}
 use Rattle.sc_dag.specs.declared.attempts.StageAttempt.{StageAttempt}
 use Rattle.sc_dag.proofs.Items.{all_changed, all_unmapped, take_change, take_map}
 use Rattle.sc_dag.proofs.Sets.{KeepsSet, SameFinish}

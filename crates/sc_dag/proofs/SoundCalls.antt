@@ -1,11 +1,11 @@
 -- Every call keeps what holds of every job.
-use Rattle.std.proofs.Common.{◌≡◌, ℕ}
+use Rattle.std.proofs.Common.{ℕ}
 use Rattle.sc_taskset.specs.declared.tasks.Verdict.{Verdict}
 use Rattle.sc_taskset.specs.declared.tasks.Verdict.TheVariants.{Again, Limit}
 use Rattle.std.proofs.Common.{subst, sym}
 use Rattle.sc_dag.specs.DagData.{DagData, with_state}
 use Rattle.sc_dag.specs.Laws.{CallsKeepSound}
-use Rattle.sc_dag.specs.Reports.{CompletesMap, FailsStage, completed, with_failed}
+use Rattle.sc_dag.specs.Reports.{FailsStage, completed, with_failed}
 use Rattle.sc_dag.specs.Sound.{IsSoundDag}
 use Rattle.sc_dag.specs.Submission.{this_stage, waiting_stages}
 use Rattle.sc_dag.proofs.Keeping.{completed_sound, failed_sound, handed_sound, hold_sound, with_failed_sound}

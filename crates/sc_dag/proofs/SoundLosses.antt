@@ -1,5 +1,5 @@
 -- The loss of outputs and executors keeps what holds of every job.
-use Rattle.std.proofs.Common.{◌≡◌, ◌≢◌, ◌⊎◌, inl, inr, ℕ, ◌+◌, ◌-◌, ◌<◌, ◌≤◌, ◌==◌, not, Bool, true, false, if◌then◌else◌, List, [], ◌∷◌, length, map, Option, Some, None, IfSome, is_some, option_map, slice_get, refl, ap, sym, subst, ◌∙◌, arith, rules, true≢false}
+use Rattle.std.proofs.Common.{◌≡◌, ◌⊎◌, inl, inr, ℕ, ◌-◌, ◌≤◌, Bool, true, false, if◌then◌else◌, List, length, map, Option, Some, None, IfSome, is_some, option_map, slice_get, refl, ap, sym, subst, ◌∙◌, arith, rules, true≢false}
 use Rattle.std.proofs.lemmas.Bool.Decides.{nat_tests}
 use Rattle.std.proofs.lemmas.List.{length-map}
 use Rattle.std.proofs.lemmas.Option.{slice_get-map}
@@ -20,11 +20,11 @@ use Rattle.sc_tracker.specs.Trust.{is_live as is_live_executor, is_newer}
 use Rattle.sc_tracker.specs.declared.outputs.Output.{Output}
 use Rattle.sc_tracker.proofs.BlockLemmas.{forgets_on_one, under_mapped}
 use Rattle.sc_tracker.proofs.TrackerLemmas.{gone_sound, lost_sound}
-use Rattle.sc_dag.specs.DagData.{DagData, StageState, dag_data, newest_set, set_in, stage_at, with_set, with_tracker}
+use Rattle.sc_dag.specs.DagData.{DagData, StageState, set_in, stage_at, with_set, with_tracker}
 use Rattle.sc_dag.specs.Losses.{after_lost, after_seen, without_executor}
 use Rattle.sc_dag.specs.Outputs.{block_of, is_done_by}
 use Rattle.sc_dag.specs.Reports.{wants_in}
-use Rattle.sc_dag.specs.Sound.{IsAttemptOf, IsSetOf, IsSoundDag, finish_in}
+use Rattle.sc_dag.specs.Sound.{IsAttemptOf, IsSoundDag, finish_in}
 use Rattle.sc_dag.specs.Submission.{is_map}
 use Rattle.sc_dag.specs.declared.attempts.StageAttempt.{StageAttempt}
 use Rattle.sc_dag.proofs.Finishes.{loss_finish, loss_wanted, loss_wants}
@@ -144,7 +144,8 @@ sound_forgotten t u exec stage (Some state) f is =
       };
     }
 
-pub seen_sound : (d : DagData) (exec found : ℕ) → IsSoundDag d → IsSoundDag (after_seen d exec found)
+pub seen_sound :
+    (d : DagData) (exec found : ℕ) → IsSoundDag d → IsSoundDag (after_seen d exec found)
 seen_sound d exec found sound = by (is_newer (slice_get d.tracker.trust exec) found) refl
   where
     by : (b : Bool) → is_newer (slice_get d.tracker.trust exec) found ≡ b

@@ -1,29 +1,16 @@
 -- Successes of result tasks keep what holds of every job.
-use Rattle.std.proofs.Common.{◌≡◌, ◌≢◌, ◌⊎◌, inl, inr, ℕ, ◌+◌, ◌-◌, ◌<◌, ◌≤◌, ◌==◌, not, Bool, true, false, if◌then◌else◌, List, [], ◌∷◌, length, Option, Some, None, IfSome, is_some, slice_get, refl, ap, sym, subst, ◌∙◌, arith, rules, true≢false}
-use Rattle.std.proofs.lemmas.Bool.{cases_eq}
-use Rattle.std.proofs.lemmas.Bool.Decides.{nat_tests}
-use Rattle.sc_base.specs.Lists.{at_or}
+use Rattle.std.proofs.Common.{◌≡◌, ℕ, ◌<◌, Bool, true, false, if◌then◌else◌, List, length, Some, None, refl, ap, sym, subst, ◌∙◌, arith, true≢false}
 use Rattle.sc_ids.specs.Changes.{change_at}
 use Rattle.sc_ids.specs.Graphs.{StageData}
 use Rattle.sc_ids.specs.declared.attempts.AttemptId.{AttemptId}
-use Rattle.sc_ids.specs.declared.blocks.BlockId.{BlockId}
-use Rattle.sc_ids.specs.declared.blocks.Loc.{Loc}
-use Rattle.sc_ids.specs.declared.blocks.ShuffleId.{ShuffleId}
 use Rattle.sc_ids.specs.declared.blocks.Target.{Target}
 use Rattle.sc_ids.specs.declared.blocks.Target.TheVariants as targets
 use Rattle.sc_ids.proofs.ChangeLemmas.{at_or_change_other, at_or_change_same, length_change_at}
 use Rattle.sc_taskset.specs.Reports.{after_success}
-use Rattle.sc_taskset.specs.TaskSetData.{TaskSetData}
-use Rattle.sc_tracker.specs.TrackerData.{TrackerData, output_of, outputs_of}
-use Rattle.sc_tracker.specs.TrackerFacts.{IsSoundTracker}
-use Rattle.sc_tracker.specs.Tracking.{is_bogus, registered}
-use Rattle.sc_tracker.proofs.BlockLemmas.{registers_one}
-use Rattle.sc_tracker.proofs.TrackerLemmas.{registered_sound}
-use Rattle.sc_dag.specs.DagData.{DagData, StageState, changed_newest, changed_set, dag_data, newest_at, newest_set, place_of_attempt, stage_at, with_state}
-use Rattle.sc_dag.specs.Offers.{newest_number, number_in}
-use Rattle.sc_dag.specs.Outputs.{block_of, is_complete, is_done_by}
-use Rattle.sc_dag.specs.Reports.{after_map_success, after_result_success, block_by, completed, completed_if, ended_in_own, is_of_newest, is_repeat, registered_by, succeeded_in_both, succeeded_in_own, wants_in, with_output, with_result}
-use Rattle.sc_dag.specs.Sound.{AreSoundStages, IsAttemptOf, IsSetOf, IsSoundDag, attempts_in, runner_of}
+use Rattle.sc_dag.specs.DagData.{DagData, StageState, changed_newest, changed_set, dag_data, newest_at, stage_at, with_state}
+use Rattle.sc_dag.specs.Outputs.{is_complete, is_done_by}
+use Rattle.sc_dag.specs.Reports.{after_result_success, completed, completed_if, ended_in_own, is_of_newest, is_repeat, succeeded_in_both, succeeded_in_own, wants_in, with_result}
+use Rattle.sc_dag.specs.Sound.{IsSoundDag, runner_of}
 use Rattle.sc_dag.specs.Submission.{is_map}
 use Rattle.sc_dag.proofs.Items.{change_twice}
 use Rattle.sc_dag.proofs.Keeping.{completed_sound, ended_sound}
@@ -94,7 +81,8 @@ module _ (d : DagData) (a : AttemptId) (exec now : ℕ) (sound : IsSoundDag d)
           (sound_with d a.stage (λ state. with_result a.partition (own_set state)) sound
           (λ state at is.
           success_in_newest d.tracker d.tracker stage state (results state) a exec now is
-          (runs_in d a exec state at runs) (wanted_in d a exec now sound runs wants state at) (newest_place d a exec now sound runs wants state at e)
+          (runs_in d a exec state at runs) (wanted_in d a exec now sound runs wants state at)
+          (newest_place d a exec now sound runs wants state at e)
           (places state is.results) (to state is.results)))
       by false e =
           subst (λ states. IsSoundDag (dag_data d.stages states d.tracker d.limits))
@@ -106,7 +94,8 @@ module _ (d : DagData) (a : AttemptId) (exec now : ℕ) (sound : IsSoundDag d)
           (λ state. with_result a.partition (newest_too (own_set state))) sound
           (λ state at is.
           success_in_both d.tracker d.tracker stage state (results state) a exec now is
-          (wanted_in d a exec now sound runs wants state at) (older_place d a exec now sound runs wants state at e)
+          (wanted_in d a exec now sound runs wants state at)
+          (older_place d a exec now sound runs wants state at e)
           (places state is.results) (to state is.results)))
 
 -- a success of a result task

@@ -1,7 +1,7 @@
 -- A submission keeps what holds of every job.
-use Rattle.std.proofs.Common.{◌≡◌, ◌≢◌, ◌⊎◌, inl, inr, ℕ, zero, suc, ◌+◌, ◌-◌, ◌<◌, ◌≤◌, ◌==◌, ◌||◌, ◌&&◌, not, Bool, true, false, cond, if◌then◌else◌, List, [], ◌∷◌, ◌++◌, All, AllPairs, filter, length, map, take, Option, Some, None, option_map, slice_get, refl, ap, sym, subst, ◌∙◌, arith, rules, true≢false}
+use Rattle.std.proofs.Common.{◌≡◌, ℕ, zero, suc, ◌+◌, ◌-◌, ◌<◌, ◌≤◌, ◌==◌, ◌||◌, ◌&&◌, not, Bool, true, false, cond, if◌then◌else◌, List, [], ◌∷◌, All, filter, length, map, take, Some, slice_get, refl, ap, sym, subst, ◌∙◌, arith, rules, true≢false}
 use Rattle.std.proofs.lemmas.Bool.{or_right}
-use Rattle.std.specs.List.{list_all, list_any}
+use Rattle.std.specs.List.{list_all}
 use Rattle.std.proofs.lemmas.Bool.Decides.{nat_tests}
 use Rattle.std.proofs.lemmas.List.Elements.{All-cons, All-filter, All-head, All-map, All-nil, All-push, All-tail, All-weaker, filter_passes}
 use Rattle.std.proofs.lemmas.List.Kept.{AllPairs-cons, AllPairs-filter}
@@ -17,7 +17,7 @@ use Rattle.sc_taskset.specs.declared.tasks.Finish.TheVariants.{Unfinished}
 use Rattle.sc_taskset.proofs.RoomLemmas.{held_fresh}
 use Rattle.sc_tracker.specs.TrackerData.{TrackerData}
 use Rattle.sc_dag.specs.DagData.{DagData, StageState, stage_at, stage_attempt, with_set}
-use Rattle.sc_dag.specs.Outputs.{has_inputs, is_complete, is_complete_by, is_done_by, missing_by, results_in}
+use Rattle.sc_dag.specs.Outputs.{has_inputs, is_complete_by, is_done_by, missing_by, results_in}
 use Rattle.sc_dag.specs.Sound.{IsAttemptOf, IsSetOf, IsSoundDag, finish_among}
 use Rattle.sc_dag.specs.Submission.{AreLookedAt, IsSubmitted, as_waiting, is_map, moved_if, new_set, started}
 use Rattle.sc_dag.specs.declared.attempts.StageAttempt.{StageAttempt}

@@ -1,8 +1,7 @@
 -- Where a stage is under way and nothing is on offer, a task is held back.
-use Rattle.std.proofs.Common.{◌≡◌, ◌⊎◌, inl, inr, ℕ, zero, suc, ◌+◌, ◌-◌, ◌<◌, ◌≤◌, ◌==◌, ◌||◌, ◌&&◌, not, Bool, true, false, cond, List, [], ◌∷◌, All, AllPairs, length, map, Option, Some, None, find, slice_get, refl, ap, sym, subst, ◌∙◌, arith, rules, true≢false}
-use Rattle.std.specs.List.{list_all, list_any}
+use Rattle.std.proofs.Common.{◌≡◌, ◌⊎◌, inl, inr, ℕ, zero, suc, ◌-◌, ◌<◌, ◌||◌, ◌&&◌, not, Bool, true, false, List, [], ◌∷◌, All, length, map, Option, Some, None, slice_get, refl, ap, sym, subst, ◌∙◌, arith, rules, true≢false}
+use Rattle.std.specs.List.{list_any}
 use Rattle.std.proofs.lemmas.Bool.Decides.{nat_tests}
-use Rattle.sc_ids.specs.Graphs.{StageData}
 use Rattle.sc_taskset.specs.Lookups.{are_finished, is_finished, is_idle, is_task_of, task_at}
 use Rattle.sc_taskset.specs.Offers.{is_pending, is_pending_task}
 use Rattle.sc_taskset.specs.Sound.{AreRising}
@@ -12,7 +11,7 @@ use Rattle.sc_dag.specs.Laws.{HoldsBack, NothingIsStuck}
 use Rattle.sc_dag.specs.Offers.{HasNone, OffersIn}
 use Rattle.sc_dag.specs.Outputs.{is_complete}
 use Rattle.sc_dag.specs.Settled.{IsSettled, IsUnderWay, goes_on, goes_on_in, will_go_on}
-use Rattle.sc_dag.specs.Sound.{IsAttemptOf, IsSetOf, IsSoundDag, attempts_in}
+use Rattle.sc_dag.specs.Sound.{IsSetOf, IsSoundDag, attempts_in}
 use Rattle.sc_dag.specs.Submission.{waiting_stages, waits_in}
 use Rattle.sc_dag.specs.declared.attempts.StageAttempt.{StageAttempt}
 use Rattle.sc_dag.proofs.Items.{all_at, all_unmapped, find_all, pairs_head, pairs_tail}
@@ -139,8 +138,11 @@ stuck_below d exec sound settled none (suc n) s lt under =
         → (p : ℕ) × (p < s) × IsUnderWay d p
     parents (inl e) = absurd (true≢false (sym e))
     parents (inr some) =
-        let p = any_member (will_go_on d (λ q. false)) (stage_at d s).parents some in
-        (p.0, all_in (λ q. q < s) (stage_at d s).parents p.0 (sound.stages.older s) p.1, way p.0 p.2)
+        let p = any_member (will_go_on d (λ q. false)) (stage_at d s).parents some in (
+          p.0,
+          all_in (λ q. q < s) (stage_at d s).parents p.0 (sound.stages.older s) p.1,
+          way p.0 p.2,
+        )
 
     waiting : ((p : ℕ) → p < s → IsUnderWay d p → (r : ℕ) × (q : ℕ) × HoldsBack d r q)
         → waiting_stages d s ≡ true → (r : ℕ) × (p : ℕ) × HoldsBack d r p

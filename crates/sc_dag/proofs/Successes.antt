@@ -1,23 +1,20 @@
 -- What the success of an attempt leaves of its stage.
-use Rattle.std.proofs.Common.{◌≡◌, ◌≢◌, ◌⊎◌, inl, inr, ℕ, zero, suc, ◌+◌, ◌-◌, ◌<◌, ◌≤◌, ◌==◌, ◌||◌, ◌&&◌, not, nat_lt, Bool, true, false, if◌then◌else◌, List, [], ◌∷◌, All, length, Option, Some, None, IfSome, is_some, option_map, slice_get, refl, ap, sym, subst, ◌∙◌, arith, rules, true≢false}
+use Rattle.std.proofs.Common.{◌≡◌, ◌⊎◌, inl, inr, ℕ, ◌-◌, ◌<◌, Bool, true, false, List, length, Option, Some, None, IfSome, option_map, slice_get, refl, ap, sym, subst, ◌∙◌, rules, true≢false}
 use Rattle.std.proofs.lemmas.Bool.{cases_eq}
-use Rattle.std.proofs.lemmas.Bool.Decides.{nat_tests}
-use Rattle.std.proofs.lemmas.Option.{slice_get_within}
 use Rattle.sc_ids.specs.Changes.{change_at}
 use Rattle.sc_ids.specs.Graphs.{StageData}
 use Rattle.sc_ids.specs.declared.attempts.AttemptId.{AttemptId}
 use Rattle.sc_ids.specs.declared.blocks.ShuffleId.{ShuffleId}
 use Rattle.sc_ids.specs.declared.blocks.Target.TheVariants as targets
-use Rattle.sc_ids.proofs.ChangeLemmas.{length_change_at}
-use Rattle.sc_taskset.specs.Lookups.{is_finish, is_finished, is_task_of, is_there_and, task_at}
+use Rattle.sc_taskset.specs.Lookups.{is_finish}
 use Rattle.sc_taskset.specs.Reports.{after_success}
-use Rattle.sc_taskset.specs.TaskSetData.{TaskData, TaskSetData}
+use Rattle.sc_taskset.specs.TaskSetData.{TaskSetData}
 use Rattle.sc_taskset.specs.declared.tasks.Finish.TheVariants.{InOlderSet, OnExecutor}
 use Rattle.sc_tracker.specs.TrackerData.{TrackerData, output_of}
-use Rattle.sc_dag.specs.DagData.{DagData, StageState, attempt_in, changed_newest, changed_set, newest_set, place_of_attempt, set_in, stage_at, with_attempts, with_set}
+use Rattle.sc_dag.specs.DagData.{StageState, changed_newest, changed_set, newest_set, place_of_attempt, set_in, with_set}
 use Rattle.sc_dag.specs.Outputs.{block_of, is_done_by}
 use Rattle.sc_dag.specs.Reports.{wants_in}
-use Rattle.sc_dag.specs.Sound.{IsAttemptOf, IsSetOf, finish_in, runner_in, runner_of}
+use Rattle.sc_dag.specs.Sound.{finish_in}
 use Rattle.sc_dag.specs.Submission.{is_map}
 use Rattle.sc_dag.specs.declared.attempts.StageAttempt.{StageAttempt}
 use Rattle.sc_dag.proofs.Finishes.{finished_unwanted, success_older, success_other, success_own}

@@ -1,8 +1,6 @@
 -- What a change of the tracker does to the outputs of stages.
-use Rattle.std.proofs.Common.{◌≡◌, ◌≢◌, ◌⊎◌, inl, inr, ℕ, ◌+◌, ◌<◌, ◌≤◌, ◌==◌, not, Bool, true, false, if◌then◌else◌, List, [], ◌∷◌, length, map, Option, Some, None, IfSome, is_some, slice_get, refl, ap, sym, subst, ◌∙◌, arith, rules, true≢false}
+use Rattle.std.proofs.Common.{◌≡◌, ◌≢◌, ◌⊎◌, inl, inr, ℕ, Bool, List, length, Option, Some, None, is_some, refl, ap, sym, subst, ◌∙◌}
 use Rattle.std.proofs.lemmas.Bool.{cases_eq}
-use Rattle.std.proofs.lemmas.List.{length-map}
-use Rattle.sc_base.specs.Lists.{at_or}
 use Rattle.sc_ids.specs.Changes.{change_at}
 use Rattle.sc_ids.specs.Graphs.{StageData}
 use Rattle.sc_ids.specs.declared.blocks.BlockId.{BlockId}
@@ -11,16 +9,14 @@ use Rattle.sc_ids.specs.declared.blocks.ShuffleId.{ShuffleId}
 use Rattle.sc_ids.specs.declared.blocks.Target.{Target}
 use Rattle.sc_ids.specs.declared.blocks.Target.TheVariants as targets
 use Rattle.sc_ids.proofs.ChangeLemmas.{length_change_at}
-use Rattle.sc_taskset.specs.TaskSetData.{TaskSetData}
-use Rattle.sc_tracker.specs.Outputs.{forgotten, forgotten_on, is_on, placed}
+use Rattle.sc_tracker.specs.Outputs.{placed}
 use Rattle.sc_tracker.specs.TrackerData.{TrackerData, output_of, outputs_of}
 use Rattle.sc_tracker.specs.Tracking.{registered}
 use Rattle.sc_tracker.specs.declared.outputs.Output.{Output}
 use Rattle.sc_tracker.proofs.BlockLemmas.{registers_one, under_changed, under_kept}
-use Rattle.sc_dag.specs.DagData.{DagData, StageState, no_stage, stage_at}
+use Rattle.sc_dag.specs.DagData.{DagData, StageState, stage_at}
 use Rattle.sc_dag.specs.Outputs.{block_of, is_done_by}
 use Rattle.sc_dag.specs.Sound.{AreSoundStages}
-use Rattle.sc_dag.specs.Submission.{is_map}
 use Rattle.sc_dag.proofs.SoundStages.{IsSoundAt}
 
 -- two shuffles are the same or not
