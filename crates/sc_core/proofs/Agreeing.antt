@@ -18,6 +18,7 @@ use Rattle.sc_dag.specs.Sound.{IsSoundDag}
 use Rattle.sc_dag.specs.Submission.{is_map, this_stage, waiting_stages}
 use Rattle.sc_dag.specs.declared.reports.Success.{Success}
 use Rattle.sc_dag.specs.declared.reports.Success.TheVariants as successes
+use Rattle.sc_dag.proofs.Tests.{both_left, both_right, clash}
 use Rattle.sc_dag.proofs.Keeping.{completed_sound, with_failed_sound}
 use Rattle.sc_core.specs.CoreData.{CoreData, job_runs, running_of, taken_off, with_dag}
 use Rattle.sc_core.specs.Journals.{Replays}
@@ -31,7 +32,6 @@ use Rattle.sc_core.specs.declared.events.Outcome.{Outcome}
 use Rattle.sc_core.specs.declared.events.Outcome.TheVariants as outcomes
 use Rattle.sc_core.specs.declared.running.Running.{Running}
 use Rattle.sc_core.proofs.AgreeingTakes.{takes_agree}
-use Rattle.sc_core.proofs.Lookups.{both_left, both_right, clash}
 use Rattle.sc_core.proofs.Stepping.{posted}
 use Rattle.sc_core.proofs.TellingResult.{frees}
 

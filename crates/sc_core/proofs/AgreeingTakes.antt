@@ -8,11 +8,11 @@ use Rattle.sc_taskset.specs.TaskSetData.{TaskSetData}
 use Rattle.sc_taskset.specs.declared.tasks.Given.{Given}
 use Rattle.sc_dag.specs.DagData.{DagData, newest_at}
 use Rattle.sc_dag.specs.Offers.{HasNone, IsOffer, OffersIn, given_of, newest_number}
+use Rattle.sc_dag.proofs.Tests.{clash}
 use Rattle.sc_core.specs.CoreData.{CoreData}
 use Rattle.sc_core.specs.HandOuts.{HandOutData, inputs_of}
 use Rattle.sc_core.specs.Takes.{IsHandOut, Takes}
 use Rattle.sc_core.specs.declared.answers.Answer.{Answer}
-use Rattle.sc_core.proofs.Lookups.{clash}
 
 -- two smallest partitions are one
 smallest_agree : (test : ℕ → Bool) (p q : ℕ) → IsSmallest test p → IsSmallest test q → p ≡ q

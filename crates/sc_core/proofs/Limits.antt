@@ -27,6 +27,7 @@ use Rattle.sc_dag.specs.Reports.{after_failed, after_hold, in_own_set, is_of_new
 use Rattle.sc_dag.specs.declared.attempts.StageAttempt.{StageAttempt}
 use Rattle.sc_dag.specs.declared.reports.Success.{Success}
 use Rattle.sc_dag.specs.declared.reports.Success.TheVariants as successes
+use Rattle.sc_dag.proofs.Tests.{both_left, both_right}
 use Rattle.sc_core.specs.CoreData.{CoreData, job_runs, result_stage, running_of, taken_off, with_dag}
 use Rattle.sc_core.specs.Laws.{DoneJobsAreWhole, HasFailedOften, StepsKeepSound, TaskLimitsAreReached}
 use Rattle.sc_core.specs.Posts.{PostsIf, PostsOf}
@@ -38,7 +39,7 @@ use Rattle.sc_core.specs.declared.events.Event.TheVariants.{Post}
 use Rattle.sc_core.specs.declared.events.Outcome.{Outcome}
 use Rattle.sc_core.specs.declared.events.Outcome.TheVariants as outcomes
 use Rattle.sc_core.specs.declared.running.Running.{Running}
-use Rattle.sc_core.proofs.Lookups.{both_left, both_right, set_among, set_holds}
+use Rattle.sc_core.proofs.Lookups.{set_among, set_holds}
 use Rattle.sc_core.proofs.Stepping.{posted}
 
 -- ---- a job that is done

@@ -10,21 +10,9 @@ use Rattle.sc_dag.specs.Offers.{newest_number, number_in}
 use Rattle.sc_dag.specs.Reports.{set_of}
 use Rattle.sc_dag.specs.Sound.{attempts_in}
 use Rattle.sc_dag.specs.declared.attempts.StageAttempt.{StageAttempt}
-
-pub clash : {b : Bool} → b ≡ true → b ≡ false → ⊥
-clash t f = true≢false (sym t ∙ f)
-
-pub both_left : (a b : Bool) → (a && b) ≡ true → a ≡ true
-both_left true b e = refl
-both_left false b e = e
-
-pub both_right : (a b : Bool) → (a && b) ≡ true → b ≡ true
-both_right true b e = e
-both_right false b e = absurd (true≢false (sym e))
-
-pub not_true : (b : Bool) → not b ≡ true → b ≡ false
-not_true true e = sym e
-not_true false e = refl
+use Rattle.sc_dag.proofs.Items.{all_at}
+use Rattle.sc_dag.proofs.Moving.{newest_among}
+use Rattle.sc_dag.proofs.Runners.{place_newest}
 
 -- ---- attempts
 
@@ -51,37 +39,12 @@ abbrev pub set_among : Option StageState → ℕ → Option TaskSetData
 set_among None number = None
 set_among (Some state) number = set_in (attempt_in state number)
 
-pub set_is : (d : DagData) (a : AttemptId)
-    → set_of d a ≡ set_among (slice_get d.states a.stage) a.stage_attempt
-set_is d a = refl
-
--- the newest set of a stage that may be there
-abbrev pub newest_among : Option StageState → Option TaskSetData
-newest_among None = None
-newest_among (Some state) = newest_set state
-
-pub newest_is : (d : DagData) (s : ℕ) → newest_at d s ≡ newest_among (slice_get d.states s)
-newest_is d s = refl
-
--- the place of the newest attempt
-pub newest_place : (state : StageState)
-    → place_of_attempt state (state.before + (length state.attempts - 1))
-    ≡ length state.attempts - 1
-newest_place state = by (nat_lt number state.before) refl
-  where
-    number : ℕ
-    number = state.before + (length state.attempts - 1)
-
-    by : (b : Bool) → nat_lt number state.before ≡ b
-        → (if b then length state.attempts else number - state.before)
-        ≡ length state.attempts - 1
-    by true e = absurd (grind (arith, nat_tests, e))
-    by false e = omega arith
-
-pub newest_among_is : (o : Option StageState) → set_among o (number_in o) ≡ newest_among o
+-- that of the newest number is the newest one
+newest_among_is : (o : Option StageState) → set_among o (number_in o) ≡ newest_among o
 newest_among_is None = refl
 newest_among_is (Some state) =
-    ap (λ place. set_in (slice_get state.attempts place)) (newest_place state)
+    ap (λ place. set_in (slice_get state.attempts place)) 
+    (place_newest state (state.before + (length state.attempts - 1)) refl)
 
 -- the set of an attempt of the newest number is the newest one
 pub set_of_newest : (d : DagData) (a : AttemptId) → a.stage_attempt ≡ newest_number d a.stage
@@ -101,7 +64,4 @@ set_holds P (Some state) n set all is = by (attempt_in state n) refl is
     by None at e = absurd (search (rules, e))
     by (Some a) at e =
         let same : a.set ≡ set = search (rules, e) in
-        subst P same
-        (subst (λ b. P b.set) (get_or_from_slice_get state.attempts (place_of_attempt state n) a a at)
-        (all (place_of_attempt state n) a
-        (slice_get_within state.attempts (place_of_attempt state n) a at)))
+        subst P same (all_at (λ b. P b.set) state.attempts (place_of_attempt state n) a all at)

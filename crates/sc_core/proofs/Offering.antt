@@ -1,5 +1,5 @@
 -- A task that is handed out runs then, and what ran before runs on.
-use Rattle.std.proofs.Common.{◌≡◌, inl, inr, ℕ, ◌-◌, ◌&&◌, ◌||◌, not, All, Bool, true, false, length, Option, Some, None, slice_get, refl, ap, sym, subst, ◌∙◌, rules, true≢false}
+use Rattle.std.proofs.Common.{◌+◌, ◌≡◌, inl, inr, ℕ, ◌-◌, ◌&&◌, ◌||◌, not, All, Bool, true, false, length, Option, Some, None, slice_get, refl, ap, sym, subst, ◌∙◌, rules, true≢false}
 use Rattle.sc_ids.specs.Changes.{change_at}
 use Rattle.sc_ids.specs.declared.attempts.AttemptId.{AttemptId}
 use Rattle.sc_commit.specs.Committing.{is_same}
@@ -12,11 +12,12 @@ use Rattle.sc_dag.specs.DagData.{DagData, StageState, attempt_in, changed_newest
 use Rattle.sc_dag.specs.Offers.{IsOffer, OffersIn, given_of, handed_out, may_be_given_in, newest_number, number_in}
 use Rattle.sc_dag.specs.Sound.{IsSoundDag}
 use Rattle.sc_dag.specs.declared.attempts.StageAttempt.{StageAttempt}
-use Rattle.sc_core.proofs.Lookups.{newest_among, newest_place}
+use Rattle.sc_dag.proofs.Moving.{newest_among}
+use Rattle.sc_dag.proofs.Runners.{place_newest}
+use Rattle.sc_dag.proofs.Stuck.{newest_holds}
 use Rattle.sc_core.proofs.Moves.{Moves, state_moves}
 use Rattle.sc_core.proofs.Sets.{MovesIn, handed_moves, is_copy_of}
 use Rattle.sc_core.proofs.States.{MovesOf, attempt_moves, is_number_of}
-use Rattle.sc_core.proofs.Waiting.{newest_holds}
 
 -- the task that is offered: one of the newest set of its stage, under its next number
 pub record IsOffered (d : DagData) (exec : ℕ) (a : AttemptId) : Type 0 where
@@ -109,7 +110,7 @@ handed_out_moves d exec now a o number =
         place : place_of_attempt state a.stage_attempt ≡ length state.attempts - 1
         place =
             ap (λ (n : ℕ). place_of_attempt state n) (number ∙ ap number_in e)
-            ∙ newest_place state
+            ∙ place_newest state (state.before + (length state.attempts - 1)) refl
 
         is : set_in (attempt_in state a.stage_attempt) ≡ Some o.set
         is =

@@ -19,13 +19,13 @@ use Rattle.sc_dag.specs.Outputs.{is_complete}
 use Rattle.sc_dag.specs.Settled.{IsSettled, IsSettledBy, IsUnderWay, will_go_on}
 use Rattle.sc_dag.specs.Sound.{IsSoundDag, attempts_in, runner_of}
 use Rattle.sc_dag.specs.Submission.{is_map, this_stage}
+use Rattle.sc_dag.proofs.Moving.{newest_among}
 use Rattle.sc_dag.proofs.Tests.{any_mono}
 use Rattle.sc_core.specs.CoreData.{CoreData, result_stage}
 use Rattle.sc_core.specs.Laws.{OpeningsAreSound}
 use Rattle.sc_core.specs.Openings.{tracker_behind}
 use Rattle.sc_core.specs.Sound.{AreTwo, IsSoundCore, IsUnheld, RunsWell}
 use Rattle.sc_core.proofs.Calls.{submitted_calm}
-use Rattle.sc_core.proofs.Lookups.{newest_among}
 use Rattle.sc_core.proofs.Moves.{Calm}
 use Rattle.sc_core.proofs.States.{runs_in}
 

@@ -15,6 +15,7 @@ use Rattle.sc_dag.specs.Laws.{CallsKeepSound, OthersGoOn}
 use Rattle.sc_dag.specs.Offers.{handed_out, newest_number}
 use Rattle.sc_dag.specs.Outputs.{is_complete}
 use Rattle.sc_dag.specs.Sound.{runner_among, runner_in, runner_of}
+use Rattle.sc_dag.proofs.Tests.{clash}
 use Rattle.sc_core.specs.CoreData.{CoreData, ended, is_of, is_out_on, is_running_job, job_runs, result_stage, running_of}
 use Rattle.sc_core.specs.HandOuts.{HandOutData}
 use Rattle.sc_core.specs.Sound.{AreTwo, GoesOn, IsSoundCore, RunsWell}
@@ -25,7 +26,7 @@ use Rattle.sc_core.specs.declared.answers.Answer.{Answer}
 use Rattle.sc_core.specs.declared.answers.Answer.TheVariants as says
 use Rattle.sc_core.specs.declared.answers.Job.TheVariants as jobs
 use Rattle.sc_core.specs.declared.running.Running.{Running}
-use Rattle.sc_core.proofs.Lookups.{clash, is_itself, same_is, set_of_newest}
+use Rattle.sc_core.proofs.Lookups.{is_itself, same_is, set_of_newest}
 use Rattle.sc_core.proofs.Moves.{Moves, state_results}
 use Rattle.sc_core.proofs.Offering.{IsOffered, handed_out_moves, offered, offered_may}
 use Rattle.sc_core.proofs.RunningLists.{none_passes, same_sym}

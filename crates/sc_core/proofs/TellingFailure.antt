@@ -21,6 +21,7 @@ use Rattle.sc_dag.specs.Reports.{FailsStage, after_failed, is_of_newest, reaches
 use Rattle.sc_dag.specs.Settled.{IsSettled, IsUnderWay}
 use Rattle.sc_dag.specs.Sound.{IsSoundDag}
 use Rattle.sc_dag.specs.Submission.{is_map}
+use Rattle.sc_dag.proofs.Tests.{both_left, both_right, clash, not_true}
 use Rattle.sc_core.specs.CoreData.{CoreData, ended, is_running_job, job_runs, result_stage, taken_off, with_dag}
 use Rattle.sc_core.specs.Sound.{IsSoundCore}
 use Rattle.sc_core.specs.Tells.{FailsBy, FailsOrAborts, IsGone, Misses, MissesIf, TellsFailure, TellsFailureIf, after_failure, is_zombie_in, limit_of, released}
@@ -30,7 +31,6 @@ use Rattle.sc_core.specs.declared.answers.Answer.{Answer}
 use Rattle.sc_core.specs.declared.answers.Job.TheVariants as jobs
 use Rattle.sc_core.specs.declared.running.Running.{Running}
 use Rattle.sc_core.proofs.Calls.{failed_moves, failed_results, fails_calm, fails_results, seen_calm}
-use Rattle.sc_core.proofs.Lookups.{both_left, both_right, clash, not_true}
 use Rattle.sc_core.proofs.Moves.{Calm, Moves, SameResults, moves_then, results_then, still}
 use Rattle.sc_core.proofs.TellingResult.{Frees, frees}
 use Rattle.sc_core.proofs.Told.{goes_with, told_sound, under_kept}

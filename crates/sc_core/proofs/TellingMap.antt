@@ -16,6 +16,7 @@ use Rattle.sc_dag.specs.Sound.{IsSoundDag, runner_of}
 use Rattle.sc_dag.specs.Submission.{is_map, this_stage}
 use Rattle.sc_dag.specs.declared.reports.Success.{Success}
 use Rattle.sc_dag.specs.declared.reports.Success.TheVariants as successes
+use Rattle.sc_dag.proofs.Tests.{both_left, both_right, clash}
 use Rattle.sc_core.specs.CoreData.{CoreData, is_running_job, job_runs, taken_off, with_dag}
 use Rattle.sc_core.specs.Posts.{fits}
 use Rattle.sc_core.specs.Sound.{IsSoundCore, RunsWell}
@@ -24,7 +25,6 @@ use Rattle.sc_core.specs.declared.answers.Answer.{Answer}
 use Rattle.sc_core.specs.declared.events.Outcome.TheVariants as outcomes
 use Rattle.sc_core.specs.declared.running.Running.{Running}
 use Rattle.sc_core.proofs.Calls.{completes_calm, completes_results, map_moves, map_results, submitted_calm, submitted_results}
-use Rattle.sc_core.proofs.Lookups.{both_left, both_right, clash}
 use Rattle.sc_core.proofs.Moves.{Calm, SameResults, moves_then, results_then, still}
 use Rattle.sc_core.proofs.Told.{goes_same, told_sound}
 

@@ -20,6 +20,7 @@ use Rattle.sc_dag.specs.Sound.{IsSoundDag, runner_among, runner_in, runner_of}
 use Rattle.sc_dag.specs.Submission.{is_map}
 use Rattle.sc_dag.specs.declared.reports.Success.{Success}
 use Rattle.sc_dag.specs.declared.reports.Success.TheVariants as successes
+use Rattle.sc_dag.proofs.Tests.{both_left, clash, not_true}
 use Rattle.sc_core.specs.CoreData.{CoreData, ended, is_running_job, job_runs, result_stage, taken_off}
 use Rattle.sc_core.specs.Posts.{fits}
 use Rattle.sc_core.specs.Sound.{GoesOn, IsSoundCore, RunsWell}
@@ -29,7 +30,7 @@ use Rattle.sc_core.specs.declared.answers.Job.TheVariants as jobs
 use Rattle.sc_core.specs.declared.events.Outcome.TheVariants as outcomes
 use Rattle.sc_core.specs.declared.running.Running.{Running}
 use Rattle.sc_core.proofs.Calls.{ended_results, hold_free, hold_results, result_moves}
-use Rattle.sc_core.proofs.Lookups.{both_left, clash, not_true, set_holds}
+use Rattle.sc_core.proofs.Lookups.{set_holds}
 use Rattle.sc_core.proofs.Moves.{Calm, Moves, SameResults, calm_then, still}
 use Rattle.sc_core.proofs.Told.{goes_same, goes_with, told_sound, under_kept}
 

@@ -13,28 +13,14 @@ use Rattle.sc_dag.specs.Laws.{HoldsBack, NothingIsStuck}
 use Rattle.sc_dag.specs.Offers.{newest_number}
 use Rattle.sc_dag.specs.Sound.{attempts_in, runner_among, runner_in, runner_of}
 use Rattle.sc_dag.specs.declared.attempts.StageAttempt.{StageAttempt}
+use Rattle.sc_dag.proofs.Moving.{newest_among}
+use Rattle.sc_dag.proofs.Stuck.{newest_holds}
+use Rattle.sc_dag.proofs.Tests.{clash}
 use Rattle.sc_core.specs.CoreData.{CoreData, is_of, out_or, result_stage, running_of, shelved_first, under_way}
 use Rattle.sc_core.specs.Laws.{WaitsHaveCause}
 use Rattle.sc_core.specs.Sound.{IsSoundCore, RunsWell}
 use Rattle.sc_core.specs.declared.running.Running as core
-use Rattle.sc_core.proofs.Lookups.{attempt, clash, newest_among, set_of_newest}
-
--- what holds of all attempts of a stage holds of its newest set
-pub newest_holds :
-    (P : TaskSetData → Type 0) (o : Option StageState) (set : TaskSetData)
-    → All (λ a. P a.set) (attempts_in o) → newest_among o ≡ Some set → P set
-newest_holds P None set all is = absurd (search (rules, is))
-newest_holds P (Some state) set all is =
-    by (slice_get state.attempts (length state.attempts - 1)) refl is
-  where
-    by : (a : Option StageAttempt) → slice_get state.attempts (length state.attempts - 1) ≡ a
-        → set_in a ≡ Some set → P set
-    by None at e = absurd (search (rules, e))
-    by (Some a) at e =
-        let same : a.set ≡ set = search (rules, e) in
-        subst P same
-        (subst (λ b. P b.set) (get_or_from_slice_get state.attempts _ a a at)
-        (all (length state.attempts - 1) a (slice_get_within state.attempts _ a at)))
+use Rattle.sc_core.proofs.Lookups.{attempt, set_of_newest}
 
 -- an attempt of a task that isn't idle runs
 copy_runs : (copies : List Running) → is_idle copies ≡ false
