@@ -16,7 +16,8 @@ use Rattle.sc_core.specs.declared.answers.Answer.{Answer}
 
 -- two smallest partitions are one
 smallest_agree : (test : ℕ → Bool) (p q : ℕ) → IsSmallest test p → IsSmallest test q → p ≡ q
-smallest_agree test p q a b = search (arith, nat_tests, rules, a.passes, b.passes, a.smallest, b.smallest)
+smallest_agree test p q a b =
+    search (arith, nat_tests, rules, a.passes, b.passes, a.smallest, b.smallest)
 
 -- nothing is offered, or something
 none_or : (o : Option TaskSetData) (exec : ℕ) (g : Given) → OffersIn o exec None

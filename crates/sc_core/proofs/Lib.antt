@@ -1,9 +1,12 @@
 pub mod Lookups
 pub mod Waiting
 pub mod Sets
+pub mod SetCalls
 pub mod States
+pub mod StateChanges
 pub mod Moves
 pub mod Calls
+pub mod TaskCalls
 pub mod Offering
 pub mod RunningLists
 pub mod Told
@@ -12,8 +15,10 @@ pub mod TellingMap
 pub mod TellingResult
 pub mod TellingFailure
 pub mod Stepping
+pub mod Leaving
 pub mod Spending
 pub mod Limits
+pub mod Aborting
 pub mod AgreeingTakes
 pub mod Agreeing
 pub mod Opening

@@ -1,11 +1,10 @@
 -- Attempts by their numbers, and tests on them.
-use Rattle.std.proofs.Common.{◌≡◌, ℕ, ◌+◌, ◌-◌, ◌&&◌, not, All, Bool, true, false, if◌then◌else◌, length, Option, Some, None, slice_get, nat_lt, refl, ap, sym, subst, ◌∙◌, arith, rules, true≢false}
+use Rattle.std.proofs.Common.{◌≡◌, ℕ, ◌+◌, ◌-◌, All, true, length, Option, Some, None, slice_get, refl, ap, subst, ◌∙◌, arith, rules}
 use Rattle.std.proofs.lemmas.Bool.Decides.{nat_tests}
-use Rattle.std.proofs.lemmas.Option.{get_or_from_slice_get, slice_get_within}
 use Rattle.sc_commit.specs.Committing.{is_same}
 use Rattle.sc_ids.specs.declared.attempts.AttemptId.{AttemptId}
 use Rattle.sc_taskset.specs.TaskSetData.{TaskSetData}
-use Rattle.sc_dag.specs.DagData.{DagData, StageState, attempt_in, newest_at, newest_set, place_of_attempt, set_in}
+use Rattle.sc_dag.specs.DagData.{DagData, StageState, attempt_in, newest_at, place_of_attempt, set_in}
 use Rattle.sc_dag.specs.Offers.{newest_number, number_in}
 use Rattle.sc_dag.specs.Reports.{set_of}
 use Rattle.sc_dag.specs.Sound.{attempts_in}
@@ -43,7 +42,7 @@ set_among (Some state) number = set_in (attempt_in state number)
 newest_among_is : (o : Option StageState) → set_among o (number_in o) ≡ newest_among o
 newest_among_is None = refl
 newest_among_is (Some state) =
-    ap (λ place. set_in (slice_get state.attempts place)) 
+    ap (λ place. set_in (slice_get state.attempts place))
     (place_newest state (state.before + (length state.attempts - 1)) refl)
 
 -- the set of an attempt of the newest number is the newest one

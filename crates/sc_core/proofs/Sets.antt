@@ -1,14 +1,11 @@
--- What the calls of a task set do to the attempts that run in it.
+-- Attempts that run in a task set, where one of its tasks is changed.
 use Rattle.std.proofs.Common.{◌≡◌, ℕ, ◌<◌, ◌==◌, ◌&&◌, not, All, Bool, true, false, cond, if◌then◌else◌, List, [], ◌∷◌, ◌++◌, Option, Some, None, option_map, refl, ap, subst, ◌∙◌, arith}
 use Rattle.std.proofs.lemmas.Bool.Decides.{nat_tests}
-use Rattle.std.proofs.lemmas.List.Elements.{All-cons, All-head, All-tail}
+use Rattle.std.proofs.lemmas.List.Elements.{All-head, All-tail}
 use Rattle.sc_ids.specs.declared.attempts.AttemptId.{AttemptId}
-use Rattle.sc_ids.specs.declared.failures.FailureCause.{FailureCause}
-use Rattle.sc_ids.specs.declared.limits.Limits.{Limits}
 use Rattle.sc_taskset.specs.Lookups.{copy_at, is_task_of, task_at, with_task, without_copy}
-use Rattle.sc_taskset.specs.Offers.{handed, handed_task, running}
-use Rattle.sc_taskset.specs.Reports.{after_end, after_failure, after_held, after_success, as_zombie, ended_task, failed_task, held_task, is_counted_in, is_failure, noted_task, succeeded_task}
-use Rattle.sc_taskset.specs.TaskSetData.{TaskData, TaskSetData, fresh_set, fresh_task}
+use Rattle.sc_taskset.specs.Offers.{running}
+use Rattle.sc_taskset.specs.TaskSetData.{TaskData, TaskSetData}
 use Rattle.sc_taskset.specs.declared.tasks.Running.{Running}
 use Rattle.sc_taskset.proofs.ChangeLemmas.{all_kept, find_changed, find_other}
 use Rattle.sc_dag.specs.Sound.{runner_among, runner_in}
@@ -65,7 +62,7 @@ find_without nth m (c ∷ copies) =
     by false false false a b e h = rw b h
 
 -- one more attempt, of a number above all others
-find_push :
+pub find_push :
     (given exec now m : ℕ) (copies : List Running) → All (λ c. c.nth < given) copies
     → exec_in (copy_at m (copies ++ running given exec now ∷ []))
     ≡ (if given == m then Some exec else exec_in (copy_at m copies))
@@ -94,7 +91,7 @@ find_push given exec now m (c ∷ copies) all =
 -- ---- a task changed
 
 -- a task changed, where its change is told
-changed_task :
+pub changed_task :
     (a : AttemptId) (new : Option ℕ) (f : TaskData → TaskData) (old now : TaskSetData)
     → ((t : TaskData) → (f t).partition ≡ t.partition)
     → ((t : TaskData) → t.denied ≡ false → (f t).denied ≡ false)
@@ -119,7 +116,8 @@ changed_task a new f old now same free told is =
 
     by : (b : AttemptId) (x : Bool) → (a.partition == b.partition) ≡ x
         → runner_among (task_at b.partition (with_task a.partition f old.tasks)) b.nth
-        ≡ (if x && (a.nth == b.nth) then new else runner_among (task_at b.partition old.tasks) b.nth)
+        ≡ (if x && (a.nth == b.nth) then new
+        else runner_among (task_at b.partition old.tasks) b.nth)
     by b true e =
         let p : a.partition ≡ b.partition = grind (arith, nat_tests, e) in
         subst (λ (q : ℕ). runner_among (task_at q (with_task a.partition f old.tasks)) b.nth
@@ -135,7 +133,7 @@ changed_task a new f old now same free told is =
         old.tasks)
 
 -- a change that leaves the attempts of a task as they are
-calm_task :
+pub calm_task :
     (p : ℕ) (f : TaskData → TaskData) (old now : TaskSetData)
     → ((t : TaskData) → (f t).partition ≡ t.partition)
     → ((t : TaskData) → t.denied ≡ false → (f t).denied ≡ false)
@@ -175,7 +173,7 @@ calm_task p f old now same free copies is =
         old.tasks)
 
 -- an attempt that ends
-ends_task :
+pub ends_task :
     (a : AttemptId) (f : TaskData → TaskData) (old now : TaskSetData)
     → ((t : TaskData) → (f t).partition ≡ t.partition)
     → ((t : TaskData) → t.denied ≡ false → (f t).denied ≡ false)
@@ -197,88 +195,3 @@ ends_task a f old now same free copies is =
         ap (λ cs. exec_in (copy_at m cs)) (copies t)
         ∙ ap exec_in (find_without a.nth m t.copies)
         ∙ exec_of (a.nth == m) (copy_at m t.copies)
-
--- ---- the calls
-
-pub success_ends : (set : TaskSetData) (a : AttemptId) (now : ℕ)
-    → MovesIn (is_copy_of a) None set (after_success set a.partition (Some a.nth) now)
-success_ends set a now =
-    ends_task a (succeeded_task (Some a.nth)) set
-    (after_success set a.partition (Some a.nth) now)
-    (λ t. refl) (λ t h. h) (λ t. refl) refl
-
-pub success_calm : (set : TaskSetData) (p now : ℕ)
-    → MovesIn nothing None set (after_success set p None now)
-success_calm set p now =
-    calm_task p (succeeded_task None) set (after_success set p None now)
-    (λ t. refl) (λ t h. h) (λ t. refl) refl
-
-pub end_ends : (set : TaskSetData) (a : AttemptId)
-    → MovesIn (is_copy_of a) None set (after_end set a.partition a.nth)
-end_ends set a =
-    ends_task a (ended_task a.nth) set (after_end set a.partition a.nth)
-    (λ t. refl) (λ t h. h) (λ t. refl) refl
-
-pub failure_ends : (set : TaskSetData) (a : AttemptId) (cause : FailureCause)
-    → MovesIn (is_copy_of a) None set (after_failure set a.partition a.nth cause)
-failure_ends set a cause =
-    ends_task a (failed_task (is_counted_in set cause) a.nth) set
-    (after_failure set a.partition a.nth cause)
-    (λ t. part t (is_failure (is_counted_in set cause) a.nth t))
-    (λ t h. free t h (is_failure (is_counted_in set cause) a.nth t))
-    (λ t. left t (is_failure (is_counted_in set cause) a.nth t)) refl
-  where
-    after : TaskData → Bool → TaskData
-    after t b = if b then noted_task a.nth (ended_task a.nth t) else ended_task a.nth t
-
-    part : (t : TaskData) (b : Bool) → (after t b).partition ≡ t.partition
-    part t true = refl
-    part t false = refl
-
-    free : (t : TaskData) → t.denied ≡ false → (b : Bool) → (after t b).denied ≡ false
-    free t h true = h
-    free t h false = h
-
-    left : (t : TaskData) (b : Bool) → (after t b).copies ≡ without_copy a.nth t.copies
-    left t true = refl
-    left t false = refl
-
-pub hold_calm : (set : TaskSetData) (p : ℕ)
-    → MovesIn nothing None set (after_held set p false)
-hold_calm set p =
-    calm_task p (held_task false) set (after_held set p false)
-    (λ t. refl) (λ t h. refl) (λ t. refl) refl
-
-pub zombie_calm : (set : TaskSetData) → MovesIn nothing None set (as_zombie set)
-zombie_calm set = record { runners = λ b. refl; unheld = λ all. all }
-
--- a hand-out of a task that is there, under its next number
-pub handed_moves : (set : TaskSetData) (a : AttemptId) (t : TaskData) (exec now : ℕ)
-    → task_at a.partition set.tasks ≡ Some t → a.nth ≡ t.given
-    → All (λ c. c.nth < t.given) t.copies
-    → MovesIn (is_copy_of a) (Some exec) set (handed set a.partition exec now)
-handed_moves set a t exec now found nth below =
-    changed_task a (Some exec) (handed_task exec now) set (handed set a.partition exec now)
-    (λ u. refl) (λ u h. h)
-    (λ m. rw (found, nth) (find_push t.given exec now m t.copies below)) refl
-
--- nothing runs in a fresh set, and nothing is held back
-pub fresh_runs : (partitions : List ℕ) (is_map : Bool) (limits : Limits) (born : ℕ) (b : AttemptId)
-    → runner_in (Some (fresh_set partitions is_map limits born)) b ≡ None
-fresh_runs [] is_map limits born b = refl
-fresh_runs (p ∷ ps) is_map limits born b =
-    by (p == b.partition) (fresh_runs ps is_map limits born b)
-  where
-    by : (x : Bool)
-        → runner_in (Some (fresh_set ps is_map limits born)) b ≡ None
-        → runner_among (cond x (Some (fresh_task p))
-        (task_at b.partition (fresh_set ps is_map limits born).tasks)) b.nth ≡ None
-    by true h = refl
-    by false h = h
-
-pub fresh_unheld : (partitions : List ℕ) (is_map : Bool) (limits : Limits) (born : ℕ)
-    → AreUnheld (fresh_set partitions is_map limits born).tasks
-fresh_unheld [] is_map limits born = λ i d l. absurd (omega (arith, l))
-fresh_unheld (p ∷ ps) is_map limits born =
-    All-cons (λ t. t.denied ≡ false) (fresh_task p)
-    (fresh_set ps is_map limits born).tasks refl (fresh_unheld ps is_map limits born)

@@ -30,7 +30,8 @@ use Rattle.sc_core.specs.declared.answers.Abort.TheVariants as aborts
 use Rattle.sc_core.specs.declared.answers.Answer.{Answer}
 use Rattle.sc_core.specs.declared.answers.Job.TheVariants as jobs
 use Rattle.sc_core.specs.declared.running.Running.{Running}
-use Rattle.sc_core.proofs.Calls.{failed_moves, failed_results, fails_calm, fails_results, seen_calm}
+use Rattle.sc_core.proofs.Calls.{fails_calm, fails_results}
+use Rattle.sc_core.proofs.TaskCalls.{failed_moves, failed_results, seen_calm}
 use Rattle.sc_core.proofs.Moves.{Calm, Moves, SameResults, moves_then, results_then, still}
 use Rattle.sc_core.proofs.TellingResult.{Frees, frees}
 use Rattle.sc_core.proofs.Told.{goes_with, told_sound, under_kept}
@@ -164,7 +165,8 @@ causes_keep :
     CallsKeepSound → FailuresGoOn → OthersGoOn → (c m after : CoreData) (a : AttemptId)
     (cause : FailureCause) (zombie : Bool) (answer : Answer) → IsSoundCore c → Fails c a m
     → FailsBy cause zombie m a answer after → IsSoundCore after
-causes_keep calls failures others c m after a (causes.Gone exec wanted found) zombie answer sound f is =
+causes_keep calls failures others c m after a (causes.Gone exec wanted found) zombie answer sound
+    f is =
     by (is_newer (slice_get m.dag.tracker.trust exec) found) zombie is
   where
     seen : DagData
@@ -184,7 +186,8 @@ causes_keep calls failures others c m after a causes.Planned zombie answer sound
     subst IsSoundCore (sym is) (fails_sound c m a sound f)
 causes_keep calls failures others c m after a causes.Raised zombie answer sound f (says, is) =
     subst IsSoundCore (sym is) (fails_sound c m a sound f)
-causes_keep calls failures others c m after a (causes.Device fault) zombie answer sound f (says, is) =
+causes_keep calls failures others c m after a (causes.Device fault) zombie answer sound f
+    (says, is) =
     subst IsSoundCore (sym is) (fails_sound c m a sound f)
 causes_keep calls failures others c m after a causes.Denied zombie answer sound f (says, is) =
     subst IsSoundCore (sym is) (fails_sound c m a sound f)

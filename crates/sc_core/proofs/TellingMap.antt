@@ -24,7 +24,8 @@ use Rattle.sc_core.specs.Tells.{FollowsUp, LooksAgain, TellsMap}
 use Rattle.sc_core.specs.declared.answers.Answer.{Answer}
 use Rattle.sc_core.specs.declared.events.Outcome.TheVariants as outcomes
 use Rattle.sc_core.specs.declared.running.Running.{Running}
-use Rattle.sc_core.proofs.Calls.{completes_calm, completes_results, map_moves, map_results, submitted_calm, submitted_results}
+use Rattle.sc_core.proofs.Calls.{completes_calm, completes_results, submitted_calm, submitted_results}
+use Rattle.sc_core.proofs.TaskCalls.{map_moves, map_results}
 use Rattle.sc_core.proofs.Moves.{Calm, SameResults, moves_then, results_then, still}
 use Rattle.sc_core.proofs.Told.{goes_same, told_sound}
 
@@ -122,8 +123,10 @@ map_keeps calls maps others c after r loc answer sound job well fit (next, up, s
     let on : (loc.exec == r.exec) ≡ true =
     both_right (is_map (stage_at c.dag r.hand_out.attempt.stage).target) (loc.exec == r.exec) fit in
     let exec : loc.exec ≡ r.exec = grind (arith, nat_tests, on) in
-    let runs : runner_of c.dag a ≡ Some loc.exec = well.in_set ∙ ap (λ (e : ℕ). Some e) (sym exec) in
-    let f = follows calls maps others c.dag next a loc r.hand_out.epoch c.now sound.dag kind runs up in
+    let runs : runner_of c.dag a ≡ Some loc.exec =
+    well.in_set ∙ ap (λ (e : ℕ). Some e) (sym exec) in
+    let f =
+    follows calls maps others c.dag next a loc r.hand_out.epoch c.now sound.dag kind runs up in
     subst IsSoundCore (sym is)
     (told_sound c (with_dag (taken_off c a) next) a sound
     (moves_then (is_same a) None c.dag mid next

@@ -29,7 +29,7 @@ use Rattle.sc_core.specs.declared.answers.Answer.{Answer}
 use Rattle.sc_core.specs.declared.answers.Job.TheVariants as jobs
 use Rattle.sc_core.specs.declared.events.Outcome.TheVariants as outcomes
 use Rattle.sc_core.specs.declared.running.Running.{Running}
-use Rattle.sc_core.proofs.Calls.{ended_results, hold_free, hold_results, result_moves}
+use Rattle.sc_core.proofs.TaskCalls.{ended_results, hold_free, hold_results, result_moves}
 use Rattle.sc_core.proofs.Lookups.{set_holds}
 use Rattle.sc_core.proofs.Moves.{Calm, Moves, SameResults, calm_then, still}
 use Rattle.sc_core.proofs.Told.{goes_same, goes_with, told_sound, under_kept}
@@ -73,7 +73,8 @@ runs_within d a exec sound runs is =
     task set e None f h = search (rules, h)
     task set e (Some t) f h =
         let lt : t.partition < (stage_at d a.stage).tasks =
-        found_is (λ u. u.partition < (stage_at d a.stage).tasks) (is_task_of a.partition) set.tasks t
+        found_is (λ u. u.partition < (stage_at d a.stage).tasks) (is_task_of a.partition)
+        set.tasks t
         (set_holds (λ s. All (λ u. u.partition < (stage_at d a.stage).tasks) s.tasks)
         (slice_get d.states a.stage) a.stage_attempt set
         (λ i x l. (sound.attempts a.stage i x l).set.within) e) f in

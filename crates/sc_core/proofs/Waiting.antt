@@ -1,19 +1,14 @@
 -- Where a job runs and no stage has a task, an attempt is under way.
-use Rattle.std.proofs.Common.{◌≡◌, ◌≢◌, ◌⊎◌, inl, inr, ℕ, ◌-◌, ◌==◌, All, true, false, List, [], ◌∷◌, length, Option, Some, None, find, option_map, slice_get, refl, ap, subst, ◌∙◌, arith, rules, true≢false}
+use Rattle.std.proofs.Common.{◌≡◌, ◌≢◌, ◌⊎◌, inl, inr, ℕ, ◌==◌, All, true, false, List, [], ◌∷◌, Option, Some, None, find, option_map, slice_get, refl, ap, ◌∙◌, arith, rules, true≢false}
 use Rattle.std.proofs.lemmas.Bool.Decides.{nat_tests}
 use Rattle.std.proofs.lemmas.List.Elements.{All-head}
-use Rattle.std.proofs.lemmas.Option.{get_or_from_slice_get, slice_get_within}
 use Rattle.sc_ids.specs.declared.attempts.AttemptId.{AttemptId}
 use Rattle.sc_taskset.specs.Lookups.{copy_at, is_idle, is_task_of}
-use Rattle.sc_taskset.specs.TaskSetData.{TaskSetData}
 use Rattle.sc_taskset.specs.declared.tasks.Running.{Running}
 use Rattle.sc_taskset.proofs.FindLemmas.{found_is}
-use Rattle.sc_dag.specs.DagData.{StageState, set_in}
 use Rattle.sc_dag.specs.Laws.{HoldsBack, NothingIsStuck}
 use Rattle.sc_dag.specs.Offers.{newest_number}
-use Rattle.sc_dag.specs.Sound.{attempts_in, runner_among, runner_in, runner_of}
-use Rattle.sc_dag.specs.declared.attempts.StageAttempt.{StageAttempt}
-use Rattle.sc_dag.proofs.Moving.{newest_among}
+use Rattle.sc_dag.specs.Sound.{runner_among, runner_in, runner_of}
 use Rattle.sc_dag.proofs.Stuck.{newest_holds}
 use Rattle.sc_dag.proofs.Tests.{clash}
 use Rattle.sc_core.specs.CoreData.{CoreData, is_of, out_or, result_stage, running_of, shelved_first, under_way}

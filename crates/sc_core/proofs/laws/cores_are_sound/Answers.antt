@@ -7,7 +7,8 @@ use Rattle.sc_core.proofs.Stepping.{replays_keep}
 use Rattle.sc_core.proofs.laws.cores_are_sound.Goals as goal
 
 pub returns-clause-begins : goal.returns-clause-begins
-returns-clause-begins c = openings_are_sound calls_keep_sound dag.openings_are_sound submissions_settle
+returns-clause-begins c =
+    openings_are_sound calls_keep_sound dag.openings_are_sound submissions_settle
 
 pub returns-clause-steps : goal.returns-clause-steps
 returns-clause-steps c = steps_keep_sound

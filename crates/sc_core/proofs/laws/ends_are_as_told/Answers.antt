@@ -1,4 +1,5 @@
-use Rattle.sc_core.proofs.Limits.{done_jobs_are_whole, task_limits_are_reached}
+use Rattle.sc_core.proofs.Limits.{done_jobs_are_whole}
+use Rattle.sc_core.proofs.Aborting.{task_limits_are_reached}
 use Rattle.sc_core.proofs.Proved.{steps_keep_sound}
 use Rattle.sc_core.proofs.laws.ends_are_as_told.Goals as goal
 
