@@ -27,7 +27,7 @@ pub record AreSoundStages (stages : List StageData) (t : TrackerData) : Type 0 w
   -- no shuffle has two stages
   pub apart : (r s : ℕ) → r ≢ s
       → AreOfTwo (at_or stages r no_stage).target (at_or stages s no_stage).target
-  -- those of a result stage are read by none: what is read has map tasks, or none
+  -- map outputs alone are read: a parent is a map stage, or has no task
   pub read : (s : ℕ)
       → All (λ parent. (is_map (at_or stages parent no_stage).target ≡ true)
       ⊎ ((at_or stages parent no_stage).tasks ≡ 0))

@@ -3,7 +3,7 @@
 
 ghost use Rattle.sc_dag.specs.Laws.{CallsKeepSound, FailuresGoOn, MapSuccessesGoOn, NothingIsStuck, OpeningsAreSound, OthersGoOn, ResultSuccessesGoOn, SubmissionsAgree, SubmissionsRepeat, SubmissionsSettle};
 
-/// A job begins sound, and every call keeps that. A call does nothing.
+/// A job begins sound and settled, and every call keeps it sound. A call does nothing.
 pub fn stages_are_sound()
     ensures begins { OpeningsAreSound }
     ensures keeps { CallsKeepSound }
