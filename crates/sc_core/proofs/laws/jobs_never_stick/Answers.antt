@@ -1,10 +1,9 @@
-use Rattle.sc_dag.proofs.Stuck.{nothing_is_stuck}
-use Rattle.sc_core.proofs.Spending.{steps_are_spent}
-use Rattle.sc_core.proofs.Waiting.{waits_have_cause}
+use Rattle.sc_core.proofs.LawLemmas.{waits_have_cause}
+use Rattle.sc_core.proofs.SpendLemmas.{steps_are_spent}
 use Rattle.sc_core.proofs.laws.jobs_never_stick.Goals as goal
 
 pub returns-clause-waits : goal.returns-clause-waits
-returns-clause-waits c = waits_have_cause nothing_is_stuck
+returns-clause-waits c = waits_have_cause
 
 pub returns-clause-spent : goal.returns-clause-spent
 returns-clause-spent c = steps_are_spent

@@ -15,10 +15,10 @@ use Rattle.sc_dag.specs.declared.attempts.StageAttempt.{StageAttempt}
 use Rattle.sc_dag.proofs.Moving.{newest_among}
 use Rattle.sc_dag.proofs.Runners.{place_newest}
 use Rattle.sc_dag.proofs.Stuck.{newest_holds}
-use Rattle.sc_core.proofs.Moves.{Moves, state_moves}
-use Rattle.sc_core.proofs.Sets.{MovesIn, is_copy_of}
-use Rattle.sc_core.proofs.SetCalls.{handed_moves}
-use Rattle.sc_core.proofs.States.{MovesOf, attempt_moves, is_number_of}
+use Rattle.sc_core.proofs.MoveLemmas.{Moves, state_moves}
+use Rattle.sc_core.proofs.SetLemmas.{MovesIn, is_copy_of}
+use Rattle.sc_core.proofs.SetCallLemmas.{handed_moves}
+use Rattle.sc_core.proofs.StateLemmas.{MovesOf, attempt_moves, is_number_of}
 
 -- the task that is offered: one of the newest set of its stage, under its next number
 pub record IsOffered (d : DagData) (exec : ℕ) (a : AttemptId) : Type 0 where

@@ -24,8 +24,8 @@ use Rattle.sc_core.specs.declared.answers.Answer.{Answer}
 use Rattle.sc_core.specs.declared.events.Outcome.{Outcome}
 use Rattle.sc_core.specs.declared.events.Outcome.TheVariants as outcomes
 use Rattle.sc_core.specs.declared.running.Running.{Running}
-use Rattle.sc_core.proofs.Calls.{completes_calm, fails_calm, submitted_calm}
-use Rattle.sc_core.proofs.TaskCalls.{map_moves, result_moves, seen_calm}
+use Rattle.sc_core.proofs.StageCallLemmas.{completes_calm, fails_calm, submitted_calm}
+use Rattle.sc_core.proofs.TaskCallLemmas.{map_moves, result_moves, seen_calm}
 
 -- What a told report leaves, as far as it may run: the limits, what was handed out, and what runs.
 pub record Left (c after : CoreData) : Type 0 where

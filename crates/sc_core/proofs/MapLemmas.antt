@@ -24,10 +24,10 @@ use Rattle.sc_core.specs.Tells.{FollowsUp, LooksAgain, TellsMap}
 use Rattle.sc_core.specs.declared.answers.Answer.{Answer}
 use Rattle.sc_core.specs.declared.events.Outcome.TheVariants as outcomes
 use Rattle.sc_core.specs.declared.running.Running.{Running}
-use Rattle.sc_core.proofs.Calls.{completes_calm, completes_results, submitted_calm, submitted_results}
-use Rattle.sc_core.proofs.TaskCalls.{map_moves, map_results}
-use Rattle.sc_core.proofs.Moves.{Calm, SameResults, moves_then, results_then, still}
-use Rattle.sc_core.proofs.Told.{goes_same, told_sound}
+use Rattle.sc_core.proofs.StageCallLemmas.{completes_calm, completes_results, submitted_calm, submitted_results}
+use Rattle.sc_core.proofs.TaskCallLemmas.{map_moves, map_results}
+use Rattle.sc_core.proofs.MoveLemmas.{Calm, SameResults, moves_then, results_then, still}
+use Rattle.sc_core.proofs.ToldLemmas.{goes_same, told_sound}
 
 -- an attempt that ends and changes nothing else is one whose failure doesn't count
 pub ends_go_on : OthersGoOn → (d : DagData) (a : AttemptId) → IsSoundDag d → IsSettled d

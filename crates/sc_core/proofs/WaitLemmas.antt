@@ -15,7 +15,7 @@ use Rattle.sc_core.specs.CoreData.{CoreData, is_of, out_or, result_stage, runnin
 use Rattle.sc_core.specs.Laws.{WaitsHaveCause}
 use Rattle.sc_core.specs.Sound.{IsSoundCore, RunsWell}
 use Rattle.sc_core.specs.declared.running.Running as core
-use Rattle.sc_core.proofs.Lookups.{attempt, set_of_newest}
+use Rattle.sc_core.proofs.LookupLemmas.{attempt, set_of_newest}
 
 -- an attempt of a task that isn't idle runs
 copy_runs : (copies : List Running) → is_idle copies ≡ false
@@ -63,8 +63,8 @@ held_runs c s p sound h =
     idle (inl e) = e
     idle (inr e) = absurd (clash e free)
 
-pub waits_have_cause : NothingIsStuck → WaitsHaveCause
-waits_have_cause stuck c exec sound runs none =
+pub waits_by : NothingIsStuck → WaitsHaveCause
+waits_by stuck c exec sound runs none =
     let goes = sound.goes_on runs in
     let held = stuck c.dag (result_stage c.dag) exec sound.dag goes.settled goes.result none in
     let a = held_runs c held.0 held.1 sound held.2 in

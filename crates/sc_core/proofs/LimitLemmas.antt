@@ -19,7 +19,7 @@ use Rattle.sc_dag.specs.declared.attempts.StageAttempt.{StageAttempt}
 use Rattle.sc_dag.proofs.Tests.{both_left, both_right}
 use Rattle.sc_core.specs.CoreData.{result_stage}
 use Rattle.sc_core.specs.Laws.{DoneJobsAreWhole}
-use Rattle.sc_core.proofs.Lookups.{set_among}
+use Rattle.sc_core.proofs.LookupLemmas.{set_among}
 
 -- ---- a job that is done
 

@@ -29,10 +29,10 @@ use Rattle.sc_core.specs.declared.answers.Answer.{Answer}
 use Rattle.sc_core.specs.declared.answers.Job.TheVariants as jobs
 use Rattle.sc_core.specs.declared.events.Outcome.TheVariants as outcomes
 use Rattle.sc_core.specs.declared.running.Running.{Running}
-use Rattle.sc_core.proofs.TaskCalls.{ended_results, hold_free, hold_results, result_moves}
-use Rattle.sc_core.proofs.Lookups.{set_holds}
-use Rattle.sc_core.proofs.Moves.{Calm, Moves, SameResults, calm_then, still}
-use Rattle.sc_core.proofs.Told.{goes_same, goes_with, told_sound, under_kept}
+use Rattle.sc_core.proofs.TaskCallLemmas.{ended_results, hold_free, hold_results, result_moves}
+use Rattle.sc_core.proofs.LookupLemmas.{set_holds}
+use Rattle.sc_core.proofs.MoveLemmas.{Calm, Moves, SameResults, calm_then, still}
+use Rattle.sc_core.proofs.ToldLemmas.{goes_same, goes_with, told_sound, under_kept}
 
 -- A grant that is freed lets nothing run and stops nothing, and no stage is forgotten.
 pub record Frees (d after : DagData) : Type 0 where

@@ -16,9 +16,9 @@ use Rattle.sc_dag.specs.Sound.{runner_in}
 use Rattle.sc_dag.specs.Submission.{as_waiting, is_map, new_set, started}
 use Rattle.sc_dag.specs.declared.attempts.StageAttempt.{StageAttempt}
 use Rattle.sc_core.specs.Sound.{IsUnheld}
-use Rattle.sc_core.proofs.Sets.{MovesIn, nothing}
-use Rattle.sc_core.proofs.SetCalls.{fresh_runs, fresh_unheld, zombie_calm}
-use Rattle.sc_core.proofs.States.{MovesOf, attempt_calm, place_kept, then_calm}
+use Rattle.sc_core.proofs.SetLemmas.{MovesIn, nothing}
+use Rattle.sc_core.proofs.SetCallLemmas.{fresh_runs, fresh_unheld, zombie_calm}
+use Rattle.sc_core.proofs.StateLemmas.{MovesOf, attempt_calm, place_kept, then_calm}
 
 -- ---- the changes of a stage
 

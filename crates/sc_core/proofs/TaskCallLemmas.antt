@@ -16,11 +16,11 @@ use Rattle.sc_dag.specs.DagData.{DagData, changed_newest, changed_set, stage_at,
 use Rattle.sc_dag.specs.Losses.{after_seen}
 use Rattle.sc_dag.specs.Outputs.{is_complete}
 use Rattle.sc_dag.specs.Reports.{after_failed, after_hold, after_map_success, after_result_success, block_by, completed, completed_if, ended_in_own, in_own_set, is_of_newest, is_repeat, registered_by, succeeded_in_both, succeeded_in_own, with_output, with_result}
-use Rattle.sc_core.proofs.Moves.{Calm, Moves, SameResults, calm_then, moves_then, results_then, state_calm, state_moves, state_results, tracker_calm}
-use Rattle.sc_core.proofs.Sets.{MovesIn, is_copy_of}
-use Rattle.sc_core.proofs.SetCalls.{end_ends, failure_ends, hold_calm, success_calm, success_ends}
-use Rattle.sc_core.proofs.States.{attempt_moves}
-use Rattle.sc_core.proofs.StateChanges.{completed_calm, newest_calm, result_calm}
+use Rattle.sc_core.proofs.MoveLemmas.{Calm, Moves, SameResults, calm_then, moves_then, results_then, state_calm, state_moves, state_results, tracker_calm}
+use Rattle.sc_core.proofs.SetLemmas.{MovesIn, is_copy_of}
+use Rattle.sc_core.proofs.SetCallLemmas.{end_ends, failure_ends, hold_calm, success_calm, success_ends}
+use Rattle.sc_core.proofs.StateLemmas.{attempt_moves}
+use Rattle.sc_core.proofs.StateChangeLemmas.{completed_calm, newest_calm, result_calm}
 
 -- ---- an attempt's end in its own set
 

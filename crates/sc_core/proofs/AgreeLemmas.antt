@@ -31,9 +31,9 @@ use Rattle.sc_core.specs.declared.events.Event.TheVariants.{Post, Take}
 use Rattle.sc_core.specs.declared.events.Outcome.{Outcome}
 use Rattle.sc_core.specs.declared.events.Outcome.TheVariants as outcomes
 use Rattle.sc_core.specs.declared.running.Running.{Running}
-use Rattle.sc_core.proofs.AgreeingTakes.{takes_agree}
-use Rattle.sc_core.proofs.Stepping.{posted}
-use Rattle.sc_core.proofs.TellingResult.{frees}
+use Rattle.sc_core.proofs.TakeAgreeLemmas.{takes_agree}
+use Rattle.sc_core.proofs.StepLemmas.{posted}
+use Rattle.sc_core.proofs.ResultLemmas.{frees}
 
 -- two answers and what they leave are one
 abbrev Same : Answer → Answer → CoreData → CoreData → Type 0
@@ -163,9 +163,9 @@ failures_agree calls others one c x y r cause u v sound e f =
 
 -- ---- events
 
-pub steps_agree : CallsKeepSound → OthersGoOn → SubmissionsAgree → StepsAgree
-steps_agree calls others one c (Take exec) a b x y sound s t = takes_agree c exec a b x y s t
-steps_agree calls others one c (Post at outcome) a b x y sound s t = by (job_runs c) s t
+pub steps_agree_by : CallsKeepSound → OthersGoOn → SubmissionsAgree → StepsAgree
+steps_agree_by calls others one c (Take exec) a b x y sound s t = takes_agree c exec a b x y s t
+steps_agree_by calls others one c (Post at outcome) a b x y sound s t = by (job_runs c) s t
   where
     tells : (r : Running) → RunsWell c r → (outcome : Outcome) → fits c r outcome ≡ true
         → Tells (taken_off c r.hand_out.attempt) r outcome a x
@@ -199,11 +199,11 @@ steps_agree calls others one c (Post at outcome) a b x y sound s t = by (job_run
     by false (u, is) (v, is') = (u ∙ sym v, is ∙ sym is')
     by true u v = of (running_of c at) refl u v
 
-pub replays_agree : StepsKeepSound → StepsAgree → ReplaysAgree
-replays_agree keep agree opening x y [] sound e f = e ∙ sym f
-replays_agree keep agree opening x y (entry ∷ entries) sound (m, s, rest) (n, t, rest') =
+pub replays_agree_by : StepsKeepSound → StepsAgree → ReplaysAgree
+replays_agree_by keep agree opening x y [] sound e f = e ∙ sym f
+replays_agree_by keep agree opening x y (entry ∷ entries) sound (m, s, rest) (n, t, rest') =
     let same : m ≡ n =
     (agree opening entry.event entry.answer entry.answer m n sound s t).1 in
-    replays_agree keep agree n x y entries
+    replays_agree_by keep agree n x y entries
     (keep opening n entry.event entry.answer sound t)
     (subst (λ z. Replays z entries x) same rest) rest'

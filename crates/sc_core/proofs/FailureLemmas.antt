@@ -30,11 +30,11 @@ use Rattle.sc_core.specs.declared.answers.Abort.TheVariants as aborts
 use Rattle.sc_core.specs.declared.answers.Answer.{Answer}
 use Rattle.sc_core.specs.declared.answers.Job.TheVariants as jobs
 use Rattle.sc_core.specs.declared.running.Running.{Running}
-use Rattle.sc_core.proofs.Calls.{fails_calm, fails_results}
-use Rattle.sc_core.proofs.TaskCalls.{failed_moves, failed_results, seen_calm}
-use Rattle.sc_core.proofs.Moves.{Calm, Moves, SameResults, moves_then, results_then, still}
-use Rattle.sc_core.proofs.TellingResult.{Frees, frees}
-use Rattle.sc_core.proofs.Told.{goes_with, told_sound, under_kept}
+use Rattle.sc_core.proofs.StageCallLemmas.{fails_calm, fails_results}
+use Rattle.sc_core.proofs.TaskCallLemmas.{failed_moves, failed_results, seen_calm}
+use Rattle.sc_core.proofs.MoveLemmas.{Calm, Moves, SameResults, moves_then, results_then, still}
+use Rattle.sc_core.proofs.ResultLemmas.{Frees, frees}
+use Rattle.sc_core.proofs.ToldLemmas.{goes_with, told_sound, under_kept}
 
 -- A core of which all is known that a failure leaves, whose job runs on.
 record Fails (c : CoreData) (a : AttemptId) (m : CoreData) : Type 0 where

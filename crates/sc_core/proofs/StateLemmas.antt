@@ -10,8 +10,8 @@ use Rattle.sc_dag.specs.DagData.{StageState, attempt_in, place_of_attempt, set_i
 use Rattle.sc_dag.specs.Sound.{attempts_in, runner_in}
 use Rattle.sc_dag.specs.declared.attempts.StageAttempt.{StageAttempt}
 use Rattle.sc_core.specs.Sound.{IsUnheld}
-use Rattle.sc_core.proofs.Lookups.{set_among}
-use Rattle.sc_core.proofs.Sets.{MovesIn, is_copy_of, nothing}
+use Rattle.sc_core.proofs.LookupLemmas.{set_among}
+use Rattle.sc_core.proofs.SetLemmas.{MovesIn, is_copy_of, nothing}
 
 -- where an attempt runs, in the sets of a stage that may be there
 abbrev pub runs_in : Option StageState → AttemptId → Option ℕ

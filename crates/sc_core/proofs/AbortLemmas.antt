@@ -32,9 +32,9 @@ use Rattle.sc_core.specs.declared.events.Event.TheVariants.{Post}
 use Rattle.sc_core.specs.declared.events.Outcome.{Outcome}
 use Rattle.sc_core.specs.declared.events.Outcome.TheVariants as outcomes
 use Rattle.sc_core.specs.declared.running.Running.{Running}
-use Rattle.sc_core.proofs.Lookups.{set_holds}
-use Rattle.sc_core.proofs.Stepping.{posted}
-use Rattle.sc_core.proofs.Limits.{has_as_many, held_full, is_full, last_counts, own_set}
+use Rattle.sc_core.proofs.LookupLemmas.{set_holds}
+use Rattle.sc_core.proofs.StepLemmas.{posted}
+use Rattle.sc_core.proofs.LimitLemmas.{has_as_many, held_full, is_full, last_counts, own_set}
 
 -- ---- a job that is aborted for them
 
@@ -132,8 +132,8 @@ full_fails c a p sound full = by (set_of c.dag a) refl full
     by None e h = absurd (true≢false (sym h))
     by (Some set) e h = task set e (task_at p set.tasks) refl h
 
-pub task_limits_are_reached : StepsKeepSound → TaskLimitsAreReached
-task_limits_are_reached steps c after a outcome stage number p sound step =
+pub task_limits_by : StepsKeepSound → TaskLimitsAreReached
+task_limits_by steps c after a outcome stage number p sound step =
     by (job_runs c) step
   where
     after_sound : IsSoundCore after

@@ -25,9 +25,9 @@ use Rattle.sc_core.specs.CoreData.{CoreData, result_stage}
 use Rattle.sc_core.specs.Laws.{OpeningsAreSound}
 use Rattle.sc_core.specs.Openings.{tracker_behind}
 use Rattle.sc_core.specs.Sound.{AreTwo, IsSoundCore, IsUnheld, RunsWell}
-use Rattle.sc_core.proofs.Calls.{submitted_calm}
-use Rattle.sc_core.proofs.Moves.{Calm}
-use Rattle.sc_core.proofs.States.{runs_in}
+use Rattle.sc_core.proofs.StageCallLemmas.{submitted_calm}
+use Rattle.sc_core.proofs.MoveLemmas.{Calm}
+use Rattle.sc_core.proofs.StateLemmas.{runs_in}
 
 -- ---- stages that nothing was done for
 
@@ -159,9 +159,9 @@ settled_by d submitted settled =
         inr (any_mono (will_go_on d (λ s. false)) (will_go_on d submitted) (stage_at d s).parents
         will e)
 
-pub openings_are_sound :
+pub openings_by :
     CallsKeepSound → dag.OpeningsAreSound → SubmissionsSettle → OpeningsAreSound
-openings_are_sound calls opening settles graph limits saved last c job fits sound o =
+openings_by calls opening settles graph limits saved last c job fits sound o =
     record {
       dag = (calls d first.0).0 (this_stage (result_stage d)) c.dag o.submits;
       result = rw (calm.stages, begin.at) job.is_result;

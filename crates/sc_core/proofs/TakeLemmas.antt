@@ -26,11 +26,11 @@ use Rattle.sc_core.specs.declared.answers.Answer.{Answer}
 use Rattle.sc_core.specs.declared.answers.Answer.TheVariants as says
 use Rattle.sc_core.specs.declared.answers.Job.TheVariants as jobs
 use Rattle.sc_core.specs.declared.running.Running.{Running}
-use Rattle.sc_core.proofs.Lookups.{is_itself, same_is, set_of_newest}
-use Rattle.sc_core.proofs.Moves.{Moves, state_results}
-use Rattle.sc_core.proofs.Offering.{IsOffered, handed_out_moves, offered, offered_may}
-use Rattle.sc_core.proofs.RunningLists.{none_passes, same_sym}
-use Rattle.sc_core.proofs.Told.{goes_same}
+use Rattle.sc_core.proofs.LookupLemmas.{is_itself, same_is, set_of_newest}
+use Rattle.sc_core.proofs.MoveLemmas.{Moves, state_results}
+use Rattle.sc_core.proofs.OfferLemmas.{IsOffered, handed_out_moves, offered, offered_may}
+use Rattle.sc_core.proofs.RunningLemmas.{none_passes, same_sym}
+use Rattle.sc_core.proofs.ToldLemmas.{goes_same}
 
 -- a core that differs in what is told, when, and how far the job is
 pub calm_sound :

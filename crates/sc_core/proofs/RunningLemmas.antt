@@ -6,7 +6,7 @@ use Rattle.sc_ids.specs.declared.attempts.AttemptId.{AttemptId}
 use Rattle.sc_commit.specs.Committing.{is_same}
 use Rattle.sc_core.specs.CoreData.{is_of}
 use Rattle.sc_core.specs.declared.running.Running.{Running}
-use Rattle.sc_core.proofs.Lookups.{is_itself, same_is}
+use Rattle.sc_core.proofs.LookupLemmas.{is_itself, same_is}
 use Rattle.sc_dag.proofs.Tests.{clash}
 
 pub same_sym : (a b : AttemptId) → is_same a b ≡ is_same b a

@@ -10,8 +10,8 @@ use Rattle.sc_core.specs.declared.answers.Abort.TheVariants as aborts
 use Rattle.sc_core.specs.declared.answers.Answer.TheVariants as says
 use Rattle.sc_core.specs.declared.events.Event.TheVariants.{Post, Take}
 use Rattle.sc_core.specs.declared.running.Running.{Running}
-use Rattle.sc_core.proofs.RunningLists.{shorter}
-use Rattle.sc_core.proofs.Leaving.{Left, tells_left}
+use Rattle.sc_core.proofs.RunningLemmas.{shorter}
+use Rattle.sc_core.proofs.LeftLemmas.{Left, tells_left}
 
 -- less is left to do once a report was told
 told_less :

@@ -12,11 +12,11 @@ use Rattle.sc_core.specs.declared.events.Event.TheVariants.{Post, Take}
 use Rattle.sc_core.specs.declared.events.Outcome.{Outcome}
 use Rattle.sc_core.specs.declared.events.Outcome.TheVariants as outcomes
 use Rattle.sc_core.specs.declared.running.Running.{Running}
-use Rattle.sc_core.proofs.Lookups.{same_is}
-use Rattle.sc_core.proofs.Taking.{calm_sound, takes_keep}
-use Rattle.sc_core.proofs.TellingFailure.{failure_keeps}
-use Rattle.sc_core.proofs.TellingMap.{map_keeps}
-use Rattle.sc_core.proofs.TellingResult.{result_keeps}
+use Rattle.sc_core.proofs.LookupLemmas.{same_is}
+use Rattle.sc_core.proofs.TakeLemmas.{calm_sound, takes_keep}
+use Rattle.sc_core.proofs.FailureLemmas.{failure_keeps}
+use Rattle.sc_core.proofs.MapLemmas.{map_keeps}
+use Rattle.sc_core.proofs.ResultLemmas.{result_keeps}
 
 -- what a report of a running attempt is told of
 pub record IsPosted (c : CoreData) (a : AttemptId) (r : Running) : Type 0 where
@@ -31,12 +31,12 @@ posted c a r sound e =
       well = found_is (RunsWell c) (is_of a) c.running r sound.running e;
     }
 
-pub steps_keep :
+pub steps_keep_by :
     CallsKeepSound → MapSuccessesGoOn → ResultSuccessesGoOn → FailuresGoOn → OthersGoOn
     → StepsKeepSound
-steps_keep calls maps results failures others c after (Take exec) answer sound step =
+steps_keep_by calls maps results failures others c after (Take exec) answer sound step =
     takes_keep calls others c after exec answer sound step
-steps_keep calls maps results failures others c after (Post a outcome) answer sound step =
+steps_keep_by calls maps results failures others c after (Post a outcome) answer sound step =
     by (job_runs c) refl step
   where
     told : (r : Running) → RunsWell c r → job_runs c ≡ true → (outcome : Outcome)
@@ -63,8 +63,8 @@ steps_keep calls maps results failures others c after (Post a outcome) answer so
     by false e (says, is) = subst IsSoundCore (sym is) sound
     by true e h = of (running_of c a) refl e h
 
-pub replays_keep : StepsKeepSound → ReplaysKeepSound
-replays_keep steps opening end [] sound is = subst IsSoundCore (sym is) sound
-replays_keep steps opening end (entry ∷ entries) sound (mid, step, rest) =
-    replays_keep steps mid end entries
+pub replays_keep_by : StepsKeepSound → ReplaysKeepSound
+replays_keep_by steps opening end [] sound is = subst IsSoundCore (sym is) sound
+replays_keep_by steps opening end (entry ∷ entries) sound (mid, step, rest) =
+    replays_keep_by steps mid end entries
     (steps opening mid entry.event entry.answer sound step) rest

@@ -20,8 +20,8 @@ use Rattle.sc_core.specs.CoreData.{CoreData, is_of, job_runs, result_stage, runn
 use Rattle.sc_core.specs.Sound.{AreTwo, GoesOn, IsSoundCore, RunsWell}
 use Rattle.sc_core.specs.declared.answers.Job.TheVariants as jobs
 use Rattle.sc_core.specs.declared.running.Running.{Running}
-use Rattle.sc_core.proofs.Moves.{Moves, SameResults}
-use Rattle.sc_core.proofs.RunningLists.{found_beside, same_sym}
+use Rattle.sc_core.proofs.MoveLemmas.{Moves, SameResults}
+use Rattle.sc_core.proofs.RunningLemmas.{found_beside, same_sym}
 
 -- a stage of results is complete by its results alone
 pub complete_by_results :

@@ -8,10 +8,10 @@ use Rattle.sc_dag.specs.Reports.{CompletesMap, FailsStage, completed, with_faile
 use Rattle.sc_dag.specs.Submission.{IsSubmitted, as_waiting, by_number, moved_if, started, waiting_stages}
 use Rattle.sc_dag.proofs.Items.{by_number_at}
 use Rattle.sc_dag.proofs.Moving.{results_after}
-use Rattle.sc_core.proofs.Moves.{Calm, SameResults, moves_then, results_then, state_calm, state_results, states_calm}
-use Rattle.sc_core.proofs.Sets.{nothing}
-use Rattle.sc_core.proofs.States.{MovesOf, calm_same}
-use Rattle.sc_core.proofs.StateChanges.{completed_calm, failed_calm, started_calm, waiting_calm}
+use Rattle.sc_core.proofs.MoveLemmas.{Calm, SameResults, moves_then, results_then, state_calm, state_results, states_calm}
+use Rattle.sc_core.proofs.SetLemmas.{nothing}
+use Rattle.sc_core.proofs.StateLemmas.{MovesOf, calm_same}
+use Rattle.sc_core.proofs.StateChangeLemmas.{completed_calm, failed_calm, started_calm, waiting_calm}
 
 -- ---- submissions
 

@@ -9,7 +9,7 @@ use Rattle.sc_taskset.specs.Offers.{handed, handed_task}
 use Rattle.sc_taskset.specs.Reports.{after_end, after_failure, after_held, after_success, as_zombie, ended_task, failed_task, held_task, is_counted_in, is_failure, noted_task, succeeded_task}
 use Rattle.sc_taskset.specs.TaskSetData.{TaskData, TaskSetData, fresh_set, fresh_task}
 use Rattle.sc_dag.specs.Sound.{runner_among, runner_in}
-use Rattle.sc_core.proofs.Sets.{AreUnheld, MovesIn, calm_task, changed_task, ends_task, find_push, is_copy_of, nothing}
+use Rattle.sc_core.proofs.SetLemmas.{AreUnheld, MovesIn, calm_task, changed_task, ends_task, find_push, is_copy_of, nothing}
 
 -- ---- the calls
 

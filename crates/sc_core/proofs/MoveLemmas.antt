@@ -10,8 +10,8 @@ use Rattle.sc_dag.specs.DagData.{DagData, StageState, with_state, with_states, w
 use Rattle.sc_dag.specs.Outputs.{results_in}
 use Rattle.sc_dag.specs.Sound.{attempts_in, attempts_of, runner_of}
 use Rattle.sc_core.specs.Sound.{IsUnheld}
-use Rattle.sc_core.proofs.Sets.{nothing}
-use Rattle.sc_core.proofs.States.{MovesOf, calm_same, is_number_of, runs_in}
+use Rattle.sc_core.proofs.SetLemmas.{nothing}
+use Rattle.sc_core.proofs.StateLemmas.{MovesOf, calm_same, is_number_of, runs_in}
 
 -- no grant that is held has denied an attempt
 abbrev pub NoneHeld : DagData → Type 0
