@@ -8,15 +8,19 @@ use Rattle.sc_dag.proofs.ResultsGoOn.{result_successes_go_on}
 use Rattle.sc_dag.proofs.Settling.{submissions_settle}
 use Rattle.sc_dag.proofs.SoundCalls.{calls_keep_sound}
 use Rattle.sc_dag.proofs.Stuck.{nothing_is_stuck}
-use Rattle.sc_core.specs.Laws.{OpeningsAreSound, ReplaysAgree, ReplaysKeepSound, StepsAgree, StepsKeepSound, TaskLimitsAreReached, WaitsHaveCause}
+use Rattle.sc_core.specs.Laws.{EventsAreAnswered, OpeningsAreSound, ReplaysAgree, ReplaysKeepSound, StepsAgree, StepsKeepSound, TaskLimitsAreReached, WaitsHaveCause}
 use Rattle.sc_core.proofs.AbortLemmas.{task_limits_by}
 use Rattle.sc_core.proofs.AgreeLemmas.{replays_agree_by, steps_agree_by}
+use Rattle.sc_core.proofs.AnswerLemmas.{answered_by}
 use Rattle.sc_core.proofs.OpeningLemmas.{openings_by}
 use Rattle.sc_core.proofs.StepLemmas.{replays_keep_by, steps_keep_by}
 use Rattle.sc_core.proofs.WaitLemmas.{waits_by}
 
 pub waits_have_cause : WaitsHaveCause
 waits_have_cause = waits_by nothing_is_stuck
+
+pub events_are_answered : EventsAreAnswered
+events_are_answered = answered_by calls_keep_sound others_go_on waits_have_cause
 
 pub openings_are_sound : OpeningsAreSound
 openings_are_sound = openings_by calls_keep_sound dag.openings_are_sound submissions_settle

@@ -22,4 +22,7 @@ pub mod AbortLemmas
 pub mod TakeAgreeLemmas
 pub mod AgreeLemmas
 pub mod OpeningLemmas
+pub mod SubmitLemmas
+pub mod TakeAnswerLemmas
+pub mod AnswerLemmas
 pub mod LawLemmas

@@ -1,6 +1,9 @@
-use Rattle.sc_core.proofs.LawLemmas.{waits_have_cause}
+use Rattle.sc_core.proofs.LawLemmas.{events_are_answered, waits_have_cause}
 use Rattle.sc_core.proofs.SpendLemmas.{steps_are_spent}
 use Rattle.sc_core.proofs.laws.jobs_never_stick.Goals as goal
+
+pub returns-clause-answered : goal.returns-clause-answered
+returns-clause-answered c = events_are_answered
 
 pub returns-clause-waits : goal.returns-clause-waits
 returns-clause-waits c = waits_have_cause
