@@ -10,6 +10,9 @@
 //! pieces of texts are ranges of the same bytes; their number, or one of them, is found without the
 //! lists.
 //!
+//! [`halves`] lends pairs as two columns, and [`int_fold`] says what an expression does with two
+//! numbers, for those who put rows together.
+//!
 //! It knows one batch of rows. Which batches there are is chosen by `sc_ops`; below stand the rows
 //! of `sc_columns` and the meaning of `sc_expr`.
 #![tactic(auto)]
@@ -20,10 +23,12 @@ mod columns;
 mod constants;
 mod evaluation;
 mod heads;
+mod int_folds;
 mod items;
 mod lists;
 mod merges;
 mod numbers;
+mod pairs;
 mod parsing;
 mod picks;
 mod pieces;
@@ -32,3 +37,5 @@ mod unary;
 mod words;
 
 pub use evaluation::eval_rows;
+pub use int_folds::{IntFold, int_fold};
+pub use pairs::halves;

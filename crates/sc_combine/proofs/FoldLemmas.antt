@@ -13,9 +13,9 @@ use Rattle.sc_expr.specs.declared.exprs.Raise.{Raise}
 use Rattle.sc_lineage.specs.Keyed.{Side, side_then}
 use Rattle.sc_value.specs.Datum.{Datum, number}
 use Rattle.sc_combine.specs.Combining.{folded_by, placed, put_at, put_beside, step_of}
-use Rattle.sc_combine.specs.IntFolds.{FoldsInts, put_together}
+use Rattle.sc_batch.specs.IntFolds.{FoldsInts, put_together}
 use Rattle.sc_combine.specs.declared.combining.Taken.TheVariants.{Values}
-use Rattle.sc_combine.specs.declared.int_folds.IntFold.{IntFold}
+use Rattle.sc_batch.specs.declared.int_folds.IntFold.{IntFold}
 
 abbrev Step : Type 0
 Step = Datum → Datum → Outcome

@@ -17,8 +17,8 @@ use Rattle.sc_expr.specs.Heads.{Outcome}
 use Rattle.sc_expr.specs.Meaning.{two_values, value_of_expr}
 use Rattle.sc_expr.specs.declared.exprs.Raise.{Raise}
 use Rattle.sc_lineage.specs.Actions.{fold_from, folded}
-use Rattle.sc_ops.specs.Folds.{FoldsInts, put_together}
-use Rattle.sc_ops.specs.declared.int_folds.IntFold.{IntFold}
+use Rattle.sc_batch.specs.IntFolds.{FoldsInts, put_together}
+use Rattle.sc_batch.specs.declared.int_folds.IntFold.{IntFold}
 
 -- two runs of rows
 pub folded-append : (e : ExprData) (a : Datum) (xs ys : List Datum)

@@ -6,8 +6,8 @@ use Rattle.sc_expr.specs.ExprData.{ExprData}
 use Rattle.sc_expr.specs.Heads.{is_lazy, head_value}
 use Rattle.sc_expr.specs.declared.exprs.Head.{Head}
 use Rattle.sc_expr.specs.Meaning.{two_values, value_of_expr}
-use Rattle.sc_combine.specs.declared.int_folds.IntFold.{IntFold}
-use Rattle.sc_combine.specs.declared.int_folds.IntFold.TheVariants.{Sum, Difference, Product}
+use Rattle.sc_batch.specs.declared.int_folds.IntFold.{IntFold}
+use Rattle.sc_batch.specs.declared.int_folds.IntFold.TheVariants.{Sum, Difference, Product}
 
 -- what two numbers give together
 abbrev pub put_together : IntFold → ℤ → ℤ → ℤ
