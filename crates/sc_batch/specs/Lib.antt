@@ -7,3 +7,4 @@ pub mod Cuts
 pub mod Lists
 pub mod Places
 pub mod IntFolds
+pub mod AtInts

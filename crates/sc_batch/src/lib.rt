@@ -10,13 +10,14 @@
 //! pieces of texts are ranges of the same bytes; their number, or one of them, is found without the
 //! lists.
 //!
-//! [`halves`] lends pairs as two columns, and [`int_fold`] says what an expression does with two
-//! numbers, for those who put rows together.
+//! For those who put rows together, [`halves`] lends pairs as two columns, [`int_fold`] says what a
+//! simple expression does with two numbers, and [`int_at`] finds the number that any gives of two.
 //!
 //! It knows one batch of rows. Which batches there are is chosen by `sc_ops`; below stand the rows
 //! of `sc_columns` and the meaning of `sc_expr`.
 #![tactic(auto)]
 
+mod at_ints;
 mod by_rows;
 mod choices;
 mod columns;
@@ -36,6 +37,7 @@ mod texts;
 mod unary;
 mod words;
 
+pub use at_ints::{Stop, TwoInts, int_at};
 pub use evaluation::eval_rows;
 pub use int_folds::{IntFold, int_fold};
 pub use pairs::halves;

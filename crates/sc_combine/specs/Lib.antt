@@ -3,3 +3,4 @@ pub mod Groupings
 pub mod Crossings
 pub mod Spans
 pub mod Combining
+pub mod IntFolds
