@@ -8,3 +8,4 @@ pub mod NumberLemmas
 pub mod TextLemmas
 pub mod ListLemmas
 pub mod WordLemmas
+pub mod PairLemmas

@@ -6,3 +6,5 @@ pub mod Texts
 pub mod Cuts
 pub mod Lists
 pub mod Places
+pub mod IntFolds
+pub mod AtInts

@@ -10,20 +10,26 @@
 //! pieces of texts are ranges of the same bytes; their number, or one of them, is found without the
 //! lists.
 //!
+//! For those who put rows together, [`halves`] lends pairs as two columns, [`int_fold`] says what a
+//! simple expression does with two numbers, and [`int_at`] finds the number that any gives of two.
+//!
 //! It knows one batch of rows. Which batches there are is chosen by `sc_ops`; below stand the rows
 //! of `sc_columns` and the meaning of `sc_expr`.
 #![tactic(auto)]
 
+mod at_ints;
 mod by_rows;
 mod choices;
 mod columns;
 mod constants;
 mod evaluation;
 mod heads;
+mod int_folds;
 mod items;
 mod lists;
 mod merges;
 mod numbers;
+mod pairs;
 mod parsing;
 mod picks;
 mod pieces;
@@ -31,4 +37,7 @@ mod texts;
 mod unary;
 mod words;
 
+pub use at_ints::{Stop, TwoInts, int_at};
 pub use evaluation::eval_rows;
+pub use int_folds::{IntFold, int_fold};
+pub use pairs::halves;

@@ -13,9 +13,13 @@ use Rattle.sc_expr.specs.declared.exprs.Raise.{Raise}
 use Rattle.sc_lineage.specs.Keyed.{Side, side_then}
 use Rattle.sc_value.specs.Datum.{Datum, number}
 use Rattle.sc_combine.specs.Combining.{folded_by, placed, put_at, put_beside, step_of}
-use Rattle.sc_combine.specs.IntFolds.{FoldsInts, put_together}
+use Rattle.sc_batch.specs.AtInts.{Gives}
+use Rattle.sc_batch.specs.declared.at_ints.Stop.{Stop}
+use Rattle.sc_batch.specs.declared.at_ints.Stop.TheVariants.{Raised, Beyond}
+use Rattle.sc_combine.specs.IntFolds.{AreFound}
+use Rattle.sc_batch.specs.IntFolds.{FoldsInts, put_together}
 use Rattle.sc_combine.specs.declared.combining.Taken.TheVariants.{Values}
-use Rattle.sc_combine.specs.declared.int_folds.IntFold.{IntFold}
+use Rattle.sc_batch.specs.declared.int_folds.IntFold.{IntFold}
 
 abbrev Step : Type 0
 Step = Datum → Datum → Outcome
@@ -107,3 +111,19 @@ module _ (e : ExprData) (kind : IntFold) (folds : FoldsInts e kind) where
       (Ok (number (put_together kind a x)))
       (slice_get-map number kept n ∙ ap (option_map number) at) (folds a x)
       ∙ ap Ok (sym (ap (map number) is ∙ map_set number kept n (put_together kind a x)))
+
+-- the same of numbers that are found by an expression of any form
+pub found_refused : {X Y : Type 0} (v : X → List ℤ) (w : Y → List ℤ) (is whole : Side)
+    (error : OrMemory Stop) → ((r : Raise) → is ≡ Err r → whole ≡ Err r)
+    → AreFound {X = X} v is (Err error) → AreFound {X = Y} w whole (Err error)
+found_refused v w is whole (Fault (Raised r)) stops found = stops r found
+found_refused v w is whole (Fault Beyond) stops found = tt
+found_refused v w is whole OutOfMemory stops found = tt
+
+-- an item of a group that there is can't be put
+pub int_stops : {X : Type 0} (w : X → List ℤ) (step : Step) (kept : List Datum) (n : ℕ)
+    (d item : Datum) (stop : Stop) → slice_get kept n ≡ Some d
+    → Gives {X = ℤ} number (Err stop) (step d item)
+    → AreFound {X = X} w (put_at step kept n item) (Err (Fault stop))
+int_stops w step kept n d item (Raised r) at is = put_known step kept n d item (Err r) at is
+int_stops w step kept n d item Beyond at is = tt

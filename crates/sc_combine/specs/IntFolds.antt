@@ -1,26 +1,23 @@
--- Numbers put together by an expression.
-use Rattle.std.specs.Prelude.{ℤ, false, ◌≡◌, [], ◌∷◌, Ok}
-use Rattle.std.specs.Int.{w64, int_wrapping_add, int_wrapping_sub, int_wrapping_mul}
-use Rattle.sc_value.specs.Datum.{number}
-use Rattle.sc_expr.specs.ExprData.{ExprData}
-use Rattle.sc_expr.specs.Heads.{is_lazy, head_value}
-use Rattle.sc_expr.specs.declared.exprs.Head.{Head}
-use Rattle.sc_expr.specs.Meaning.{two_values, value_of_expr}
-use Rattle.sc_combine.specs.declared.int_folds.IntFold.{IntFold}
-use Rattle.sc_combine.specs.declared.int_folds.IntFold.TheVariants.{Sum, Difference, Product}
+-- Numbers put together by group, found with numbers alone.
+use Rattle.std.specs.Prelude.{ℤ, ◌≡◌, List, map, Option, Some, None, Result, Ok, Err}
+use Rattle.sc_base.specs.declared.refusals.OrMemory.{OrMemory}
+use Rattle.sc_base.specs.declared.refusals.OrMemory.TheVariants.{Fault, OutOfMemory}
+use Rattle.sc_value.specs.Datum.{Datum, number}
+use Rattle.sc_expr.specs.declared.exprs.Raise.{Raise}
+use Rattle.sc_batch.specs.declared.at_ints.Stop.{Stop}
+use Rattle.sc_batch.specs.declared.at_ints.Stop.TheVariants.{Raised, Beyond}
+use Rattle.sc_lineage.specs.Keyed.{Side}
 
--- what two numbers give together
-abbrev pub put_together : IntFold → ℤ → ℤ → ℤ
-put_together Sum a b = int_wrapping_add w64 a b
-put_together Difference a b = int_wrapping_sub w64 a b
-put_together Product a b = int_wrapping_mul w64 a b
+-- the numbers that were found are these values, or the raise is theirs
+abbrev pub AreFound : {X : Type 0} → (X → List ℤ) → Side → Result X (OrMemory Stop) → Type 0
+AreFound view whole (Ok x) = whole ≡ Ok (map number (view x))
+AreFound view whole (Err (Fault (Raised r))) = whole ≡ Err r
+AreFound view whole (Err (Fault Beyond)) = Unit {0}
+AreFound view whole (Err OutOfMemory) = Unit {0}
 
--- an expression does this with two numbers
-abbrev pub FoldsInts : ExprData → IntFold → Type 0
-FoldsInts e f = (a b : ℤ)
-    → value_of_expr (two_values (number a) (number b)) e ≡ Ok (number (put_together f a b))
-
--- a head does this with two numbers, both of which it evaluates
-pub record IsIntHead (h : Head) (f : IntFold) : Type 0 where
-  pub strict : is_lazy h ≡ false
-  pub value : (a b : ℤ) → head_value h (number a ∷ number b ∷ []) ≡ Ok (number (put_together f a b))
+-- the rows that were found are these values, or the raise is theirs
+abbrev pub FindsRows : Side → Result (Option (List Datum)) (OrMemory Raise) → Type 0
+FindsRows whole (Ok (Some rows)) = whole ≡ Ok rows
+FindsRows whole (Ok None) = Unit {0}
+FindsRows whole (Err (Fault r)) = whole ≡ Err r
+FindsRows whole (Err OutOfMemory) = Unit {0}

@@ -7,7 +7,7 @@ ghost use Rattle.sc_expr.specs.Heads.{first_of};
 ghost use Rattle.sc_lineage.specs.Meaning.{bounds_between as bounds_of_streams};
 ghost use Rattle.sc_lineage.specs.Streams.{raises};
 
-use crate::columns::halves;
+use sc_batch::halves;
 use sc_columns::{Rows, RowsBuilder};
 use sc_keys::Keys;
 use sc_lineage::Stream;

@@ -12,10 +12,10 @@ ghost use Rattle.sc_value.specs.Views.{datum_of};
 ghost use Rattle.sc_combine.specs.Combining.{folded_by, put_at, step_of};
 ghost use Rattle.sc_combine.specs.declared.combining.Taken.TheVariants.{Values};
 
-use crate::columns::halves;
 use crate::grouping::group;
 use crate::int_folds::fold_as_ints;
 use sc_base::OrMemory;
+use sc_batch::halves;
 use sc_columns::{Both, Rows, RowsBuilder};
 use sc_expr::{Env, EvalError, Expr, Raise, eval};
 use sc_value::{Value, copy};

@@ -12,15 +12,17 @@ use sc_columns::{Rows, RowsBuilder};
 use sc_hash::keys_have_buckets;
 use sc_keys::Split;
 use sc_part::{Bounds, bounds_are_lawful};
+use sc_value::Held;
 use std::alloc::{AllocError, Global};
 use std::marker::Model;
 
 /// The rows of a map partition by bucket. Contracts see it as the rows of each bucket, in order.
 ///
 /// The rows are picked once, bucket by bucket, and each bucket's are a range of them that shares.
+/// To share the whole copies nothing, and takes no time by the buckets.
 #[derive(Drop)]
 pub struct Dealt {
-    buckets: Vec<Rows>,
+    buckets: Held<Rows>,
 }
 
 impl Model for Dealt {
@@ -33,7 +35,7 @@ impl Model for Dealt {
 
     ghost coded = { coded_list (coded_list datum_code) };
 
-    ghost view = { λ d. d.buckets.items };
+    ghost view = { λ d. d.buckets };
 }
 
 impl Dealt {
@@ -87,7 +89,9 @@ impl Dealt {
     {
         let places = Split::of(alloc, buckets, n)?;
         let buckets = places.rows(alloc, rows)?;
-        Ok(Dealt { buckets })
+        Ok(Dealt {
+            buckets: Held::new(alloc, buckets)?,
+        })
     }
 
     /// How many buckets there are.
@@ -101,10 +105,19 @@ impl Dealt {
     pub fn rows(&self, alloc: Global, j: usize) -> Result<Rows, AllocError>
         ensures { IfOk result (λ r. r ≡ at_or self.now j []) }
     {
-        match self.buckets.get(j) {
+        match self.buckets.as_slice().get(j) {
             Some(rows) => rows.share(),
             None => RowsBuilder::new(alloc).finish(alloc),
         }
+    }
+
+    /// The same rows by bucket again, of which nothing is copied.
+    pub fn share(&self) -> Result<Dealt, AllocError>
+        ensures { IfOk result (λ d. d ≡ self.now) }
+    {
+        Ok(Dealt {
+            buckets: self.buckets.share()?,
+        })
     }
 }
 

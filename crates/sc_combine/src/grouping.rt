@@ -7,8 +7,8 @@ ghost use Rattle.sc_lineage.specs.Keyed.{grouped as grouped_of};
 ghost use Rattle.sc_value.specs.Datum.{Datum};
 ghost use Rattle.sc_combine.specs.Groupings.{IsGrouping, firsts_from};
 
-use crate::columns::halves;
 use crate::sides::Side;
+use sc_batch::halves;
 use sc_columns::Rows;
 use sc_keys::Keys;
 use std::alloc::{AllocError, Global};

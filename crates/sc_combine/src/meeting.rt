@@ -8,10 +8,11 @@ ghost use Rattle.sc_lineage.specs.declared.nodes.Meeting.TheVariants.{Cogroup};
 ghost use Rattle.sc_value.specs.Datum.{Datum};
 ghost use Rattle.sc_combine.specs.Groupings.{AreSides};
 
-use crate::columns::{halves, joined};
+use crate::columns::joined;
 use crate::crossing::crossed;
 use crate::grouping::group;
 use crate::sides::Side;
+use sc_batch::halves;
 use sc_columns::Rows;
 use sc_lineage::Meeting;
 use std::alloc::{AllocError, Global};

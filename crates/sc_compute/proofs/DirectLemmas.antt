@@ -5,7 +5,7 @@ use Rattle.std.proofs.lemmas.List.Elements.{All-nil, All-cons, All-head, All-tai
 use Rattle.std.specs.List.{slice_get}
 use Rattle.sc_base.specs.Lists.{at_or}
 use Rattle.sc_value.specs.Keys.{KeyData}
-use Rattle.sc_lineage.specs.Dependencies.{Dependency, one_to_one, range_behind, grouped, shuffled, IsNarrow, PlaceData, dependencies_by, dependencies_of, place, places_read, reads_of, unless_parted}
+use Rattle.sc_lineage.specs.Dependencies.{Dependency, one_to_one, range_behind, grouped, shuffled, IsNarrow, PlaceData, dependencies_by, dependencies_of, place, parents_of, places_read, reads_of, unless_parted}
 use Rattle.sc_lineage.specs.Meaning.{bounds_step, known_of, meanings_by, parts_of_shuffle, parts_step}
 use Rattle.sc_lineage.specs.NodeData.{NodeData, ShufflingData, reduce_by_key, group_by_key, sort_by_key, repartition, text_node, parallelize_node, each_node, union_node, coalesce_node, cache_node, shuffle_node, meet_node}
 use Rattle.sc_lineage.specs.Partitioners.{PartitionerData, no_partitioner, hash_partitioner, range_partitioner, is_parted_by, partitioner_of_shuffle}
@@ -17,7 +17,7 @@ use Rattle.sc_lineage.proofs.PlaceLemmas.{at_or-map_any, slice_get-at_or}
 use Rattle.sc_lineage.proofs.ReadLemmas.{HoldAtParents, at_parents, hold_at_parents, hold_by, narrow_by, reads_within}
 use Rattle.sc_lineage.proofs.ShuffleLemmas.{hash_count}
 use Rattle.sc_compute.specs.Reading.{direct_reads, read_directly}
-use Rattle.sc_compute.specs.Stages.{local_count, node_at}
+use Rattle.sc_compute.specs.Stages.{HoldDirectly, HoldsDirectly, local_count, node_at}
 
 -- what holds of the places that a dependency reads holds of those that it reads as they are
 directly : (counts : ℕ → ℕ) (p : ℕ) (P : PlaceData → Type 0) (d : Dependency)
@@ -35,6 +35,38 @@ at_direct counts p P (d ∷ ds) hold =
     All-append (λ at. P at.node) (read_directly counts p d) (flat_map (read_directly counts p) ds)
     (directly counts p (λ at. P at.node) d (at_parents counts P p d hold.0))
     (at_direct counts p P ds hold.1)
+
+-- what holds at the parents that are read as they are holds of the nodes of the places
+holds_of_read : (counts : ℕ → ℕ) (p : ℕ) (P : ℕ → Type 0) (d : Dependency) → HoldsDirectly P d
+    → All (λ at. P at.node) (read_directly counts p d)
+holds_of_read counts p P (one_to_one parent) hold =
+    at_parents counts P p (one_to_one parent) hold
+holds_of_read counts p P (range_behind parent others) hold =
+    at_parents counts P p (range_behind parent others) hold
+holds_of_read counts p P (grouped parent n) hold = at_parents counts P p (grouped parent n) hold
+holds_of_read counts p P (shuffled parent by) hold = All-nil (λ at. P at.node)
+
+pub hold_of_read : (counts : ℕ → ℕ) (p : ℕ) (P : ℕ → Type 0) (ds : List Dependency)
+    → HoldDirectly P ds → All (λ at. P at.node) (flat_map (read_directly counts p) ds)
+hold_of_read counts p P [] hold = All-nil (λ at. P at.node)
+hold_of_read counts p P (d ∷ ds) hold =
+    All-append (λ at. P at.node) (read_directly counts p d) (flat_map (read_directly counts p) ds)
+    (holds_of_read counts p P d hold.0) (hold_of_read counts p P ds hold.1)
+
+-- of a narrow node all parents are read as they are
+pub narrow_parents : (P : ℕ → Type 0) (known : List PartitionerData) (node : NodeData)
+    → IsNarrow node → HoldDirectly P (dependencies_by known node) → All P (parents_of node)
+narrow_parents P known (text_node name n) narrow hold = All-nil P
+narrow_parents P known (parallelize_node rows n) narrow hold = All-nil P
+narrow_parents P known (each_node kind parent e) narrow hold =
+    All-cons P parent [] hold.0 (All-nil P)
+narrow_parents P known (union_node left right) narrow hold =
+    All-cons P left (right ∷ []) hold.0.0 (All-cons P right [] hold.1.0.0 (All-nil P))
+narrow_parents P known (coalesce_node parent n) narrow hold =
+    All-cons P parent [] hold.0 (All-nil P)
+narrow_parents P known (cache_node parent) narrow hold = All-cons P parent [] hold.0 (All-nil P)
+narrow_parents P known (shuffle_node kind parent n) narrow hold = absurd narrow
+narrow_parents P known (meet_node kind left right n) narrow hold = absurd narrow
 
 -- a narrow node reads all as it is
 narrow_directly : (counts : ℕ → ℕ) (p : ℕ) (node : NodeData) → IsNarrow node

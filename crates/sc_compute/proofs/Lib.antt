@@ -9,3 +9,5 @@ pub mod StreamLemmas
 pub mod StageLemmas
 pub mod NodeLemmas
 pub mod MakingLemmas
+pub mod HandedLemmas
+pub mod LeftLemmas

@@ -2,19 +2,19 @@
 use Rattle.std.proofs.Common.{◌≡◌, ◌∙◌, ℕ, ◌<◌, List, Some, IfSome, Option, All, length, ap, sym, subst, arith}
 use Rattle.std.proofs.lemmas.List.Elements.{All-weaker}
 use Rattle.sc_base.specs.Lists.{at_or}
-use Rattle.sc_lineage.specs.Dependencies.{IsNarrow, dependencies_by, dependencies_of, parents_of, reads_of}
+use Rattle.sc_lineage.specs.Dependencies.{IsNarrow, dependencies_by, parents_of, reads_of}
 use Rattle.sc_lineage.specs.Meaning.{known_of, meanings_by}
 use Rattle.sc_lineage.specs.NodeData.{NodeData, text_node, parallelize_node, each_node, union_node, coalesce_node, cache_node, shuffle_node, meet_node}
 use Rattle.sc_lineage.specs.ScriptData.{WorkData, IsSoundScript, count_step}
 use Rattle.sc_lineage.proofs.MeaningLemmas.{parts_of_narrow}
-use Rattle.sc_lineage.proofs.ReadLemmas.{counts_by_parents, hold_at_parents, hold_by, reads_of-parents}
+use Rattle.sc_lineage.proofs.ReadLemmas.{counts_by_parents, reads_of-parents}
 use Rattle.sc_compute.specs.Reading.{direct_reads}
-use Rattle.sc_compute.specs.Stages.{AreRight, AreSides, HasMade, IsMadeRight, local_count, made_in, node_at}
+use Rattle.sc_compute.specs.Stages.{AreRight, AreSides, AtDirectParents, HasMade, IsMadeRight, local_count, made_in, node_at}
 use Rattle.sc_compute.specs.declared.stages.Sides.{Sides}
 use Rattle.sc_compute.specs.declared.stages.Sides.TheVariants.{Narrow}
 use Rattle.sc_compute.specs.declared.stages.Stages.{Stages}
 use Rattle.sc_compute.proofs.StageLemmas.{count_made, made_right}
-use Rattle.sc_compute.proofs.DirectLemmas.{at_direct, count_found, direct_narrow, counts_of, parts}
+use Rattle.sc_compute.proofs.DirectLemmas.{count_found, counts_of, direct_narrow, hold_of_read, narrow_parents, parts}
 
 -- a node of which nothing goes through a shuffle is narrow
 is_narrow : (work : WorkData) (node : NodeData) (sides : Sides) → AreSides work node sides
@@ -41,20 +41,14 @@ module _ (work : WorkData) (sound : IsSoundScript work.script) (k p : ℕ)
   abbrev counts : List ℕ
   counts = stages.counts.items
 
-  parents_made : All (HasMade stages) (parents_of node)
+  parents_made : AtDirectParents work (HasMade stages) k
   parents_made = (made_right work stages k right made).1.parents
-
-  parents_counted : All (λ q. at_or counts q 0 ≡ local_count work q) (parents_of node)
-  parents_counted =
-      All-weaker (HasMade stages) (λ q. at_or counts q 0 ≡ local_count work q)
-      (λ q is. count_made work stages q right is) (parents_of node) parents_made
 
   -- all was made for the nodes of the places that are read
   pub made_direct : All (λ at. HasMade stages at.node) (direct_reads work k p)
   made_direct =
-      at_direct (local_count work) p (HasMade stages) (dependencies_by (known_of work) node)
-      (hold_by (HasMade stages) (known_of work) (dependencies_of node)
-      (hold_at_parents (HasMade stages) node parents_made))
+      hold_of_read (local_count work) p (HasMade stages) (dependencies_by (known_of work) node)
+      parents_made
 
   -- what was made for the node's sides is right
   pub sides_are : (sides : Sides) → made_in stages k ≡ Some sides → AreSides work node sides
@@ -67,6 +61,12 @@ module _ (work : WorkData) (sound : IsSoundScript work.script) (k p : ℕ)
   module _ (sides : Sides) (is : made_in stages k ≡ Some sides) (none : sides ≡ Narrow) where
     pub node_is_narrow : IsNarrow node
     node_is_narrow = is_narrow work node sides (sides_are sides is) none
+
+    parents_counted : All (λ q. at_or counts q 0 ≡ local_count work q) (parents_of node)
+    parents_counted =
+        All-weaker (HasMade stages) (λ q. at_or counts q 0 ≡ local_count work q)
+        (λ q is. count_made work stages q right is) (parents_of node)
+        (narrow_parents (HasMade stages) (known_of work) node node_is_narrow parents_made)
 
     -- it has the partition by the counts of its parents
     pub narrow_within : (lent : List ℕ) (m : NodeData) → lent ≡ counts → m ≡ node

@@ -5,7 +5,7 @@ use Rattle.std.specs.List.{slice_get}
 use Rattle.sc_base.specs.Lists.{at_or}
 use Rattle.sc_lineage.specs.Dependencies.{IsNarrow, parents_of}
 use Rattle.sc_lineage.specs.Meaning.{bounds_step, known_of, meanings_by, parts_step}
-use Rattle.sc_lineage.specs.NodeData.{NodeData, text_node, parallelize_node, each_node, union_node, coalesce_node, cache_node, shuffle_node, meet_node}
+use Rattle.sc_lineage.specs.NodeData.{NodeData, ShufflingData, text_node, parallelize_node, each_node, union_node, coalesce_node, cache_node, shuffle_node, meet_node}
 use Rattle.sc_lineage.specs.ScriptData.{IsCount, IsSoundScript, WorkData, count_step, declared_count, declared_counts, partition_limit}
 use Rattle.sc_lineage.specs.Views.{node_data_of}
 use Rattle.sc_lineage.specs.declared.nodes.Meeting.{Meeting}
@@ -17,9 +17,10 @@ use Rattle.sc_lineage.proofs.CountLemmas.{count_is_within}
 use Rattle.sc_lineage.proofs.MeaningLemmas.{part_count-step, parts_of_narrow, reads_before}
 use Rattle.sc_lineage.proofs.PlaceLemmas.{at_or-found, at_or-get_or, at_or-map_any}
 use Rattle.sc_lineage.proofs.ReadLemmas.{counts_by_parents}
-use Rattle.sc_compute.specs.Stages.{AreRight, AreSides, HasMade, local_count, node_at}
+use Rattle.sc_compute.specs.Stages.{AreRight, AreSides, HasMade, IsSideFor, local_count, node_at, parents_left}
 use Rattle.sc_compute.specs.declared.stages.Sides.TheVariants as sides
 use Rattle.sc_compute.specs.declared.stages.Stages.{Stages}
+use Rattle.sc_compute.proofs.LeftLemmas.{narrow_made}
 use Rattle.sc_compute.proofs.StageLemmas.{count_made}
 
 -- a node that isn't made by a shuffle, by its variants
@@ -49,10 +50,6 @@ narrow_sides work (cache_node parent) narrow = tt
 narrow_sides work (shuffle_node kind parent n) narrow = absurd narrow
 narrow_sides work (meet_node kind left right n) narrow = absurd narrow
 
--- a parent of a node is there, and was made
-abbrev pub IsReady : WorkData → Stages → ℕ → Type 0
-IsReady work stages q = (q < length work.script.nodes) × HasMade stages q
-
 -- a node of a work is there
 pub record IsNode (work : WorkData) (k : ℕ) (node : NodeData) : Type 0 where
   pub sound : IsSoundScript work.script
@@ -79,20 +76,22 @@ module _ {work : WorkData} {k : ℕ} {node : NodeData} (at : IsNode work k node)
   pub parents_before : All (λ q. q < k) (parents_of node)
   parents_before = reads_before work.script k node at.sound at.is
 
-  parents_known : All (λ q. q < length work.script.nodes) (parents_of node)
+  -- and they are there
+  pub parents_known : All (λ q. q < length work.script.nodes) (parents_of node)
   parents_known =
       All-weaker (λ q. q < k) (λ q. q < length work.script.nodes)
       (λ q below. omega (arith, below, at.known)) (parents_of node) parents_before
 
-  parents_made : (stages : Stages) → All (HasMade stages) (parents_of (node_at work k))
-      → All (HasMade stages) (parents_of node)
-  parents_made stages made = subst (λ n. All (HasMade stages) (parents_of n)) node_is made
+  -- a side of it
+  pub side_is : (side : ℕ) (kind : ShufflingData) (parent n : ℕ)
+      → IsSideFor node side kind parent n → IsSideFor (node_at work k) side kind parent n
+  side_is side kind parent n is =
+      subst (λ m. IsSideFor m side kind parent n) (sym node_is) is
 
-  -- its parents are there, and were made
-  pub parents_ready : (stages : Stages) → All (HasMade stages) (parents_of (node_at work k))
-      → All (IsReady work stages) (parents_of node)
-  parents_ready stages made =
-      λ i other within. (parents_known i other within, parents_made stages made i other within)
+  -- the parents that were left are those of the node
+  pub left_are : (stages : Stages) → All (HasMade stages) (parents_left stages k (node_at work k))
+      → All (HasMade stages) (parents_left stages k node)
+  left_are stages made = subst (λ n. All (HasMade stages) (parents_left stages k n)) node_is made
 
   -- its number of partitions
   pub count_is : local_count work k
@@ -100,9 +99,16 @@ module _ {work : WorkData} {k : ℕ} {node : NodeData} (at : IsNode work k node)
       (map length (meanings_by (known_of work) work)) node
   count_is = part_count-step (known_of work) work k node at.sound at.is
 
+  parents_made : (stages : Stages) → AreRight work stages → IsNarrow node
+      → All (HasMade stages) (parents_left stages k (node_at work k))
+      → All (HasMade stages) (parents_of node)
+  parents_made stages right narrow made =
+      subst (λ n. All (HasMade stages) (parents_of n)) node_is
+      (narrow_made work stages k right (subst IsNarrow (sym node_is) narrow) made)
+
   -- the same of a narrow node, by what was made for its parents
   pub narrow_is : (stages : Stages) → AreRight work stages → IsNarrow node
-      → All (HasMade stages) (parents_of (node_at work k))
+      → All (HasMade stages) (parents_left stages k (node_at work k))
       → count_step stages.counts.items node ≡ local_count work k
   narrow_is stages right narrow made =
       let found = meanings_by (known_of work) work in
@@ -110,7 +116,7 @@ module _ {work : WorkData} {k : ℕ} {node : NodeData} (at : IsNode work k node)
       (All-weaker (HasMade stages)
       (λ q. at_or stages.counts.items q 0 ≡ at_or (map length found) q 0)
       (λ q there. count_made work stages q right there ∙ sym (at_or-map_any length found q []))
-      (parents_of node) (parents_made stages made))
+      (parents_of node) (parents_made stages right narrow made))
       ∙ sym (count_is ∙ parts_of_narrow found (map length found) node narrow)
 
   -- it has no more partitions than a definition may have

@@ -5,10 +5,11 @@ use Rattle.std.proofs.lemmas.List.{get_or-set_same, get_or-set_other}
 use Rattle.std.proofs.lemmas.List.Elements.{All-nil, All-cons, All-head, All-tail, All-append, All-weaker}
 use Rattle.std.specs.Option.{IfSome, is_some, option_to_list}
 use Rattle.sc_base.specs.Lists.{at_or}
-use Rattle.sc_lineage.specs.Dependencies.{parents_of}
+use Rattle.sc_lineage.specs.Dependencies.{Dependency, one_to_one, range_behind, grouped, shuffled, dependencies_by}
+use Rattle.sc_lineage.specs.Meaning.{known_of}
 use Rattle.sc_lineage.specs.ScriptData.{WorkData}
 use Rattle.sc_lineage.proofs.PlaceLemmas.{at_or-get_or}
-use Rattle.sc_compute.specs.Stages.{AreRight, AreSides, HasMade, IsMade, IsMadeRight, local_count, made_in, node_at}
+use Rattle.sc_compute.specs.Stages.{AreRight, AreSides, AtDirectParents, HasMade, HoldDirectly, HoldsDirectly, IsMade, IsMadeRight, local_count, made_in, node_at}
 use Rattle.sc_compute.specs.declared.stages.Sides.{Sides}
 use Rattle.sc_compute.specs.declared.stages.Stages.{Stages}
 
@@ -17,6 +18,11 @@ pub there_so : {A : Type 0} (P : A → Type 0) (o : Option A) → is_some o ≡ 
     → (x : A) × P x
 there_so P None some holds = cc
 there_so P (Some x) some holds = (x, holds)
+
+-- nothing is not something
+pub not_there : {A : Type 0} (o : Option A) → is_some o ≡ true → o ≡ None → ⊥
+not_there None some none = cc
+not_there (Some x) some none = cc
 
 -- what was made for a node is right
 pub made_right : (work : WorkData) (stages : Stages) (k : ℕ) → AreRight work stages
@@ -39,6 +45,21 @@ count_made_at work stages j k same right made =
 -- what is known of a number holds of the same number
 pub of_same : (P : ℕ → Type 0) (o : Option ℕ) (p q : ℕ) → o ≡ Some p → o ≡ Some q → P p → P q
 of_same P o p q is also holds = let same : p ≡ q = cc in subst P same holds
+
+-- what holds at the parents that are read as they are, when more holds
+one_weaker : (P Q : ℕ → Type 0) → ((q : ℕ) → P q → Q q) → (d : Dependency) → HoldsDirectly P d
+    → HoldsDirectly Q d
+one_weaker P Q f (one_to_one parent) hold = f parent hold
+one_weaker P Q f (range_behind parent others) hold =
+    (f parent hold.0, All-weaker P Q f others hold.1)
+one_weaker P Q f (grouped parent n) hold = f parent hold
+one_weaker P Q f (shuffled parent by) hold = tt
+
+pub directly_weaker : (P Q : ℕ → Type 0) → ((q : ℕ) → P q → Q q) → (ds : List Dependency)
+    → HoldDirectly P ds → HoldDirectly Q ds
+directly_weaker P Q f [] hold = tt
+directly_weaker P Q f (d ∷ ds) hold =
+    (one_weaker P Q f d hold.0, directly_weaker P Q f ds hold.1)
 
 -- The parents of a node, of which there are two at most.
 module _ (P : ℕ → Type 0) (first second : Option ℕ) (parents : List ℕ)
@@ -102,7 +123,7 @@ module _ (work : WorkData) (before after : ℕ → Option Sides) where
 
     pub right-put : (counts : List ℕ) (count : ℕ) → node < length work.script.nodes
         → length counts ≡ length work.script.nodes → count ≡ local_count work node
-        → All (IsMade before) (parents_of (node_at work node))
+        → AtDirectParents work (IsMade before) node
         → AreSides work (node_at work node) sides
         → ((k : ℕ) → IfSome (before k) (IsMadeRight work counts before k))
         → (k : ℕ) → IfSome (after k) (IsMadeRight work (slice_set counts node count) after k)
@@ -110,10 +131,11 @@ module _ (work : WorkData) (before after : ℕ → Option Sides) where
         subst (λ o. IfSome o (IsMadeRight work (slice_set counts node count) after k))
         (sym (updates k)) (here (nat_eq node k) refl)
       where
-        of_parents : (j : ℕ) → All (IsMade before) (parents_of (node_at work j))
-            → All (IsMade after) (parents_of (node_at work j))
-        of_parents j all =
-            All-weaker (IsMade before) (IsMade after) made-kept (parents_of (node_at work j)) all
+        of_parents : (j : ℕ) → AtDirectParents work (IsMade before) j
+            → AtDirectParents work (IsMade after) j
+        of_parents j hold =
+            directly_weaker (IsMade before) (IsMade after) made-kept
+            (dependencies_by (known_of work) (node_at work j)) hold
 
         at_node : IsMadeRight work (slice_set counts node count) after node sides
         at_node = record {

@@ -1,6 +1,6 @@
+pub mod Keeping
 pub mod Stages
 pub mod Reading
 pub mod Evaluations
 pub mod Gathering
-pub mod Keeping
 pub mod Tasks

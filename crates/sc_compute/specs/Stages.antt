@@ -1,22 +1,27 @@
 -- What was made for the nodes of a work, so that their partitions can be computed: how many
 -- partitions they have, and what went into their shuffles.
 use Rattle.std.specs.declared.alloc.Global.{Global}
-use Rattle.std.specs.Prelude.{Vec, ℕ, suc, ◌≡◌, ◌<◌, Bool, true, false, List, [], ◌∷◌, Option, IfSome, Result, Ok, Err, is_some, length, map, nat_eq}
+use Rattle.std.specs.Prelude.{Vec, ℕ, zero, suc, ◌≡◌, ◌<◌, Bool, true, false, List, [], ◌∷◌, ◌++◌, Option, Some, None, IfSome, Result, Ok, Err, is_some, length, map, nat_eq, slice_get}
 use Rattle.std.specs.HashMap.{get}
 use Rattle.std.specs.List.{All}
+use Rattle.std.specs.Option.{option_to_list}
 use Rattle.sc_base.specs.Lists.{at_or}
 use Rattle.sc_base.specs.declared.refusals.OrMemory.{OrMemory}
 use Rattle.sc_base.specs.declared.refusals.OrMemory.TheVariants.{Fault, OutOfMemory}
 use Rattle.sc_value.specs.Datum.{Datum}
+use Rattle.sc_value.specs.Keys.{KeyData}
 use Rattle.sc_expr.specs.declared.exprs.Raise.{Raise}
 use Rattle.sc_combine.specs.Deals.{IsDealt}
-use Rattle.sc_lineage.specs.Dependencies.{parents_of}
+use Rattle.sc_lineage.specs.Dependencies.{Dependency, one_to_one, range_behind, grouped, shuffled, dependencies_by, parents_of}
 use Rattle.sc_lineage.specs.Keyed.{Side}
-use Rattle.sc_lineage.specs.Meaning.{bounds_of_shuffle, known_of, local_streams}
-use Rattle.sc_lineage.specs.NodeData.{NodeData, ShufflingData, group_by_key, text_node, parallelize_node, each_node, union_node, coalesce_node, cache_node, shuffle_node, meet_node}
+use Rattle.sc_lineage.specs.Meaning.{bounds_of_shuffle, bounds_step, known_of, local_streams, meanings_by}
+use Rattle.sc_lineage.specs.NodeData.{NodeData, ShufflingData, group_by_key, sort_by_key, text_node, parallelize_node, each_node, union_node, coalesce_node, cache_node, shuffle_node, meet_node}
 use Rattle.sc_lineage.specs.Partitioners.{PartitionerData, no_partitioner, hash_partitioner, is_parted_by, partitioner_of_shuffle}
 use Rattle.sc_lineage.specs.ScriptData.{WorkData}
-use Rattle.sc_lineage.specs.Shuffles.{Dealing, by_hash, dealing_of, map_side, of_sides}
+use Rattle.sc_lineage.specs.Shuffles.{Dealing, by_hash, by_range, dealing_of, map_side, of_sides}
+use Rattle.sc_lineage.specs.Streams.{whole_stream}
+use Rattle.sc_lineage.specs.Targets.{map_target, own_value}
+use Rattle.sc_compute.specs.Keeping.{same_place}
 use Rattle.sc_compute.specs.declared.stages.Input.{Input}
 use Rattle.sc_compute.specs.declared.stages.Input.TheVariants as inputs
 use Rattle.sc_compute.specs.declared.stages.Sides.{Sides}
@@ -87,29 +92,129 @@ AreSides work (coalesce_node parent n) Narrow = Unit {0}
 AreSides work (cache_node parent) Narrow = Unit {0}
 AreSides work node sides = ⊥
 
+-- how a node's shuffle deals its rows out; a node that isn't made by one has a bucket for all
+abbrev pub dealing_of_node : WorkData → NodeData → Dealing
+dealing_of_node work (shuffle_node kind parent n) = dealing_in work kind parent n
+dealing_of_node work (meet_node kind left right n) = by_hash n
+dealing_of_node work node = by_range []
+
+-- the node whose partitions go into a side of a node
+abbrev pub mapped_in : NodeData → ℕ → ℕ
+mapped_in node side = at_or (parents_of node) side 0
+
+-- a node has a side that is a shuffle, since the rows of its parent don't lie so already
+abbrev pub GoesThrough : WorkData → NodeData → ℕ → Type 0
+GoesThrough work (shuffle_node kind parent n) zero =
+    lies_so work (partitioner_of_shuffle kind n) parent ≡ false
+GoesThrough work (meet_node kind left right n) zero =
+    lies_so work (hash_partitioner n) left ≡ false
+GoesThrough work (meet_node kind left right n) (suc zero) =
+    lies_so work (hash_partitioner n) right ≡ false
+GoesThrough work node side = ⊥
+
+-- a side of a node's shuffle does this with the rows of this parent, into so many partitions
+abbrev pub IsSideFor : NodeData → ℕ → ShufflingData → ℕ → ℕ → Type 0
+IsSideFor (shuffle_node does left n) zero kind parent m =
+    (does ≡ kind) × (left ≡ parent) × (n ≡ m)
+IsSideFor (meet_node does left right n) zero kind parent m =
+    (group_by_key ≡ kind) × (left ≡ parent) × (n ≡ m)
+IsSideFor (meet_node does left right n) (suc zero) kind parent m =
+    (group_by_key ≡ kind) × (right ≡ parent) × (n ≡ m)
+IsSideFor node side kind parent m = ⊥
+
+-- what a task is to leave of a map partition of a side: its own value, which doesn't raise, by
+-- bucket
+pub record IsOutput (work : WorkData) (node side m : ℕ) (dealt : List (List Datum)) : Type 0 where
+  pub rows : List Datum
+  pub own : own_value work (map_target node side m) ≡ whole_stream rows
+  pub by_bucket : IsDealt (dealing_of_node work (node_at work node)) m rows dealt
+
+-- what the tasks of a side left, one of each map partition in order
+pub record AreOutputs (work : WorkData) (node side : ℕ) (outputs : List (List (List Datum))) :
+    Type 0 where
+  pub known : node < length work.script.nodes
+  pub through : GoesThrough work (node_at work node) side
+  pub count : length outputs ≡ local_count work (mapped_in (node_at work node) side)
+  pub each : (m : ℕ) → m < length outputs → IsOutput work node side m (at_or outputs m [])
+
+-- the bounds of a node
+abbrev pub bounds_at : WorkData → ℕ → List KeyData
+bounds_at work k = bounds_step (meanings_by (known_of work) work) (node_at work k)
+
+-- what holds at the parents whose partitions are read by a dependency as they are; what goes
+-- through a shuffle isn't
+abbrev pub HoldsDirectly : (ℕ → Type 0) → Dependency → Type 0
+HoldsDirectly P (one_to_one parent) = P parent
+HoldsDirectly P (range_behind parent others) = P parent × All P others
+HoldsDirectly P (grouped parent n) = P parent
+HoldsDirectly P (shuffled parent by) = Unit {0}
+
+-- the same of all dependencies
+abbrev pub HoldDirectly : (ℕ → Type 0) → List Dependency → Type 0
+HoldDirectly P [] = Unit {0}
+HoldDirectly P (d ∷ ds) = HoldsDirectly P d × HoldDirectly P ds
+
+-- the parents of a node whose partitions are read as they are
+abbrev pub AtDirectParents : WorkData → (ℕ → Type 0) → ℕ → Type 0
+AtDirectParents work P k = HoldDirectly P (dependencies_by (known_of work) (node_at work k))
+
 -- what was made of a node is there
 abbrev pub IsMade : (ℕ → Option Sides) → ℕ → Type 0
 IsMade made k = is_some (made k) ≡ true
 
 -- what was made for a node is right: its number of partitions, what its sides are read from, and
--- that the same was made for its parents before
+-- that the same was made before for the parents whose partitions are read as they are
 pub record IsMadeRight (work : WorkData) (counts : List ℕ) (made : ℕ → Option Sides) (k : ℕ)
     (sides : Sides) : Type 0 where
   pub known : k < length work.script.nodes
   pub count : at_or counts k 0 ≡ local_count work k
-  pub parents : All (IsMade made) (parents_of (node_at work k))
+  pub parents : AtDirectParents work (IsMade made) k
   pub are : AreSides work (node_at work k) sides
 
 -- what was made for nodes, by their numbers
 abbrev pub made_in : Stages → ℕ → Option Sides
 made_in stages = get nat_eq stages.sides
 
--- all that was made for the nodes of a work is right
+-- what was handed in for a side of a node
+abbrev pub handed_in : Stages → ℕ → ℕ → Option (Vec (List (List Datum)) Global)
+handed_in stages node side = get same_place stages.handed (node, side)
+
+-- the bounds of a node that were told
+abbrev pub bounds_told : Stages → ℕ → Option (List KeyData)
+bounds_told stages = get nat_eq stages.bounds
+
+-- all that was made for the nodes of a work is right, and so is what was handed in and told
 pub record AreRight (work : WorkData) (stages : Stages) : Type 0 where
   pub counts : length stages.counts.items ≡ length work.script.nodes
   pub each : (k : ℕ) → IfSome (made_in stages k)
       (IsMadeRight work stages.counts.items (made_in stages) k)
+  pub handed : (node side : ℕ) → IfSome (handed_in stages node side)
+      (λ outputs. AreOutputs work node side outputs.items)
+  pub told : (k : ℕ) → IfSome (bounds_told stages k) (λ bounds. bounds ≡ bounds_at work k)
 
 -- what partitions of a node need was made
 abbrev pub HasMade : Stages → ℕ → Type 0
 HasMade stages k = IsMade (made_in stages) k
+
+-- something was handed in for a side of a node
+abbrev pub HasOutputs : Stages → ℕ → ℕ → Type 0
+HasOutputs stages node side = is_some (handed_in stages node side) ≡ true
+
+-- the bounds of a sort were told; another node needs none
+abbrev pub HasBounds : Stages → ℕ → NodeData → Type 0
+HasBounds stages k (shuffle_node sort_by_key parent n) = is_some (bounds_told stages k) ≡ true
+HasBounds stages k node = Unit {0}
+
+-- the parent of a side, unless something was handed in for the side
+abbrev pub unless_handed : Option (Vec (List (List Datum)) Global) → Option ℕ → Option ℕ
+unless_handed None parent = parent
+unless_handed (Some outputs) parent = None
+
+-- the parents of a node that are to be made before it, each by its side
+abbrev pub left_parent : Stages → ℕ → NodeData → ℕ → Option ℕ
+left_parent stages k node side =
+    unless_handed (handed_in stages k side) (slice_get (parents_of node) side)
+
+abbrev pub parents_left : Stages → ℕ → NodeData → List ℕ
+parents_left stages k node =
+    option_to_list (left_parent stages k node 0) ++ option_to_list (left_parent stages k node 1)

@@ -9,7 +9,7 @@ ghost use Rattle.sc_compute.specs.Stages.{AreRight, HasMade};
 
 use crate::gathered::Gathered;
 use crate::stages::Stages;
-use crate::targets::{Target, compute, node_of};
+use crate::targets::{action_result, node_of};
 use sc_lineage::{Action, DriverFault, Work, count_at};
 use sc_value::Octets;
 use std::alloc::{AllocError, Global};
@@ -60,7 +60,7 @@ fn gather(
     let count = count_at(stages.counts(), node_of(action));
     let mut gathered = Gathered::new(alloc, action);
     for partition in 0..count {
-        let result = compute(alloc, work, stages, Target::Result { action, partition })?;
+        let result = action_result(alloc, work, stages, action, partition)?;
         if result.raise.is_some() {
             return Ok(Evaluated::Never { partition });
         }

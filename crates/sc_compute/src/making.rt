@@ -1,24 +1,24 @@
 //! What is made for one node.
 #![tactic(auto)]
 
-ghost use Rattle.std.specs.Prelude.{◌≡◌, ◌<◌, ◌-◌, ◌^◌, All, IfOk, List, length, map};
+ghost use Rattle.std.specs.Prelude.{◌≡◌, ◌<◌, ◌-◌, ◌^◌, [], All, IfOk, List, None, length, map};
+ghost use Rattle.sc_base.specs.Lists.{at_or};
 ghost use Rattle.sc_value.specs.Keys.{KeyData};
-ghost use Rattle.sc_lineage.specs.Dependencies.{parents_of as parents_in};
 ghost use Rattle.sc_lineage.specs.Meaning.{bounds_of_shuffle, local_streams, parts_of_shuffle};
 ghost use Rattle.sc_lineage.specs.Partitioners.{partitioner_of_shuffle};
 ghost use Rattle.sc_lineage.specs.Shuffles.{dealing_of};
 ghost use Rattle.sc_lineage.specs.Streams.{whole_stream};
 ghost use Rattle.sc_lineage.specs.Views.{node_data_of, partitioner_data_of, shuffling_data_of};
-ghost use Rattle.sc_combine.specs.Deals.{IsDealt};
-ghost use Rattle.sc_compute.specs.Stages.{AreDealt, AreRight, AreSides, HasMade, IsInput, OpensAs, dealing_in, lies_so as lies_in, local_count, node_at, sides_of};
+ghost use Rattle.sc_compute.specs.Stages.{AreDealt, AreRight, AreSides, HasMade, IsInput, IsSideFor, OpensAs, dealing_in, handed_in, lies_so as lies_in, local_count, node_at, parents_left, sides_of};
 
 use crate::counting::narrow_count;
+use crate::handing::SideId;
+use crate::mapping::{deal_one, mapped_rows};
 use crate::nodes::node_in;
-use crate::partitions::partition_stream;
 use crate::stages::{Input, Sides, Stages};
 use sc_base::OrMemory;
 use sc_columns::Rows;
-use sc_combine::{Dealt, bounds_between, map_side};
+use sc_combine::{Dealt, bounds_between};
 use sc_expr::Raise;
 use sc_lineage::{
     Node, NodeId, Partitioner, Place, Shuffling, Stream, Work, count_at, is_parted_by,
@@ -27,7 +27,7 @@ use sc_part::Bounds;
 use std::alloc::{AllocError, Global};
 
 /// The number of partitions of a node, and what its sides are read from, where the same was made
-/// for its parents.
+/// for its parents, but for those whose sides were handed in.
 pub fn make(
     alloc: Global,
     work: &Work,
@@ -36,7 +36,8 @@ pub fn make(
 ) -> Result<(u32, Sides), AllocError>
     requires known { node < length work.now.script.nodes }
     requires right { AreRight work.now stages.now }
-    requires parents { All (HasMade stages.now) (parents_in (node_at work.now node)) }
+    requires parents { All (HasMade stages.now)
+        (parents_left stages.now node (node_at work.now node)) }
     ensures count { IfOk result (λ made. made.0 ≡ local_count work.now node) }
     ensures are { IfOk result (λ made. AreSides work.now (node_at work.now node) made.1) }
 {
@@ -47,7 +48,8 @@ pub fn make(
             parent,
             partitions,
         } => {
-            let (count, input) = make_input(alloc, work, stages, kind, *parent, *partitions)?;
+            let at = SideId { node, side: 0 };
+            let (count, input) = input_of(alloc, work, stages, at, kind, *parent, *partitions)?;
             Ok((count, Sides::One(input)))
         }
         Node::Meet {
@@ -57,11 +59,68 @@ pub fn make(
             ..
         } => {
             let passed = Shuffling::GroupByKey;
-            let (_, first) = make_input(alloc, work, stages, &passed, *left, *partitions)?;
-            let (_, second) = make_input(alloc, work, stages, &passed, *right, *partitions)?;
+            let at = SideId { node, side: 0 };
+            let (_, first) = input_of(alloc, work, stages, at, &passed, *left, *partitions)?;
+            let at = SideId { node, side: 1 };
+            let (_, second) = input_of(alloc, work, stages, at, &passed, *right, *partitions)?;
             Ok((*partitions, Sides::Two(first, second)))
         }
         narrow => Ok((narrow_count(stages.counts(), narrow), Sides::Narrow)),
+    }
+}
+
+/// What a side of a shuffle reads of a parent, and how many partitions the shuffle has: by what was
+/// handed in, or else made of the parent.
+fn input_of(
+    alloc: Global,
+    work: &Work,
+    stages: &Stages,
+    at: SideId,
+    kind: &Shuffling,
+    parent: NodeId,
+    n: u32,
+) -> Result<(u32, Input), AllocError>
+    requires known { parent < length work.now.script.nodes }
+    requires right { AreRight work.now stages.now }
+    requires side { IsSideFor (node_at work.now at.node) at.side
+        (shuffling_data_of kind.now) parent n }
+    requires parent_made { handed_in stages.now at.node at.side ≡ None → HasMade stages.now parent }
+    requires some_partitions { 0 < n }
+    ensures count { IfOk result (λ made. made.0 ≡ parts_of_shuffle (shuffling_data_of kind.now) n
+        (bounds_of_shuffle (shuffling_data_of kind.now) (local_streams work.now parent) n)) }
+    ensures input { IfOk result (λ made. IsInput work.now (shuffling_data_of kind.now)
+        (dealing_in work.now (shuffling_data_of kind.now) parent n)
+        (partitioner_of_shuffle (shuffling_data_of kind.now) n) parent made.1) }
+{
+    work.is_sound();
+    match stages.handed(at) {
+        Some(outputs) => {
+            let dealt = shared(alloc, outputs)?;
+            Ok((parts_handed(outputs), Input::Dealt(dealt)))
+        }
+        None => make_input(alloc, work, stages, kind, parent, n),
+    }
+}
+
+/// The same outputs again, of which nothing is copied.
+fn shared(alloc: Global, outputs: &[Dealt]) -> Result<Vec<Dealt>, AllocError>
+    ensures { IfOk result (λ v. v.items ≡ outputs.now) }
+{
+    let mut out = Vec::with_capacity(alloc, outputs.len())?;
+    for output in outputs {
+        out.push(output.share()?)?;
+    }
+    Ok(out)
+}
+
+/// How many partitions a shuffle has, by what its tasks left: as many as there are buckets.
+fn parts_handed(outputs: &[Dealt]) -> u32
+    requires few { length (at_or outputs.now 0 []) < 2 ^ 32 }
+    ensures { result ≡ length (at_or outputs.now 0 []) }
+{
+    match outputs.first() {
+        Some(first) => first.len() as u32,
+        None => 0,
     }
 }
 
@@ -129,8 +188,8 @@ fn map_sides(
     let mut sides = Vec::new(alloc);
     for partition in 0..count_at(stages.counts(), parent) {
         let node = parent;
-        let stream = partition_stream(alloc, work, stages, Place { node, partition })?;
-        sides.push(map_side(alloc, kind, &stream)?)?;
+        let rows = mapped_rows(alloc, work, stages, kind, Place { node, partition })?;
+        sides.push(rows)?;
     }
     Ok(sides)
 }
@@ -191,27 +250,4 @@ fn deal(
         dealt.push(deal_one(alloc, kind, n, bounds, &sides[m], m)?)?;
     }
     Ok(dealt)
-}
-
-/// What goes into a shuffle from one map partition, by bucket.
-fn deal_one(
-    alloc: Global,
-    kind: &Shuffling,
-    n: u32,
-    bounds: &Bounds,
-    rows: &Rows,
-    m: usize,
-) -> Result<Dealt, AllocError>
-    requires some_partitions { 0 < n }
-    ensures { IfOk result
-        (IsDealt (dealing_of (shuffling_data_of kind.now) n bounds.now) m rows.now) }
-{
-    match kind.partitioner(n) {
-        Partitioner::Hash(_) => Dealt::by_hash(alloc, rows, n),
-        Partitioner::Range => Dealt::by_range(alloc, rows, bounds),
-        Partitioner::Unknown => match u32::try_from(m) {
-            Ok(m) => Dealt::in_turn(alloc, rows, n, m),
-            Err(_) => Err(AllocError),
-        },
-    }
 }

@@ -1,8 +1,7 @@
 //! The parents of a node.
 #![tactic(auto)]
 
-ghost use Rattle.std.specs.Prelude.{◌≡◌, ◌++◌, None, Some};
-ghost use Rattle.std.specs.Option.{option_to_list};
+ghost use Rattle.std.specs.Prelude.{◌≡◌, None, Some, slice_get};
 ghost use Rattle.sc_lineage.specs.Dependencies.{parents_of as parents_in};
 ghost use Rattle.sc_lineage.specs.Views.{node_data_of};
 
@@ -19,8 +18,8 @@ pub struct Parents {
 
 /// The nodes that a node reads.
 pub fn parents_of(node: &Node) -> Parents
-    ensures { option_to_list result.first ++ option_to_list result.second
-        ≡ parents_in (node_data_of node.now) }
+    ensures first { result.first ≡ slice_get (parents_in (node_data_of node.now)) 0 }
+    ensures second { result.second ≡ slice_get (parents_in (node_data_of node.now)) 1 }
 {
     match node {
         Node::Text { .. } | Node::Parallelize { .. } => Parents {

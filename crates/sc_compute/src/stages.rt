@@ -2,15 +2,14 @@
 #![tactic(auto)]
 
 ghost use Rattle.std.specs.Prelude.{◌≡◌, ◌<◌, All, IfOk, OnOk, ℕ, length, option_map};
-ghost use Rattle.sc_lineage.specs.Dependencies.{parents_of as parents_in};
-ghost use Rattle.sc_compute.specs.Stages.{AreRight, AreSides, HasMade, local_count, made_in, node_at};
+ghost use Rattle.sc_compute.specs.Stages.{AreRight, AreSides, AtDirectParents, HasMade, local_count, made_in, node_at, parents_left};
 
 use crate::making::make;
 use crate::nodes::node_in;
-use crate::parents::parents_of;
 use sc_combine::Dealt;
 use sc_expr::Raise;
 use sc_lineage::{NodeId, Work};
+use sc_part::Bounds;
 use std::alloc::{AllocError, Global};
 use std::collections::HashMap;
 
@@ -37,13 +36,18 @@ pub enum Sides {
 }
 
 /// What was made for the nodes of a work so far: how many partitions each has, and what went into
-/// its shuffles, each of which is computed once, whatever reads it.
+/// its shuffles, each of which is computed once, whatever reads it. What other tasks left of a side
+/// can be handed in, and the bounds of a sort told.
 #[derive(Drop)]
 pub struct Stages {
     /// By node; 0 where nothing was made.
     counts: Vec<u32>,
     /// By node, where something was made.
     sides: HashMap<NodeId, Sides>,
+    /// By node and side, what the tasks of the side left, where that was handed in.
+    pub(crate) handed: HashMap<(NodeId, u8), Vec<Dealt>>,
+    /// By node, its bounds, where they were told.
+    pub(crate) bounds: HashMap<NodeId, Bounds>,
 }
 
 impl Stages {
@@ -54,6 +58,8 @@ impl Stages {
         Ok(Stages {
             counts: vec![in alloc; 0; work.script().nodes().len()]?,
             sides: HashMap::new(alloc),
+            handed: HashMap::new(alloc),
+            bounds: HashMap::new(alloc),
         })
     }
 
@@ -72,19 +78,21 @@ impl Stages {
     }
 
     /// Makes what the partitions of a node need: its number of partitions and its shuffles, and the
-    /// same for all nodes that it reads. What was made before stays.
+    /// same for all nodes that it reads, but for what is behind sides that were handed in. What was
+    /// made before stays.
     pub fn prepare(&mut self, alloc: Global, work: &Work, node: NodeId) -> Result<(), AllocError>
         requires known { node < length work.now.script.nodes }
         requires right { AreRight work.now self.old }
         ensures right { AreRight work.now self.new }
         ensures made { OnOk result (HasMade self.new node) }
         ensures kept { (k : ℕ) → HasMade self.old k → HasMade self.new k }
+        ensures handed { self.new.handed ≡ self.old.handed }
     {
         if self.sides.contains_key(&node) {
             return Ok(());
         }
         work.is_sound();
-        let parents = parents_of(node_in(work, node));
+        let parents = self.parents_left(node, node_in(work, node));
         if let Some(parent) = parents.first {
             self.prepare(alloc, work, parent)?;
         }
@@ -98,10 +106,12 @@ impl Stages {
     fn prepare_behind(&mut self, alloc: Global, work: &Work, node: NodeId) -> Result<(), AllocError>
         requires known { node < length work.now.script.nodes }
         requires right { AreRight work.now self.old }
-        requires parents { All (HasMade self.old) (parents_in (node_at work.now node)) }
+        requires parents { All (HasMade self.old)
+            (parents_left self.old node (node_at work.now node)) }
         ensures right { AreRight work.now self.new }
         ensures made { OnOk result (HasMade self.new node) }
         ensures kept { (k : ℕ) → HasMade self.old k → HasMade self.new k }
+        ensures handed { self.new.handed ≡ self.old.handed }
     {
         let (count, sides) = make(alloc, work, self, node)?;
         self.put(work, node, count, sides)
@@ -111,12 +121,13 @@ impl Stages {
     fn put(&mut self, work: &Work, node: NodeId, count: u32, sides: Sides) -> Result<(), AllocError>
         requires known { node < length work.now.script.nodes }
         requires right { AreRight work.now self.old }
-        requires parents { All (HasMade self.old) (parents_in (node_at work.now node)) }
+        requires parents { AtDirectParents work.now (HasMade self.old) node }
         requires count { count ≡ local_count work.now node }
         requires are { AreSides work.now (node_at work.now node) sides }
         ensures right { AreRight work.now self.new }
         ensures made { OnOk result (HasMade self.new node) }
         ensures kept { (k : ℕ) → HasMade self.old k → HasMade self.new k }
+        ensures handed { self.new.handed ≡ self.old.handed }
     {
         self.sides.insert(node, sides)?;
         self.counts[node as usize] = count;

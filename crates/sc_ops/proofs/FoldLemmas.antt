@@ -1,8 +1,9 @@
 -- Rows put together, in two runs and number by number.
 use Rattle.std.proofs.Common.{◌≡◌, ◌∙◌, ℕ, ℤ, ◌+◌, List, [], ◌∷◌, ◌++◌, Some, Ok, Err, fold, map, drop, refl, ap, sym}
 use Rattle.std.proofs.lemmas.List.{drop_more}
-use Rattle.std.proofs.lemmas.Option.{slice_get_within, get_or_from_slice_get}
+use Rattle.std.proofs.lemmas.Option.{slice_get_within, get_or_from_slice_get, slice_get-map}
 use Rattle.std.specs.List.{slice_get}
+use Rattle.std.specs.Option.{option_map}
 use Rattle.sc_base.specs.Answers.{Answers}
 use Rattle.sc_base.specs.declared.refusals.OrMemory.{OrMemory}
 use Rattle.sc_base.specs.declared.refusals.OrMemory.TheVariants.{Fault, OutOfMemory}
@@ -17,8 +18,11 @@ use Rattle.sc_expr.specs.Heads.{Outcome}
 use Rattle.sc_expr.specs.Meaning.{two_values, value_of_expr}
 use Rattle.sc_expr.specs.declared.exprs.Raise.{Raise}
 use Rattle.sc_lineage.specs.Actions.{fold_from, folded}
-use Rattle.sc_ops.specs.Folds.{FoldsInts, put_together}
-use Rattle.sc_ops.specs.declared.int_folds.IntFold.{IntFold}
+use Rattle.sc_batch.specs.AtInts.{Gives}
+use Rattle.sc_batch.specs.declared.at_ints.Stop.{Stop}
+use Rattle.sc_batch.specs.declared.at_ints.Stop.TheVariants.{Raised, Beyond}
+use Rattle.sc_batch.specs.IntFolds.{FoldsInts, put_together}
+use Rattle.sc_batch.specs.declared.int_folds.IntFold.{IntFold}
 
 -- two runs of rows
 pub folded-append : (e : ExprData) (a : Datum) (xs ys : List Datum)
@@ -79,17 +83,46 @@ datum_of-Int : (n : ℤ) → datum_of (values.Int n) ≡ number n
 datum_of-Int n =
     ap datum_of (sym (values.rolls-Int n)) ∙ fold-roll-Value Datum datum_step (value_layers.Int n)
 
--- numbers put together with a number
-pub folded-held : (e : ExprData) (f : IntFold) (value : Value) (n first last : ℤ)
-    (rows : List Datum) (items : List ℤ)
-    → FoldsInts e f → value ≡ values.Int n → first ≡ n → rows ≡ map number items
-    → last ≡ fold (put_together f) first items
-    → folded e (datum_of value) rows ≡ Ok (number last)
-folded-held e f value n first last rows items folds is same are done =
-    ap (λ v. folded e (datum_of v) rows) is
-    ∙ ap (λ a. folded e a rows) (datum_of-Int n ∙ ap number (sym same))
-    ∙ ap (folded e (number first)) are ∙ folded-ints e f first items folds
-    ∙ ap (λ m. Ok (number m)) (sym done)
+-- numbers put together with a number by a simple expression
+pub folded-simply : (e : ExprData) (f : IntFold) (a first last m : ℤ) (ns : List ℤ)
+    → FoldsInts e f → first ≡ a → last ≡ fold (put_together f) first ns → m ≡ last
+    → folded e (number a) (map number ns) ≡ Ok (number m)
+folded-simply e f a first last m ns folds same done is =
+    folded-ints e f a ns folds
+    ∙ ap (λ z. Ok (number z))
+    (sym (is ∙ done ∙ ap (λ b. fold (put_together f) b ns) same))
+
+-- the same of a value and rows that are numbers
+pub folded-held : (e : ExprData) (value : Value) (n first : ℤ) (rows : List Datum)
+    (items : List ℤ) → value ≡ values.Int n → first ≡ n → rows ≡ map number items
+    → folded e (number first) (map number items) ≡ folded e (datum_of value) rows
+folded-held e value n first rows items is same are =
+    ap (λ a. folded e a (map number items))
+    (ap number same ∙ sym (ap datum_of is ∙ datum_of-Int n))
+    ∙ ap (folded e (datum_of value)) (sym are)
+
+-- one number more, by any expression
+pub ints-more : (e : ExprData) (first : Datum) (a x n after : ℤ) (ns : List ℤ) (i : ℕ)
+    → slice_get ns i ≡ Some x → value_of_expr (two_values (number a) (number x)) e ≡ Ok (number n)
+    → after ≡ n → folded e first (map number ns) ≡ folded e (number a) (drop i (map number ns))
+    → folded e first (map number ns) ≡ folded e (number after) (drop (i + 1) (map number ns))
+ints-more e first a x n after ns i at is same so_far =
+    folded-more e (number a) (number after) first (map number ns) i (number x)
+    (slice_get-map number ns i ∙ ap (option_map number) at)
+    (is ∙ ap (λ m. Ok (number m)) (sym same)) so_far
+
+-- a number at which it stops
+pub ints-stopped : (e : ExprData) (a x first begun : ℤ) (ns : List ℤ) (i : ℕ) (stop : Stop)
+    → slice_get ns i ≡ Some x
+    → Gives {X = ℤ} number (Err stop) (value_of_expr (two_values (number a) (number x)) e)
+    → begun ≡ first
+    → folded e (number begun) (map number ns) ≡ folded e (number a) (drop i (map number ns))
+    → Gives {X = ℤ} number (Err stop) (folded e (number first) (map number ns))
+ints-stopped e a x first begun ns i (Raised r) at is same so_far =
+    ap (λ b. folded e (number b) (map number ns)) (sym same)
+    ∙ folded-raised e (number a) (number begun) (map number ns) i (number x) r
+    (slice_get-map number ns i ∙ ap (option_map number) at) is so_far
+ints-stopped e a x first begun ns i Beyond at is same so_far = tt
 
 run_put : (e : ExprData) (a : Datum) (rows run rest : List Datum) → rows ≡ run ++ rest
     → folded e a rows ≡ fold_from (λ c. folded e c rest) (folded e a run)

@@ -3,10 +3,7 @@ use Rattle.std.specs.Prelude.{ℕ, suc, List, [], ◌∷◌, ◌++◌, length, r
 use Rattle.std.specs.List.{flat_map}
 use Rattle.sc_value.specs.Datum.{Datum}
 use Rattle.sc_columns.specs.Columns.{zip_with}
-use Rattle.sc_expr.specs.ExprData.{ExprData, variable_expr, call_expr, exprs_of}
 use Rattle.sc_expr.specs.Heads.{items_in}
-use Rattle.sc_expr.specs.declared.exprs.Head.{Head}
-use Rattle.sc_expr.specs.declared.exprs.Variable.TheVariants.{X}
 
 -- what rows give with the values beside them, one row behind another
 abbrev pub all_given : (Datum → Datum → List Datum) → List Datum → List Datum → List Datum
@@ -20,7 +17,3 @@ item_count v = length (items_in v)
 abbrev pub numbers_times : ℕ → List ℕ → List ℕ
 numbers_times first [] = []
 numbers_times first (n ∷ ns) = replicate n first ++ numbers_times (suc first) ns
-
--- a head at the row itself
-abbrev pub head_at_row : Head → ExprData
-head_at_row h = call_expr h (exprs_of (variable_expr X ∷ []))

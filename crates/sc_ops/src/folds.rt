@@ -13,6 +13,7 @@ use crate::batches::{BATCH_ROWS, batches};
 use crate::int_folds::fold_as_ints;
 use crate::streams::ended;
 use sc_base::OrMemory;
+use sc_batch::Stop;
 use sc_columns::{Rows, RowsBuilder};
 use sc_expr::{Env, EvalError, Expr, Raise, eval};
 use sc_lineage::Stream;
@@ -80,15 +81,18 @@ fn fold_behind(alloc: Global, expr: &Expr, first: Value, rows: &Rows) -> Result<
     Ok(value)
 }
 
-/// The rows of a batch put together with a value: numbers in one loop, where the expression is
-/// simple, else row by row.
+/// The rows of a batch put together with a value: numbers in one loop, where the expression stays
+/// among numbers, else row by row.
 fn fold_batch(alloc: Global, expr: &Expr, value: Value, batch: &Rows) -> Result<Value, EvalError>
     ensures { Answers datum_of (λ r. r) result
         (folded (expr_data_of expr.now) (datum_of value) batch.now) }
 {
     match fold_as_ints(expr, &value, batch) {
-        Some(n) => Ok(Value::Int(n)),
-        None => fold_each(alloc, expr, value, batch),
+        Ok(n) => Ok(Value::Int(n)),
+        Err(stop) => match stop {
+            Stop::Raised(raise) => Err(OrMemory::Fault(raise)),
+            Stop::Beyond => fold_each(alloc, expr, value, batch),
+        },
     }
 }
 

@@ -1,20 +1,20 @@
 //! Operations on the values of pairs.
 #![tactic(auto)]
 
-ghost use Rattle.std.specs.Prelude.{◌≡◌, IfOk, List, None, map};
+ghost use Rattle.std.specs.Prelude.{◌≡◌, IfOk, List, map};
 ghost use Rattle.sc_value.specs.Datum.{Datum};
 ghost use Rattle.sc_value.specs.Views.{datum_of};
 ghost use Rattle.sc_columns.specs.Parts.{AreLists};
-ghost use Rattle.sc_expr.specs.Heads.{first_of, second_of};
+ghost use Rattle.sc_expr.specs.Heads.{second_of};
 ghost use Rattle.sc_expr.specs.Views.{expr_data_of};
 ghost use Rattle.sc_lineage.specs.Narrow.{at_row, given_of};
-ghost use Rattle.sc_lineage.specs.Streams.{each_gives, each_until_raise};
+ghost use Rattle.sc_lineage.specs.Streams.{each_gives};
 ghost use Rattle.sc_lineage.specs.declared.nodes.Elementwise.TheVariants.{MapValues, FlatMapValues};
-ghost use Rattle.sc_ops.specs.Given.{head_at_row, item_count, numbers_times};
+ghost use Rattle.sc_ops.specs.Given.{item_count, numbers_times};
 
-use sc_batch::eval_rows;
-use sc_columns::{Both, Lists, Rows};
-use sc_expr::{Expr, Head, Raise, Variable};
+use sc_batch::{eval_rows, halves};
+use sc_columns::{Lists, Rows};
+use sc_expr::{Expr, Raise};
 use sc_lineage::Stream;
 use sc_value::Value;
 use std::alloc::{AllocError, Global};
@@ -29,7 +29,7 @@ pub fn map_values(
     ensures { IfOk result (λ s. s ≡ each_gives (given_of MapValues)
         (λ d. at_row (expr_data_of expr.now) (second_of d)) batch.now end) }
 {
-    let both = pair_columns(alloc, batch)?;
+    let both = halves(alloc, batch)?;
     let values = eval_rows(alloc, expr, &both.second, end)?;
     Ok(Stream {
         rows: Rows::pairs(alloc, both.first, values.rows)?,
@@ -48,7 +48,7 @@ pub fn flat_map_values(
     ensures { IfOk result (λ s. s ≡ each_gives (given_of FlatMapValues)
         (λ d. at_row (expr_data_of expr.now) (second_of d)) batch.now end) }
 {
-    let both = pair_columns(alloc, batch)?;
+    let both = halves(alloc, batch)?;
     let lists = eval_rows(alloc, expr, &both.second, end)?;
     let counts = item_counts(alloc, &lists.rows)?;
     let places = row_numbers(alloc, &counts)?;
@@ -58,39 +58,6 @@ pub fn flat_map_values(
         rows: Rows::pairs(alloc, keys, items)?,
         raise: lists.raise,
     })
-}
-
-/// The first and the second parts of pairs; a row that isn't one counts as a pair of false and
-/// false.
-fn pair_columns(alloc: Global, rows: &Rows) -> Result<Both, AllocError>
-    ensures first { IfOk result (λ both. both.first ≡ map first_of rows.now) }
-    ensures second { IfOk result (λ both. both.second ≡ map second_of rows.now) }
-{
-    match rows.as_pairs(alloc)? {
-        Some(both) => Ok(both),
-        None => Ok(Both {
-            first: at_rows(alloc, Head::Fst, rows)?,
-            second: at_rows(alloc, Head::Snd, rows)?,
-        }),
-    }
-}
-
-/// The values of a head at rows, up to the first raise.
-fn at_rows(alloc: Global, head: Head, rows: &Rows) -> Result<Rows, AllocError>
-    ensures { IfOk result
-        (λ r. r ≡ (each_until_raise (at_row (head_at_row head)) rows.now None).rows) }
-{
-    let expr = at_x(alloc, head)?;
-    let values = eval_rows(alloc, &expr, rows, None)?;
-    Ok(values.rows)
-}
-
-/// A head at the row itself.
-fn at_x(alloc: Global, head: Head) -> Result<Expr, AllocError>
-    ensures { IfOk result (λ e. expr_data_of e ≡ head_at_row head) }
-{
-    let args = vec![in alloc; Expr::Variable(Variable::X)]?;
-    Ok(Expr::Call(head, args))
 }
 
 /// How many items each of some lists has; what isn't a list has none.

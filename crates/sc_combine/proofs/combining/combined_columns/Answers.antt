@@ -12,7 +12,7 @@ use Rattle.sc_combine.proofs.CombineLemmas.{combined_by_values}
 use Rattle.sc_combine.proofs.RowLemmas.{mapped}
 use Rattle.sc_combine.proofs.FoldLemmas.{Answers-refused}
 use Rattle.sc_combine.proofs.GroupLemmas.{length-groups}
-use Rattle.sc_combine.proofs.PairLemmas.{firsts}
+use Rattle.sc_batch.proofs.PairLemmas.{firsts}
 use Rattle.sc_combine.proofs.combining.combined_columns.Goals as goal
 
 pub combined_values-requires : goal.combined_values-requires

@@ -6,7 +6,7 @@ use Rattle.std.specs.List.{slice_get}
 use Rattle.std.specs.Option.{option_map}
 use Rattle.sc_value.specs.Datum.{number}
 use Rattle.sc_combine.specs.Combining.{folded_by, step_of}
-use Rattle.sc_combine.specs.IntFolds.{put_together}
+use Rattle.sc_batch.specs.IntFolds.{put_together}
 use Rattle.sc_combine.specs.declared.combining.Taken.TheVariants.{Values}
 use Rattle.sc_combine.proofs.FoldLemmas.{folded_all, folded_more, ints_known, ints_new}
 use Rattle.sc_combine.proofs.int_folds.fold_ints.Goals as goal

@@ -2,7 +2,7 @@ use Rattle.std.proofs.Common.{◌≡◌, [], drop, map}
 use Rattle.sc_expr.specs.ExprData.{ExprData}
 use Rattle.sc_value.specs.Datum.{number}
 use Rattle.sc_combine.specs.Combining.{folded_by, step_of}
-use Rattle.sc_combine.specs.IntFolds.{FoldsInts}
+use Rattle.sc_batch.specs.IntFolds.{FoldsInts}
 use Rattle.sc_combine.specs.declared.combining.Taken.TheVariants.{Values}
 use Rattle.sc_combine.proofs.int_folds.fold_ints.Given as goal
 

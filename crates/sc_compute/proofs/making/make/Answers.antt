@@ -1,76 +1,73 @@
-use Rattle.std.proofs.Common.{◌≡◌, ◌∙◌, [], ◌∷◌, Some, ap, sym, subst, arith}
+use Rattle.std.proofs.Common.{◌≡◌, ◌∙◌, ℕ, ◌<◌, [], ◌∷◌, Some, length, refl, ap, sym, subst, arith}
 use Rattle.std.proofs.lemmas.List.Elements.{All-head, All-tail}
-use Rattle.sc_lineage.specs.NodeData.{shuffle_node, meet_node}
+use Rattle.sc_lineage.specs.NodeData.{group_by_key, shuffle_node, meet_node}
 use Rattle.sc_lineage.specs.ScriptData.{count_step}
 use Rattle.sc_lineage.specs.Views.{node_data_of, shuffling_data_of}
-use Rattle.sc_compute.specs.Stages.{AreSides, local_count}
+use Rattle.sc_compute.specs.Stages.{AreSides, HasMade, local_count}
 use Rattle.sc_compute.specs.declared.stages.Sides.TheVariants as sides
-use Rattle.sc_compute.proofs.NodeLemmas.{IsNode, IsReady, count_fits, count_is, narrow_else, narrow_is, narrow_sides, node_is, parents_ready, some_parts}
+use Rattle.sc_compute.proofs.LeftLemmas.{first_left, second_left}
+use Rattle.sc_compute.proofs.NodeLemmas.{IsNode, count_fits, count_is, left_are, narrow_else, narrow_is, narrow_sides, node_is, parents_known, side_is, some_parts}
 use Rattle.sc_compute.proofs.making.make.Goals as goal
 
-pub make_input-requires : goal.make_input-requires
-make_input-requires c =
-    let work = c.args.work.now in
+pub input_of-requires : goal.input_of-requires
+input_of-requires c =
     let stages = c.args.stages.now in
     let parent = c.in-Shuffle.parent in
     let node = shuffle_node (shuffling_data_of c.in-Shuffle.kind) parent c.in-Shuffle.partitions in
-    let at : IsNode work c.args.node node = record {
+    let at : IsNode c.args.work.now c.args.node node = record {
       sound = c.is_sound.ensures.script;
       known = c.requires.known;
       is = c.node_in.ensures.found ∙ ap (λ n. Some (node_data_of n)) c.in-Shuffle.is;
     } in
-    let ready =
-    All-head (IsReady work stages) parent []
-    (parents_ready at stages c.requires.parents) in
     record {
-      known = ready.0;
+      known = All-head (λ q. q < length c.args.work.now.script.nodes) parent [] (parents_known at);
       right = c.requires.right;
-      parent_made = ready.1;
+      side = side_is at 0 (shuffling_data_of c.in-Shuffle.kind) parent c.in-Shuffle.partitions
+          (refl, refl, refl);
+      parent_made = first_left (HasMade stages) stages c.args.node node
+          (left_are at stages c.requires.parents) parent refl;
       some_partitions = some_parts at;
     }
 
-pub make_input-requires-in-Meet : goal.make_input-requires-in-Meet
-make_input-requires-in-Meet c =
-    let work = c.args.work.now in
+pub input_of-requires-in-Meet : goal.input_of-requires-in-Meet
+input_of-requires-in-Meet c =
     let stages = c.args.stages.now in
     let left = c.in-Meet.left in
     let right = c.in-Meet.right in
     let node = meet_node c.in-Meet.kind left right c.in-Meet.partitions in
-    let at : IsNode work c.args.node node = record {
+    let at : IsNode c.args.work.now c.args.node node = record {
       sound = c.is_sound.ensures.script;
       known = c.requires.known;
       is = c.node_in.ensures.found ∙ ap (λ n. Some (node_data_of n)) c.in-Meet.is;
     } in
-    let ready =
-    All-head (IsReady work stages) left (right ∷ [])
-    (parents_ready at stages c.requires.parents) in
     record {
-      known = ready.0;
+      known = All-head (λ q. q < length c.args.work.now.script.nodes) left (right ∷ [])
+          (parents_known at);
       right = c.requires.right;
-      parent_made = ready.1;
+      side = side_is at 0 group_by_key left c.in-Meet.partitions (refl, refl, refl);
+      parent_made = first_left (HasMade stages) stages c.args.node node
+          (left_are at stages c.requires.parents) left refl;
       some_partitions = some_parts at;
     }
 
-pub make_input-requires-in-Meet-2 : goal.make_input-requires-in-Meet-2
-make_input-requires-in-Meet-2 c =
-    let work = c.args.work.now in
+pub input_of-requires-in-Meet-2 : goal.input_of-requires-in-Meet-2
+input_of-requires-in-Meet-2 c =
     let stages = c.args.stages.now in
     let left = c.in-Meet.left in
     let right = c.in-Meet.right in
     let node = meet_node c.in-Meet.kind left right c.in-Meet.partitions in
-    let at : IsNode work c.args.node node = record {
+    let at : IsNode c.args.work.now c.args.node node = record {
       sound = c.is_sound.ensures.script;
       known = c.requires.known;
       is = c.node_in.ensures.found ∙ ap (λ n. Some (node_data_of n)) c.in-Meet.is;
     } in
-    let ready =
-    All-head (IsReady work stages) right []
-    (All-tail (IsReady work stages) left (right ∷ [])
-    (parents_ready at stages c.requires.parents)) in
+    let known : ℕ → Type 0 = λ q. q < length c.args.work.now.script.nodes in
     record {
-      known = ready.0;
+      known = All-head known right [] (All-tail known left (right ∷ []) (parents_known at));
       right = c.requires.right;
-      parent_made = ready.1;
+      side = side_is at 1 group_by_key right c.in-Meet.partitions (refl, refl, refl);
+      parent_made = second_left (HasMade stages) stages c.args.node node
+          (left_are at stages c.requires.parents) right refl;
       some_partitions = some_parts at;
     }
 

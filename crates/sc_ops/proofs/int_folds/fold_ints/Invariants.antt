@@ -1,5 +1,5 @@
 use Rattle.std.proofs.Common.{◌≡◌, fold, take}
-use Rattle.sc_ops.specs.Folds.{put_together}
+use Rattle.sc_batch.specs.IntFolds.{put_together}
 use Rattle.sc_ops.proofs.int_folds.fold_ints.Given as goal
 
 abbrev pub invariant-loop-item : goal.invariant-loop-item

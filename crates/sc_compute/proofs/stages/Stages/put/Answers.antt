@@ -14,6 +14,8 @@ returns-in_err-insert-clause-right c =
           (get nat_eq c.insert.new.self) c.args.self.now.counts.items
           (λ k. ap (lookup (nat_eq k)) c.in_err-insert.ensures.err)
           c.requires.right.each;
+      handed = c.requires.right.handed;
+      told = c.requires.right.told;
     }
 
 pub returns-clause-right : goal.returns-clause-right
@@ -26,4 +28,6 @@ returns-clause-right c =
           c.in_ok-insert.ensures.updates.0 c.args.self.now.counts.items c.args.count
           c.requires.known c.requires.right.counts c.requires.count c.requires.parents
           c.requires.are c.requires.right.each;
+      handed = c.requires.right.handed;
+      told = c.requires.right.told;
     }

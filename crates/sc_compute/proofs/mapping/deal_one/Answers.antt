@@ -4,7 +4,7 @@ use Rattle.sc_combine.specs.Deals.{IsDealt}
 use Rattle.sc_lineage.specs.Shuffles.{Dealing}
 use Rattle.sc_lineage.specs.Views.{partitioner_data_of, shuffling_data_of}
 use Rattle.sc_compute.proofs.SideLemmas.{deals_by_hash, deals_by_range}
-use Rattle.sc_compute.proofs.making.deal_one.Goals as goal
+use Rattle.sc_compute.proofs.mapping.deal_one.Goals as goal
 
 pub returns-in-Hash : goal.returns-in-Hash
 returns-in-Hash c =

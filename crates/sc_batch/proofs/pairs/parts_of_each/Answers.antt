@@ -1,7 +1,7 @@
 use Rattle.sc_value.specs.Views.{datum_of}
 use Rattle.sc_expr.specs.Heads.{first_of, second_of}
-use Rattle.sc_combine.proofs.PairLemmas.{read_more}
-use Rattle.sc_combine.proofs.columns.parts_of_each.Goals as goal
+use Rattle.sc_batch.proofs.PairLemmas.{read_more}
+use Rattle.sc_batch.proofs.pairs.parts_of_each.Goals as goal
 
 pub loop-i-preserved : goal.loop-i-preserved
 loop-i-preserved c = (

@@ -2,8 +2,8 @@ use Rattle.std.proofs.Common.{◌∙◌, ap, map, subst}
 use Rattle.std.specs.Option.{IfSome}
 use Rattle.sc_columns.specs.Parts.{ArePairs}
 use Rattle.sc_expr.specs.Heads.{first_of, second_of}
-use Rattle.sc_combine.proofs.PairLemmas.{first_column, second_column}
-use Rattle.sc_combine.proofs.columns.halves.Goals as goal
+use Rattle.sc_batch.proofs.PairLemmas.{first_column, second_column}
+use Rattle.sc_batch.proofs.pairs.halves.Goals as goal
 
 pub returns-in-Some-clause-first : goal.returns-in-Some-clause-first
 returns-in-Some-clause-first c =

@@ -1,0 +1,116 @@
+//! What is handed in to the nodes of a work: what the tasks of a shuffle left, and bounds.
+#![tactic(auto)]
+
+ghost use Rattle.std.specs.Prelude.{◌≡◌, ◌<◌, IfOk, OnOk, ℕ, length, option_map};
+ghost use Rattle.sc_lineage.specs.Views.{node_data_of, shuffling_data_of};
+ghost use Rattle.sc_lineage.specs.NodeData.{shuffle_node};
+ghost use Rattle.sc_compute.specs.Stages.{AreOutputs, AreRight, HasBounds, HasMade, HasOutputs, bounds_at, bounds_told, handed_in, left_parent, node_at, unless_handed};
+
+use crate::parents::{Parents, parents_of};
+use crate::stages::Stages;
+use sc_combine::Dealt;
+use sc_lineage::{Node, NodeId, Shuffling, Work};
+use sc_part::Bounds;
+use std::alloc::{AllocError, Global};
+
+/// A side of a node's shuffle.
+#[derive(Clone, Copy)]
+pub struct SideId {
+    /// The node.
+    pub node: NodeId,
+    /// 0 for the only or left parent, 1 for the right.
+    pub side: u8,
+}
+
+impl Stages {
+    /// Takes in what the tasks of a side left, one of each map partition in order. What is behind
+    /// the side is then neither made nor computed.
+    pub fn hand_in(
+        &mut self,
+        work: &Work,
+        node: NodeId,
+        side: u8,
+        outputs: Vec<Dealt>,
+    ) -> Result<(), AllocError>
+        requires right { AreRight work.now self.old }
+        requires outputs { AreOutputs work.now node side outputs.items }
+        ensures right { AreRight work.now self.new }
+        ensures handed { OnOk result (HasOutputs self.new node side) }
+        ensures kept { (k : ℕ) → HasMade self.old k → HasMade self.new k }
+    {
+        self.handed.insert((node, side), outputs)?;
+        Ok(())
+    }
+
+    /// Takes in the bounds of a node, by which the tasks of its side deal their rows out.
+    pub fn tell_bounds(
+        &mut self,
+        work: &Work,
+        node: NodeId,
+        bounds: Bounds,
+    ) -> Result<(), AllocError>
+        requires right { AreRight work.now self.old }
+        requires bounds { bounds ≡ bounds_at work.now node }
+        ensures right { AreRight work.now self.new }
+        ensures told { OnOk result (HasBounds self.new node (node_at work.now node)) }
+        ensures kept { (k : ℕ) → HasMade self.old k → HasMade self.new k }
+    {
+        self.bounds.insert(node, bounds)?;
+        Ok(())
+    }
+
+    /// What was handed in for a side.
+    pub(crate) fn handed(&self, at: SideId) -> Option<&Vec<Dealt>>
+        ensures { option_map (λ o. o.now) result ≡ handed_in self.now at.node at.side }
+    {
+        self.handed.get(&(at.node, at.side))
+    }
+
+    /// The bounds by which a shuffle of one parent deals its rows out: a sort alone has some.
+    pub(crate) fn bounds_of(
+        &self,
+        alloc: Global,
+        work: &Work,
+        node: NodeId,
+        kind: &Shuffling,
+    ) -> Result<Bounds, AllocError>
+        requires right { AreRight work.now self.now }
+        requires told { (parent n : ℕ)
+            → HasBounds self.now node (shuffle_node (shuffling_data_of kind.now) parent n) }
+        ensures { IfOk result (λ b. (parent n : ℕ)
+            → node_at work.now node ≡ shuffle_node (shuffling_data_of kind.now) parent n
+            → b ≡ bounds_at work.now node) }
+    {
+        match kind {
+            Shuffling::SortByKey => match self.bounds.get(&node) {
+                Some(bounds) => bounds.share(),
+                None => unreachable!(),
+            },
+            Shuffling::ReduceByKey { .. } | Shuffling::GroupByKey | Shuffling::Repartition => {
+                Bounds::none(alloc)
+            }
+        }
+    }
+
+    /// The parents of a node that are to be made before it: what was handed in needs none.
+    pub(crate) fn parents_left(&self, id: NodeId, node: &Node) -> Parents
+        ensures first { result.first ≡ left_parent self.now id (node_data_of node.now) 0 }
+        ensures second { result.second ≡ left_parent self.now id (node_data_of node.now) 1 }
+    {
+        let parents = parents_of(node);
+        Parents {
+            first: self.unless_handed(SideId { node: id, side: 0 }, parents.first),
+            second: self.unless_handed(SideId { node: id, side: 1 }, parents.second),
+        }
+    }
+
+    /// The parent of a side, unless something was handed in for the side.
+    fn unless_handed(&self, at: SideId, parent: Option<NodeId>) -> Option<NodeId>
+        ensures { result ≡ unless_handed (handed_in self.now at.node at.side) parent }
+    {
+        match self.handed(at) {
+            Some(_) => None,
+            None => parent,
+        }
+    }
+}

@@ -1,0 +1,149 @@
+//! What goes into a shuffle from one map partition.
+#![tactic(auto)]
+
+ghost use Rattle.std.specs.Prelude.{◌≡◌, ◌<◌, IfOk, length};
+ghost use Rattle.sc_base.specs.Answers.{Answers};
+ghost use Rattle.sc_combine.specs.Deals.{IsDealt};
+ghost use Rattle.sc_lineage.specs.Meaning.{local_stream};
+ghost use Rattle.sc_lineage.specs.Shuffles.{dealing_of, map_side as map_side_of, stream_of_side};
+ghost use Rattle.sc_lineage.specs.Targets.{map_target, own_value};
+ghost use Rattle.sc_lineage.specs.Views.{partitioner_data_of, shuffling_data_of};
+ghost use Rattle.sc_compute.specs.Stages.{AreRight, HasBounds, HasMade, dealing_of_node, local_count, mapped_in, node_at};
+ghost use Rattle.sc_compute.specs.Tasks.{IsSideOf, LeavesSide};
+
+use crate::handing::SideId;
+use crate::nodes::node_in;
+use crate::partitions::partition_stream;
+use crate::stages::Stages;
+use crate::targets::Computed;
+use sc_base::OrMemory;
+use sc_columns::Rows;
+use sc_combine::{Dealt, map_side};
+use sc_expr::Raise;
+use sc_lineage::{Node, NodeId, Partitioner, Place, Shuffling, Work};
+use sc_part::Bounds;
+use std::alloc::{AllocError, Global};
+
+/// What the task of map partition `map` of a side leaves, where all was made for the side's parent.
+pub fn map_output(
+    alloc: Global,
+    work: &Work,
+    stages: &Stages,
+    at: SideId,
+    map: u32,
+) -> Result<Computed, AllocError>
+    requires known { at.node < length work.now.script.nodes }
+    requires side { IsSideOf (node_at work.now at.node) at.side }
+    requires map { map < local_count work.now (mapped_in (node_at work.now at.node) at.side) }
+    requires right { AreRight work.now stages.now }
+    requires made { HasMade stages.now (mapped_in (node_at work.now at.node) at.side) }
+    requires told { HasBounds stages.now at.node (node_at work.now at.node) }
+    ensures { IfOk result (LeavesSide (dealing_of_node work.now (node_at work.now at.node)) map
+        (own_value work.now (map_target at.node at.side map))) }
+{
+    work.is_sound();
+    match node_in(work, at.node) {
+        Node::Shuffle {
+            kind,
+            parent,
+            partitions,
+        } => {
+            let bounds = stages.bounds_of(alloc, work, at.node, kind)?;
+            let from = Place {
+                node: *parent,
+                partition: map,
+            };
+            output_of(alloc, work, stages, kind, *partitions, &bounds, from)
+        }
+        Node::Meet {
+            left,
+            right,
+            partitions,
+            ..
+        } => {
+            let passed = Shuffling::GroupByKey;
+            let bounds = Bounds::none(alloc)?;
+            let from = Place {
+                node: if at.side == 0 { *left } else { *right },
+                partition: map,
+            };
+            output_of(alloc, work, stages, &passed, *partitions, &bounds, from)
+        }
+        _ => unreachable!(),
+    }
+}
+
+/// What goes into a shuffle from one map partition, by bucket, or its raise.
+fn output_of(
+    alloc: Global,
+    work: &Work,
+    stages: &Stages,
+    kind: &Shuffling,
+    n: u32,
+    bounds: &Bounds,
+    from: Place,
+) -> Result<Computed, AllocError>
+    requires node { from.node < length work.now.script.nodes }
+    requires partition { from.partition < local_count work.now from.node }
+    requires right { AreRight work.now stages.now }
+    requires made { HasMade stages.now from.node }
+    requires some_partitions { 0 < n }
+    ensures { IfOk result (LeavesSide (dealing_of (shuffling_data_of kind.now) n bounds.now)
+        from.partition (stream_of_side (map_side_of (shuffling_data_of kind.now)
+        (local_stream work.now from.node from.partition)))) }
+{
+    match mapped_rows(alloc, work, stages, kind, from) {
+        Ok(rows) => {
+            let dealt = deal_one(alloc, kind, n, bounds, &rows, from.partition as usize)?;
+            Ok(Computed::Output(dealt))
+        }
+        Err(OrMemory::Fault(raise)) => Ok(Computed::Raised(raise)),
+        Err(OrMemory::OutOfMemory) => Err(AllocError),
+    }
+}
+
+/// What goes into a shuffle from one map partition.
+///
+/// # Errors
+///
+/// The first raise, unless memory runs out.
+pub fn mapped_rows(
+    alloc: Global,
+    work: &Work,
+    stages: &Stages,
+    kind: &Shuffling,
+    from: Place,
+) -> Result<Rows, OrMemory<Raise>>
+    requires node { from.node < length work.now.script.nodes }
+    requires partition { from.partition < local_count work.now from.node }
+    requires right { AreRight work.now stages.now }
+    requires made { HasMade stages.now from.node }
+    ensures { Answers (λ rows. rows) (λ r. r) result (map_side_of (shuffling_data_of kind.now)
+        (local_stream work.now from.node from.partition)) }
+{
+    let stream = partition_stream(alloc, work, stages, from)?;
+    map_side(alloc, kind, &stream)
+}
+
+/// The rows that go into a shuffle from one map partition, by bucket.
+pub fn deal_one(
+    alloc: Global,
+    kind: &Shuffling,
+    n: u32,
+    bounds: &Bounds,
+    rows: &Rows,
+    m: usize,
+) -> Result<Dealt, AllocError>
+    requires some_partitions { 0 < n }
+    ensures { IfOk result
+        (IsDealt (dealing_of (shuffling_data_of kind.now) n bounds.now) m rows.now) }
+{
+    match kind.partitioner(n) {
+        Partitioner::Hash(_) => Dealt::by_hash(alloc, rows, n),
+        Partitioner::Range => Dealt::by_range(alloc, rows, bounds),
+        Partitioner::Unknown => match u32::try_from(m) {
+            Ok(m) => Dealt::in_turn(alloc, rows, n, m),
+            Err(_) => Err(AllocError),
+        },
+    }
+}
