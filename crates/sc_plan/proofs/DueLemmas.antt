@@ -1,15 +1,16 @@
 -- What is due at executors, as it lies in tables.
-use Rattle.std.proofs.Common.{◌≡◌, ◌∙◌, ℕ, zero, suc, ◌<◌, ◌≤◌, ◌^◌, ◌+◌, ◌-◌, Bool, true, false, ◌&&◌, cond, List, [], ◌∷◌, length, map, filter, Option, Some, None, get_or, refl, ap, sym, arith, if◌then◌else◌}
+use Rattle.std.proofs.Common.{◌≡◌, ◌∙◌, ℕ, zero, suc, ◌<◌, ◌≤◌, ◌^◌, ◌+◌, ◌-◌, Bool, true, false, ◌&&◌, cond, List, [], ◌∷◌, length, map, filter, Some, None, get_or, refl, ap, sym, subst, arith, if◌then◌else◌}
 use Rattle.std.proofs.lemmas.Bool.Decides.{nat_tests}
 use Rattle.std.proofs.lemmas.List.{length-map}
 use Rattle.std.specs.List.{AllByRecursion, cons_option}
 use Rattle.std.specs.Prelude.{filter_map, min, nat_le, nat_lt, option_map, slice_get, ◌==◌}
 use Rattle.sc_part.proofs.PlaceLemmas.{sorted-map}
 use Rattle.sc_part.specs.Sorts.{sorted}
-use Rattle.sc_plan.proofs.TableLemmas.{filter-sorted, length-sorted, lower}
-use Rattle.sc_plan.specs.Limits.{lines_limit, number_limit}
+use Rattle.sc_plan.proofs.FilterLemmas.{filter-sorted, length-sorted}
+use Rattle.sc_plan.proofs.TableLemmas.{lower}
+use Rattle.sc_plan.specs.Limits.{number_limit}
 use Rattle.sc_plan.specs.Lookups.{due_key, entry, entry_in, is_between, is_lower, kind_code, kind_coded, table_of}
-use Rattle.sc_plan.specs.Orders.{Due, due_count, due_there, evict_in, evicts_of, in_order, is_sooner, nth_order, order_of, wipe_in, wipes_of}
+use Rattle.sc_plan.specs.Orders.{Due, due_count, due_there, evicts_of, in_order, is_sooner, nth_order, order_of, wipes_of}
 use Rattle.sc_plan.specs.PlanLines.{HasSmallNumbers}
 use Rattle.sc_plan.specs.declared.lines.PlanLine.{PlanLine}
 use Rattle.sc_plan.specs.declared.lines.PlanLine.TheVariants as lines
@@ -206,13 +207,16 @@ module _ (exec : ℕ) where
       ap (λ k. Some (record { exec = exec; number = number; kind = k })) (sym kind)
   order_at number (d ∷ ds) (suc i) x is = order_at number ds i x is
 
-  pub order_is : (number : ℕ) (es : List Entry) (ds : List Due) (x : Entry)
+  pub order_is : (number : ℕ) (es : List Entry) (ds : List Due) (x : Entry) → 1 ≤ number
       → es ≡ map due_entry (in_order ds) → slice_get es (number - 1) ≡ Some x
       → nth_order exec number ds
       ≡ Some (record { exec = exec; number = number; kind = kind_coded x.value })
-  order_is number es ds x is at =
-      order_at number (in_order ds) (number - 1) x
-      (sym (ap (λ (ys : List Entry). slice_get ys (number - 1)) is) ∙ at)
+  order_is zero es ds x from_one is at = absurd (omega (arith, from_one))
+  order_is (suc i) es ds x from_one is at =
+      let place : suc i - 1 ≡ i = omega arith in
+      order_at (suc i) (in_order ds) i x
+      (sym (ap (λ (ys : List Entry). slice_get ys i) is)
+      ∙ subst (λ n. slice_get es n ≡ Some x) place at)
 
 -- what is read at a place
 pub read_at : (es : List Entry) (i : ℕ) (d : Entry) → i < length es
@@ -220,35 +224,3 @@ pub read_at : (es : List Entry) (i : ℕ) (d : Entry) → i < length es
 read_at [] i d within = absurd (omega arith)
 read_at (e ∷ es) zero d within = refl
 read_at (e ∷ es) (suc i) d within = read_at es i d (omega arith)
-
--- no more than there are lines
-length-cons_option : {Y : Type 0} (o : Option Y) (ys : List Y) (n : ℕ) → length ys ≤ n
-    → length (cons_option o ys) ≤ suc n
-length-cons_option None ys n few = omega (arith, few)
-length-cons_option (Some y) ys n few = omega (arith, few)
-
-length-filter_map : {X Y : Type 0} (f : X → Option Y) (xs : List X)
-    → length (filter_map f xs) ≤ length xs
-length-filter_map f [] = omega arith
-length-filter_map f (x ∷ xs) =
-    length-cons_option (f x) (filter_map f xs) (length xs) (length-filter_map f xs)
-
-length-filter : {X : Type 0} (p : X → Bool) (xs : List X) → length (filter p xs) ≤ length xs
-length-filter p [] = omega arith
-length-filter p (x ∷ xs) = go (p x) (length-filter p xs) where
-  go : (b : Bool) → length (filter p xs) ≤ length xs
-      → length (cond b (x ∷ filter p xs) (filter p xs)) ≤ suc (length xs)
-  go true few = omega (arith, few)
-  go false few = omega (arith, few)
-
-pub few_wipes : (ls : List PlanLine) (exec : ℕ) → length ls ≤ lines_limit
-    → length (wipes_of ls exec) ≤ lines_limit
-few_wipes ls exec few = omega (arith, few, length-filter_map (wipe_in exec) ls)
-
-pub few_evicts : (ls : List PlanLine) (exec : ℕ) → length ls ≤ lines_limit
-    → length (evicts_of ls exec) ≤ lines_limit
-few_evicts ls exec few = omega (arith, few, length-filter_map (evict_in exec) ls)
-
-pub few_due : (ds : List Due) (told : ℕ) → length ds ≤ lines_limit
-    → due_count ds told ≤ lines_limit
-few_due ds told few = omega (arith, few, length-filter (λ d. nat_le d.0 told) ds)

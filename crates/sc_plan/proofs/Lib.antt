@@ -1,5 +1,8 @@
+pub mod CountLemmas
 pub mod DueLemmas
+pub mod FilterLemmas
 pub mod LineLemmas
+pub mod MemberLemmas
 pub mod NumberLemmas
 pub mod NumberingLemmas
 pub mod OneReading

@@ -6,7 +6,7 @@ use Rattle.std.specs.List.{AllByRecursion}
 use Rattle.std.specs.Prelude.{nat_le, slice_get, ◌↔◌}
 use Rattle.sc_part.proofs.OrderLemmas.{Asc, asc-sorted, sorted_from_asc}
 use Rattle.sc_part.proofs.SortLemmas.{permutation-sorted, stable-sorted}
-use Rattle.sc_plan.proofs.TableLemmas.{filter-sorted, length-sorted}
+use Rattle.sc_plan.proofs.FilterLemmas.{filter-sorted, length-sorted}
 use Rattle.sc_plan.specs.Laws.{OrdersAreNumbered}
 use Rattle.sc_plan.specs.Orders.{Due, due_count, in_order, is_sooner}
 

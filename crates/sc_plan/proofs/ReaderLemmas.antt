@@ -1,9 +1,10 @@
 -- What readers say is what stands in the lines.
-use Rattle.std.proofs.Common.{◌≡◌, ◌∙◌, ◌⊎◌, inl, inr, ℕ, zero, suc, Bool, true, false, ◌||◌, List, [], ◌∷◌, ◌++◌, Option, Some, None, refl, ap, sym, subst, arith, if◌then◌else◌}
+use Rattle.std.proofs.Common.{◌≡◌, ◌∙◌, inl, inr, ℕ, Bool, true, false, List, [], ◌∷◌, ◌++◌, Option, Some, None, refl, ap, sym, subst, arith, if◌then◌else◌}
 use Rattle.std.proofs.lemmas.Bool.{both_ways}
 use Rattle.std.proofs.lemmas.Bool.Decides.{nat_tests}
 use Rattle.std.specs.List.{list_any}
 use Rattle.std.specs.Prelude.{Contains, filter_map, slice_get, ◌==◌}
+use Rattle.sc_plan.proofs.MemberLemmas.{any_of, contains_cases, contains_first, contains_front, contains_last, contains_more, contains_none, of_any}
 use Rattle.sc_plan.specs.Attempts.{delay_at, delay_of, doubles_at, fails_at}
 use Rattle.sc_plan.specs.Laws.{ReadersAreExact}
 use Rattle.sc_plan.specs.Orders.{loss_in, loss_of}
@@ -11,61 +12,6 @@ use Rattle.sc_plan.specs.PlanLines.{AreOnceBehind, is_same_place, repeats}
 use Rattle.sc_plan.specs.declared.lines.Place.{Place}
 use Rattle.sc_plan.specs.declared.lines.PlanLine.{PlanLine}
 use Rattle.sc_plan.specs.declared.lines.PlanLine.TheVariants as lines
-
--- membership
-contains_cases : {X : Type 0} (x y : X) (xs : List X) → Contains (x ∷ xs) y
-    → (x ≡ y) ⊎ Contains xs y
-contains_cases x y xs (zero, within, is) = inl is
-contains_cases x y xs (suc k, within, is) = inr (k, omega arith, is)
-
-contains_first : {X : Type 0} (x : X) (xs : List X) → Contains (x ∷ xs) x
-contains_first x xs = (zero, omega arith, refl)
-
-contains_more : {X : Type 0} (x y : X) (xs : List X) → Contains xs y → Contains (x ∷ xs) y
-contains_more x y xs (k, within, is) = (suc k, omega arith, is)
-
-contains_none : {X : Type 0} (y : X) → Contains [] y → ⊥
-contains_none y (k, within, is) = omega arith
-
-contains_front : {X : Type 0} (xs : List X) (y z : X) → Contains xs y → Contains (xs ++ z ∷ []) y
-contains_front [] y z has = absurd (contains_none y has)
-contains_front (x ∷ xs) y z has = elim (contains_cases x y xs has) [
-  | inl is ↦ subst (λ w. Contains (x ∷ (xs ++ z ∷ [])) w) is (contains_first x (xs ++ z ∷ []))
-  | inr later ↦ contains_more x y (xs ++ z ∷ []) (contains_front xs y z later)
-]
-
-contains_last : {X : Type 0} (xs : List X) (z : X) → Contains (xs ++ z ∷ []) z
-contains_last [] z = contains_first z []
-contains_last (x ∷ xs) z = contains_more x z (xs ++ z ∷ []) (contains_last xs z)
-
--- an item that passes a test, and a test that some item passes
-any_or : (b c : Bool) → (b || c) ≡ true → (b ≡ true) ⊎ (c ≡ true)
-any_or true c is = inl refl
-any_or false c is = inr is
-
-or_first : (b c : Bool) → b ≡ true → (b || c) ≡ true
-or_first true c is = refl
-or_first false c is = absurd cc
-
-or_second : (b c : Bool) → c ≡ true → (b || c) ≡ true
-or_second true c is = refl
-or_second false c is = is
-
-any_of : {X : Type 0} (p : X → Bool) (xs : List X) (y : X) → Contains xs y → p y ≡ true
-    → list_any p xs ≡ true
-any_of p [] y has is = absurd (contains_none y has)
-any_of p (x ∷ xs) y has is = elim (contains_cases x y xs has) [
-  | inl same ↦ or_first (p x) (list_any p xs) (subst (λ w. p w ≡ true) (sym same) is)
-  | inr later ↦ or_second (p x) (list_any p xs) (any_of p xs y later is)
-]
-
-of_any : {X : Type 0} (p : X → Bool) (y : X) → ((x : X) → p x ≡ true → x ≡ y) → (xs : List X)
-    → list_any p xs ≡ true → Contains xs y
-of_any p y means [] is = absurd cc
-of_any p y means (x ∷ xs) is = elim (any_or (p x) (list_any p xs) is) [
-  | inl here ↦ subst (λ w. Contains (x ∷ xs) w) (means x here) (contains_first x xs)
-  | inr later ↦ contains_more x y xs (of_any p y means xs later)
-]
 
 -- places
 same_is : (p q : Place) → is_same_place p q ≡ true → p ≡ q

@@ -46,7 +46,8 @@ entry_in sought.Fail (lines.Fail p) = Some (entry (place_key p) 0)
 entry_in sought.Late (lines.Late p count) = Some (entry (place_key p) count)
 entry_in sought.Twice (lines.Twice p) = Some (entry (place_key p) 0)
 entry_in sought.Wipe (lines.Drop e after) = Some (entry (due_key e after) (kind_code kinds.Drop))
-entry_in sought.Wipe (lines.Lose e after told) = Some (entry (due_key e after) (kind_code kinds.Lose))
+entry_in sought.Wipe (lines.Lose e after told) =
+    Some (entry (due_key e after) (kind_code kinds.Lose))
 entry_in sought.Evict (lines.Evict e after) = Some (entry (due_key e after) (kind_code kinds.Evict))
 entry_in sought.Loss (lines.Lose e after told) = Some (entry e told)
 entry_in what line = None

@@ -1,5 +1,5 @@
 -- The wipes, evictions and losses of a plan.
-use Rattle.std.specs.Prelude.{ℕ, ◌-◌, Bool, ◌==◌, nat_le, nat_lt, List, filter, filter_map, length, Option, Some, None, option_map, slice_get, if◌then◌else◌}
+use Rattle.std.specs.Prelude.{ℕ, zero, suc, ◌+◌, ◌*◌, Bool, true, false, ◌==◌, nat_le, nat_lt, List, filter, filter_map, length, Option, Some, None, option_map, slice_get, if◌then◌else◌}
 use Rattle.sc_part.specs.Sorts.{sorted}
 use Rattle.sc_plan.specs.declared.lines.PlanLine.{PlanLine}
 use Rattle.sc_plan.specs.declared.lines.PlanLine.TheVariants as lines
@@ -50,8 +50,9 @@ abbrev pub order_of : ℕ → ℕ → Due → Order
 order_of exec number due = record { exec = exec; number = number; kind = due.1 }
 
 abbrev pub nth_order : ℕ → ℕ → List Due → Option Order
-nth_order exec number dues =
-    option_map (order_of exec number) (slice_get (in_order dues) (number - 1))
+nth_order exec zero dues = None
+nth_order exec (suc i) dues =
+    option_map (order_of exec (suc i)) (slice_get (in_order dues) i)
 
 -- how many reports are told before an executor is told lost, by a line
 abbrev pub loss_in : ℕ → PlanLine → Option ℕ
@@ -61,3 +62,16 @@ loss_in exec line = None
 -- how many, by a plan: it has at most one line that says so
 abbrev pub loss_of : List PlanLine → ℕ → Option ℕ
 loss_of plan exec = slice_get (filter_map (loss_in exec) plan) 0
+
+-- whether a line wipes an executor and no more, and whether it loses one
+abbrev pub is_drop : PlanLine → Bool
+is_drop (lines.Drop e after) = true
+is_drop line = false
+
+abbrev pub is_lose : PlanLine → Bool
+is_lose (lines.Lose e after told) = true
+is_lose line = false
+
+-- how often a plan lets outputs of executors be forgotten: at each wipe, and at each loss
+abbrev pub planned_losses : List PlanLine → ℕ
+planned_losses plan = length (filter is_drop plan) + 2 * length (filter is_lose plan)

@@ -102,6 +102,14 @@ impl Table {
         }
     }
 
+    /// How many entries there are.
+    pub(crate) fn len(&self) -> usize
+        ensures count { result ≡ length self.now }
+        ensures small { result < 2 ^ 63 }
+    {
+        self.entries.len()
+    }
+
     /// The entries of some lines.
     pub(crate) fn of_lines(
         alloc: Global,

@@ -32,9 +32,9 @@ pub struct Order {
 }
 
 impl Plan {
-    ghost use Rattle.std.specs.Prelude.{◌≡◌, ◌≤◌, Some, length};
+    ghost use Rattle.std.specs.Prelude.{◌≡◌, ◌≤◌, ◌*◌, Some, length};
     ghost use Rattle.sc_plan.specs.Limits.{lines_limit};
-    ghost use Rattle.sc_plan.specs.Orders.{due_count, evicts_of, loss_of, nth_order, wipes_of};
+    ghost use Rattle.sc_plan.specs.Orders.{due_count, evicts_of, loss_of, nth_order, planned_losses, wipes_of};
 
     /// How many wipes of an executor there are.
     pub fn wipes(&self, exec: ExecId) -> u64
@@ -106,7 +106,16 @@ impl Plan {
         }
     }
 
-    /// The same, in 32 bits.
+    /// How often outputs of executors are forgotten at most: once for each wipe, and once more for
+    /// each executor that is told lost.
+    pub fn planned_losses(&self) -> u64
+        ensures count { result ≡ planned_losses self.now }
+        ensures few { result ≤ 2 * lines_limit }
+    {
+        self.wipes.len() as u64 + self.losses.len() as u64
+    }
+
+    /// How many reports are told before an executor is told lost, in 32 bits.
     fn told_lost(&self, exec: ExecId) -> Option<u32>
         ensures { result ≡ loss_of self.now exec }
     {

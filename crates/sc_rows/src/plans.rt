@@ -158,6 +158,21 @@ fn an_order_is_due_once_its_reports_were_told(rt: HostRuntime) {
 }
 
 #[test]
+fn a_lost_executor_counts_twice(rt: HostRuntime) {
+    let rows = [
+        ("fail 0 0 0\nfail 0 0 1\nfail 0 0 2", 0),
+        ("drop 0 1", 1),
+        ("drop 0 1\nlose 1 2 3", 3),
+        ("lose 0 0 0\nlose 1 0 0", 4),
+        ("drop 0 1\ndrop 0 3\ndrop 1 2\nevict 0 1", 3),
+    ];
+    for (text, want) in rows {
+        let plan = plan_of(&rt, text);
+        assert_eq!(rt; plan.planned_losses(), want, "{text:?}");
+    }
+}
+
+#[test]
 fn only_a_lose_line_loses_an_executor(rt: HostRuntime) {
     let plan = plan_of(&rt, "drop 0 1\nlose 1 2 3\nevict 0 0");
     assert_eq!(rt; plan.loss(0), None);

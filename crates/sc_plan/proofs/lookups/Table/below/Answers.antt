@@ -2,7 +2,8 @@ use Rattle.std.proofs.Common.{rules, ◌∙◌, Bool, ap, sym, subst, arith, fil
 use Rattle.std.specs.List.Sorted.{IsSortedBy}
 use Rattle.std.specs.Prelude.{nat_lt}
 use Rattle.std.proofs.lemmas.List.Sorted.{IsPartitionPoint-from_clause}
-use Rattle.sc_plan.proofs.TableLemmas.{parted, passing}
+use Rattle.sc_plan.proofs.FilterLemmas.{passing}
+use Rattle.sc_plan.proofs.TableLemmas.{parted}
 use Rattle.sc_plan.specs.Lookups.{is_lower}
 use Rattle.sc_plan.specs.declared.lookups.Entry.{Entry}
 use Rattle.sc_plan.proofs.lookups.Table.below.Goals as goal

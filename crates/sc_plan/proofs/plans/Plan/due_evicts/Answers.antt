@@ -4,7 +4,8 @@ use Rattle.sc_plan.specs.Orders.{evicts_of}
 use Rattle.sc_plan.specs.PlanLines.{IsSoundPlan}
 use Rattle.sc_plan.specs.Limits.{lines_limit}
 use Rattle.sc_plan.specs.declared.lookups.Sought.TheVariants as sought
-use Rattle.sc_plan.proofs.DueLemmas.{due_evicts_in, few_due, few_evicts}
+use Rattle.sc_plan.proofs.CountLemmas.{few_due, few_evicts}
+use Rattle.sc_plan.proofs.DueLemmas.{due_evicts_in}
 use Rattle.sc_plan.proofs.plans.Plan.due_evicts.Goals as goal
 
 pub returns-clause-count : goal.returns-clause-count

@@ -11,8 +11,10 @@ pub bounds-all_at-number : goal.bounds-all_at-number
 bounds-all_at-number c =
     let sound = subst IsSoundPlan c.self.view_is c.self.invariant.0 in
     let is = c.self.invariant.1.evicts_are ∙ ap (table_of sought.Evict) c.self.view_is in
-    let count = count_is c.args.exec c.all_at.result.now (evicts_of c.args.self.now c.args.exec)
-    (c.all_at.ensures ∙ all_evicts c.args.exec c.args.self.now c.self.inside.evicts sound.small is) in
+    let due = c.all_at.ensures
+    ∙ all_evicts c.args.exec c.args.self.now c.self.inside.evicts sound.small is in
+    let dues = evicts_of c.args.self.now c.args.exec in
+    let count = count_is c.args.exec c.all_at.result.now dues due in
     omega (arith, count, c.requires.from_one, c.requires.known_number)
 
 pub returns : goal.returns
@@ -28,6 +30,6 @@ returns c =
     let d : Entry = record { key = 0; value = 0 } in
     let at = read_at es (c.args.number - 1) d within in
     order_is c.args.exec c.args.number es (evicts_of c.args.self.now c.args.exec)
-    (get_or es (c.args.number - 1) d) due at
+    (get_or es (c.args.number - 1) d) c.requires.from_one due at
     ∙ ap (λ k. Some (record { exec = c.args.exec; number = c.args.number; kind = k }))
     (sym c.kind_of.ensures)
