@@ -24,7 +24,7 @@ pub enum FetchAnswer<W: Naming> {
         /// The generation of the store.
         found: Generation,
     },
-    /// The block was never put at this generation.
+    /// The store isn't past that generation, and has no block of the name.
     Absent,
 }
 
