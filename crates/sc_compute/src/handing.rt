@@ -8,9 +8,9 @@ ghost use Rattle.sc_compute.specs.Stages.{AreOutputs, AreRight, HasBounds, HasMa
 
 use crate::parents::{Parents, parents_of};
 use crate::stages::Stages;
-use sc_combine::Dealt;
 use sc_lineage::{Node, NodeId, Shuffling, Work};
 use sc_part::Bounds;
+use sc_shuffle::MapOutput;
 use std::alloc::{AllocError, Global};
 
 /// A side of a node's shuffle.
@@ -30,7 +30,7 @@ impl Stages {
         work: &Work,
         node: NodeId,
         side: u8,
-        outputs: Vec<Dealt>,
+        outputs: Vec<MapOutput>,
     ) -> Result<(), AllocError>
         requires right { AreRight work.now self.old }
         requires outputs { AreOutputs work.now node side outputs.items }
@@ -60,7 +60,7 @@ impl Stages {
     }
 
     /// What was handed in for a side.
-    pub(crate) fn handed(&self, at: SideId) -> Option<&Vec<Dealt>>
+    pub(crate) fn handed(&self, at: SideId) -> Option<&Vec<MapOutput>>
         ensures { option_map (λ o. o.now) result ≡ handed_in self.now at.node at.side }
     {
         self.handed.get(&(at.node, at.side))

@@ -18,12 +18,13 @@ use crate::nodes::node_in;
 use crate::stages::{Input, Sides, Stages};
 use sc_base::OrMemory;
 use sc_columns::Rows;
-use sc_combine::{Dealt, bounds_between};
+use sc_combine::bounds_between;
 use sc_expr::Raise;
 use sc_lineage::{
     Node, NodeId, Partitioner, Place, Shuffling, Stream, Work, count_at, is_parted_by,
 };
 use sc_part::Bounds;
+use sc_shuffle::MapOutput;
 use std::alloc::{AllocError, Global};
 
 /// The number of partitions of a node, and what its sides are read from, where the same was made
@@ -103,7 +104,7 @@ fn input_of(
 }
 
 /// The same outputs again, of which nothing is copied.
-fn shared(alloc: Global, outputs: &[Dealt]) -> Result<Vec<Dealt>, AllocError>
+fn shared(alloc: Global, outputs: &[MapOutput]) -> Result<Vec<MapOutput>, AllocError>
     ensures { IfOk result (λ v. v.items ≡ outputs.now) }
 {
     let mut out = Vec::with_capacity(alloc, outputs.len())?;
@@ -114,7 +115,7 @@ fn shared(alloc: Global, outputs: &[Dealt]) -> Result<Vec<Dealt>, AllocError>
 }
 
 /// How many partitions a shuffle has, by what its tasks left: as many as there are buckets.
-fn parts_handed(outputs: &[Dealt]) -> u32
+fn parts_handed(outputs: &[MapOutput]) -> u32
     requires few { length (at_or outputs.now 0 []) < 2 ^ 32 }
     ensures { result ≡ length (at_or outputs.now 0 []) }
 {
@@ -240,7 +241,7 @@ fn deal(
     n: u32,
     bounds: &Bounds,
     sides: &[Rows],
-) -> Result<Vec<Dealt>, AllocError>
+) -> Result<Vec<MapOutput>, AllocError>
     requires some_partitions { 0 < n }
     ensures { IfOk result (λ v.
         AreDealt (dealing_of (shuffling_data_of kind.now) n bounds.now) 0 sides.now v.items) }

@@ -18,10 +18,11 @@ use crate::stages::Stages;
 use crate::targets::Computed;
 use sc_base::OrMemory;
 use sc_columns::Rows;
-use sc_combine::{Dealt, map_side};
+use sc_combine::{dealt_by_hash, dealt_by_range, dealt_in_turn, map_side};
 use sc_expr::Raise;
 use sc_lineage::{Node, NodeId, Partitioner, Place, Shuffling, Work};
 use sc_part::Bounds;
+use sc_shuffle::MapOutput;
 use std::alloc::{AllocError, Global};
 
 /// What the task of map partition `map` of a side leaves, where all was made for the side's parent.
@@ -133,16 +134,16 @@ pub fn deal_one(
     bounds: &Bounds,
     rows: &Rows,
     m: usize,
-) -> Result<Dealt, AllocError>
+) -> Result<MapOutput, AllocError>
     requires some_partitions { 0 < n }
     ensures { IfOk result
         (IsDealt (dealing_of (shuffling_data_of kind.now) n bounds.now) m rows.now) }
 {
     match kind.partitioner(n) {
-        Partitioner::Hash(_) => Dealt::by_hash(alloc, rows, n),
-        Partitioner::Range => Dealt::by_range(alloc, rows, bounds),
+        Partitioner::Hash(_) => dealt_by_hash(alloc, rows, n),
+        Partitioner::Range => dealt_by_range(alloc, rows, bounds),
         Partitioner::Unknown => match u32::try_from(m) {
-            Ok(m) => Dealt::in_turn(alloc, rows, n, m),
+            Ok(m) => dealt_in_turn(alloc, rows, n, m),
             Err(_) => Err(AllocError),
         },
     }

@@ -11,9 +11,10 @@ ghost use Rattle.sc_compute.specs.Reading.{GivesSide, IsReadFrom, ReadsBucket};
 
 use sc_base::OrMemory;
 use sc_columns::Rows;
-use sc_combine::{Dealt, map_side, meet, reduce_side};
+use sc_combine::{dealt_by_hash, map_side, meet, reduce_side};
 use sc_expr::Raise;
 use sc_lineage::{Meeting, Shuffling, Stream};
+use sc_shuffle::MapOutput;
 use std::alloc::{AllocError, Global};
 
 /// What a partition of a shuffle reads of a parent.
@@ -22,7 +23,7 @@ pub enum ReadFrom<'a> {
     /// The parent's partition of the same number, since the rows lie so already.
     Own(&'a Stream),
     /// What went into the shuffle from each map partition, by bucket.
-    Dealt(&'a [Dealt]),
+    Dealt(&'a [MapOutput]),
     /// The first raise of what went into the shuffle.
     Raised(Raise),
 }
@@ -137,14 +138,14 @@ fn own_rows(
     ensures { ReadsBucket (shuffling_data_of kind.now) (by_hash n) p (own.now ∷ []) result }
 {
     let rows = map_side(alloc, kind, own)?;
-    let dealt = Dealt::by_hash(alloc, &rows, n)?;
+    let dealt = dealt_by_hash(alloc, &rows, n)?;
     let mut parts = Vec::with_capacity(alloc, 1)?;
     parts.push(dealt.rows(alloc, p as usize)?)?;
     Ok(parts)
 }
 
 /// The rows of bucket `p` of each map partition.
-fn dealt_rows(alloc: Global, dealt: &[Dealt], p: u32) -> Result<Vec<Rows>, AllocError>
+fn dealt_rows(alloc: Global, dealt: &[MapOutput], p: u32) -> Result<Vec<Rows>, AllocError>
     ensures { IfOk result (λ v. v.items ≡ map (λ d. at_or d p []) dealt.now) }
 {
     let mut parts = Vec::with_capacity(alloc, dealt.len())?;

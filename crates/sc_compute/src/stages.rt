@@ -6,10 +6,10 @@ ghost use Rattle.sc_compute.specs.Stages.{AreRight, AreSides, AtDirectParents, H
 
 use crate::making::make;
 use crate::nodes::node_in;
-use sc_combine::Dealt;
 use sc_expr::Raise;
 use sc_lineage::{NodeId, Work};
 use sc_part::Bounds;
+use sc_shuffle::MapOutput;
 use std::alloc::{AllocError, Global};
 use std::collections::HashMap;
 
@@ -19,7 +19,7 @@ pub enum Input {
     /// Of its partition of the same number alone, since the rows lie so already.
     Own,
     /// Of each of its partitions what went into the shuffle, by bucket.
-    Dealt(Vec<Dealt>),
+    Dealt(Vec<MapOutput>),
     /// The first raise of what went into the shuffle.
     Raised(Raise),
 }
@@ -45,7 +45,7 @@ pub struct Stages {
     /// By node, where something was made.
     sides: HashMap<NodeId, Sides>,
     /// By node and side, what the tasks of the side left, where that was handed in.
-    pub(crate) handed: HashMap<(NodeId, u8), Vec<Dealt>>,
+    pub(crate) handed: HashMap<(NodeId, u8), Vec<MapOutput>>,
     /// By node, its bounds, where they were told.
     pub(crate) bounds: HashMap<NodeId, Bounds>,
 }

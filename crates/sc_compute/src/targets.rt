@@ -13,10 +13,10 @@ use crate::handing::SideId;
 use crate::mapping::map_output;
 use crate::partitions::partition_stream;
 use crate::stages::Stages;
-use sc_combine::Dealt;
 use sc_expr::Raise;
 use sc_lineage::{Action, NodeId, Place, Stream, Work};
 use sc_ops::fold_stream;
+use sc_shuffle::MapOutput;
 use std::alloc::{AllocError, Global};
 
 /// What is to be computed.
@@ -44,7 +44,7 @@ pub enum Target<'a> {
 #[derive(Drop)]
 pub enum Computed {
     /// What goes into a shuffle from a map partition, by bucket.
-    Output(Dealt),
+    Output(MapOutput),
     /// The first raise of what goes into a shuffle from a map partition.
     Raised(Raise),
     /// The result of a partition for an action.

@@ -3,10 +3,13 @@
 
 use sc_base::OrMemory;
 use sc_columns::{Rows, RowsBuilder};
-use sc_combine::{Dealt, bounds_between, map_side, meet, reduce_side};
+use sc_combine::{
+    bounds_between, dealt_by_hash, dealt_by_range, dealt_in_turn, map_side, meet, reduce_side,
+};
 use sc_expr::{Expr, Head, Raise, Variable};
 use sc_lineage::{Meeting, Shuffling, Stream};
 use sc_value::{Text, Value, print};
+use sc_shuffle::MapOutput;
 use std::process::Abort;
 
 /// In each line: a shuffle, the rows of its map partitions, and what it gives in one partition, by
@@ -164,7 +167,7 @@ fn rows_that_are_held_once_are_put_together_too(rt: HostRuntime) {
 }
 
 /// The rows of each bucket, with a bar between two of them.
-fn dealt_text<R: Abort + AllocGlobal>(rt: &R, dealt: &Dealt) -> String {
+fn dealt_text<R: Abort + AllocGlobal>(rt: &R, dealt: &MapOutput) -> String {
     let mut out = String::new(rt.alloc());
     for j in 0..dealt.len() {
         if j > 0 {
@@ -180,19 +183,19 @@ fn dealt_text<R: Abort + AllocGlobal>(rt: &R, dealt: &Dealt) -> String {
 #[test]
 fn rows_are_dealt_in_turn_by_hash_and_by_range(rt: HostRuntime) {
     let rows = rows_of(&rt, "a:1 b:2 k:3 a:4 b:5");
-    let dealt = Dealt::in_turn(rt.alloc(), &rows, 3, 1).expect(&rt, "memory");
+    let dealt = dealt_in_turn(rt.alloc(), &rows, 3, 1).expect(&rt, "memory");
     assert_eq!(rt;
         dealt_text(&rt, &dealt).as_str(),
         "(k,3)|(a,1) (a,4)|(b,2) (b,5)"
     );
-    let dealt = Dealt::by_hash(rt.alloc(), &rows, 5).expect(&rt, "memory");
+    let dealt = dealt_by_hash(rt.alloc(), &rows, 5).expect(&rt, "memory");
     assert_eq!(rt;
         dealt_text(&rt, &dealt).as_str(),
         "||(a,1) (k,3) (a,4)|(b,2) (b,5)|"
     );
     let parts = [Stream { rows, raise: None }];
     let bounds = bounds_between(rt.alloc(), &parts, 2).expect(&rt, "memory");
-    let dealt = Dealt::by_range(rt.alloc(), &parts[0].rows, &bounds).expect(&rt, "memory");
+    let dealt = dealt_by_range(rt.alloc(), &parts[0].rows, &bounds).expect(&rt, "memory");
     assert_eq!(rt;
         dealt_text(&rt, &dealt).as_str(),
         "(a,1) (b,2) (a,4) (b,5)|(k,3)"

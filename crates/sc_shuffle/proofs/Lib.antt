@@ -1,1 +1,1 @@
-mod BucketLemmas
+pub mod BucketLemmas

@@ -2,7 +2,7 @@ use Rattle.std.proofs.Common.{◌∙◌, length, map, ap, refl}
 use Rattle.sc_hash.specs.Hashes.{bucket_of}
 use Rattle.sc_lineage.specs.Shuffles.{by_hash}
 use Rattle.sc_combine.proofs.DealLemmas.{hash_buckets, length-buckets}
-use Rattle.sc_combine.proofs.dealing.Dealt.by_hash.Goals as goal
+use Rattle.sc_combine.proofs.dealing.dealt_by_hash.Goals as goal
 
 pub of_buckets-requires-clause-level : goal.of_buckets-requires-clause-level
 of_buckets-requires-clause-level c =

@@ -3,7 +3,7 @@ use Rattle.sc_base.specs.Lists.{numbers_below}
 use Rattle.sc_lineage.specs.Shuffles.{in_turn}
 use Rattle.sc_combine.specs.Deals.{turn_of}
 use Rattle.sc_combine.proofs.DealLemmas.{turn_buckets, length-buckets}
-use Rattle.sc_combine.proofs.dealing.Dealt.in_turn.Goals as goal
+use Rattle.sc_combine.proofs.dealing.dealt_in_turn.Goals as goal
 
 pub of_buckets-requires-clause-level : goal.of_buckets-requires-clause-level
 of_buckets-requires-clause-level c =

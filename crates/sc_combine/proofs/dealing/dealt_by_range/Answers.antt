@@ -4,7 +4,7 @@ use Rattle.std.proofs.lemmas.List.Elements.{All-weaker}
 use Rattle.sc_lineage.specs.Shuffles.{by_range}
 use Rattle.sc_part.specs.Bounds.{range_of}
 use Rattle.sc_combine.proofs.DealLemmas.{range_buckets, length-buckets}
-use Rattle.sc_combine.proofs.dealing.Dealt.by_range.Goals as goal
+use Rattle.sc_combine.proofs.dealing.dealt_by_range.Goals as goal
 
 pub of_buckets-requires-clause-level : goal.of_buckets-requires-clause-level
 of_buckets-requires-clause-level c =
