@@ -11,15 +11,15 @@ returns-in-Hash c =
     let kind = shuffling_data_of c.args.kind.now in
     let is = deals_by_hash kind c.args.n c.in-Hash.field-0 c.args.bounds.now
     (sym c.partitioner.ensures ∙ ap partitioner_data_of c.in-Hash.is) in
-    IfOk-weaker c.by_hash.result _ _
+    IfOk-weaker c.dealt_by_hash.result _ _
     (λ d deals. subst (λ (dealing : Dealing). IsDealt dealing c.args.m c.args.rows.now d) (sym is)
-    (deals c.args.m)) c.by_hash.ensures
+    (deals c.args.m)) c.dealt_by_hash.ensures
 
 pub returns-in-Range : goal.returns-in-Range
 returns-in-Range c =
     let kind = shuffling_data_of c.args.kind.now in
     let is = deals_by_range kind c.args.n c.args.bounds.now
     (sym c.partitioner.ensures ∙ ap partitioner_data_of c.in-Range.is) in
-    IfOk-weaker c.by_range.result _ _
+    IfOk-weaker c.dealt_by_range.result _ _
     (λ d deals. subst (λ (dealing : Dealing). IsDealt dealing c.args.m c.args.rows.now d) (sym is)
-    (deals c.args.m)) c.by_range.ensures
+    (deals c.args.m)) c.dealt_by_range.ensures
