@@ -4,3 +4,4 @@ pub mod Crossings
 pub mod Spans
 pub mod Combining
 pub mod IntFolds
+pub mod Outputs

@@ -15,7 +15,8 @@ use Rattle.sc_lineage.specs.Shuffles.{Dealing, dealing_of, map_side, stream_of_s
 use Rattle.sc_lineage.specs.Streams.{ended_stream, whole_stream}
 use Rattle.sc_lineage.specs.Targets.{side_of_node}
 use Rattle.sc_lineage.specs.declared.streams.Stream.{Stream}
-use Rattle.sc_compute.specs.Stages.{AreDealt, AreOutputs, AreRight, GoesThrough, IsOutput, IsSideFor, dealing_in, dealing_of_node, handed_in, lies_so, local_count, mapped_in, node_at, sides_of}
+use Rattle.sc_combine.specs.Outputs.{IsOutput, dealing_in, dealing_of_node}
+use Rattle.sc_compute.specs.Stages.{AreDealt, AreOutputs, AreRight, GoesThrough, IsSideFor, handed_in, lies_so, local_count, mapped_in, node_at, sides_of}
 use Rattle.sc_compute.specs.declared.stages.Stages.{Stages}
 use Rattle.sc_compute.proofs.MakingLemmas.{fewer_bounds}
 

@@ -22,7 +22,8 @@ use Rattle.sc_compute.proofs.DirectLemmas.{direct_narrow}
 use Rattle.sc_compute.proofs.OwnLemmas.{OwnIs, first_own, last_own, nothing_behind, only_own, own_direct, reads_so}
 use Rattle.sc_compute.proofs.SideLemmas.{deals_by_hash}
 use Rattle.sc_compute.specs.Reading.{IsReadFrom, ReadsFrom, direct_reads, own_place, own_stream, read_directly}
-use Rattle.sc_compute.specs.Stages.{AreSides, IsInput, dealing_in, local_count, node_at}
+use Rattle.sc_combine.specs.Outputs.{dealing_in}
+use Rattle.sc_compute.specs.Stages.{AreSides, IsInput, local_count, node_at}
 use Rattle.sc_compute.specs.declared.shuffles.ReadFrom.{ReadFrom}
 use Rattle.sc_compute.specs.declared.stages.Input.{Input}
 use Rattle.sc_compute.specs.declared.stages.Sides.TheVariants.{One, Two}

@@ -12,6 +12,7 @@ use Rattle.sc_value.specs.Datum.{Datum}
 use Rattle.sc_value.specs.Keys.{KeyData}
 use Rattle.sc_expr.specs.declared.exprs.Raise.{Raise}
 use Rattle.sc_combine.specs.Deals.{IsDealt}
+use Rattle.sc_combine.specs.Outputs.{IsOutput, dealing_in}
 use Rattle.sc_lineage.specs.Dependencies.{Dependency, one_to_one, range_behind, grouped, shuffled, dependencies_by, parents_of}
 use Rattle.sc_lineage.specs.Keyed.{Side}
 use Rattle.sc_lineage.specs.Meaning.{bounds_of_shuffle, bounds_step, known_of, local_streams, meanings_by}
@@ -72,11 +73,6 @@ IsInput work kind dealing wanted parent (inputs.Dealt dealt) =
 IsInput work kind dealing wanted parent (inputs.Raised r) =
     (lies_so work wanted parent ≡ false) × Opens (sides_of work kind parent) (Err r)
 
--- how a shuffle of one parent deals its rows out
-abbrev pub dealing_in : WorkData → ShufflingData → ℕ → ℕ → Dealing
-dealing_in work kind parent n =
-    dealing_of kind n (bounds_of_shuffle kind (local_streams work parent) n)
-
 -- what the sides of a node are to be read from
 abbrev pub AreSides : WorkData → NodeData → Sides → Type 0
 AreSides work (shuffle_node kind parent n) (One input) =
@@ -91,12 +87,6 @@ AreSides work (union_node left right) Narrow = Unit {0}
 AreSides work (coalesce_node parent n) Narrow = Unit {0}
 AreSides work (cache_node parent) Narrow = Unit {0}
 AreSides work node sides = ⊥
-
--- how a node's shuffle deals its rows out; a node that isn't made by one has a bucket for all
-abbrev pub dealing_of_node : WorkData → NodeData → Dealing
-dealing_of_node work (shuffle_node kind parent n) = dealing_in work kind parent n
-dealing_of_node work (meet_node kind left right n) = by_hash n
-dealing_of_node work node = by_range []
 
 -- the node whose partitions go into a side of a node
 abbrev pub mapped_in : NodeData → ℕ → ℕ
@@ -121,13 +111,6 @@ IsSideFor (meet_node does left right n) zero kind parent m =
 IsSideFor (meet_node does left right n) (suc zero) kind parent m =
     (group_by_key ≡ kind) × (right ≡ parent) × (n ≡ m)
 IsSideFor node side kind parent m = ⊥
-
--- what a task is to leave of a map partition of a side: its own value, which doesn't raise, by
--- bucket
-pub record IsOutput (work : WorkData) (node side m : ℕ) (dealt : List (List Datum)) : Type 0 where
-  pub rows : List Datum
-  pub own : own_value work (map_target node side m) ≡ whole_stream rows
-  pub by_bucket : IsDealt (dealing_of_node work (node_at work node)) m rows dealt
 
 -- what the tasks of a side left, one of each map partition in order
 pub record AreOutputs (work : WorkData) (node side : ℕ) (outputs : List (List (List Datum))) :

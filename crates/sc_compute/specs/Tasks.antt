@@ -9,7 +9,8 @@ use Rattle.sc_lineage.specs.Streams.{ended_stream, whole_stream}
 use Rattle.sc_lineage.specs.Targets.{TargetData, map_target, own_value, result_target}
 use Rattle.sc_lineage.specs.Views.{action_data_of}
 use Rattle.sc_lineage.specs.declared.streams.Stream.{Stream}
-use Rattle.sc_compute.specs.Stages.{HasBounds, HasMade, dealing_of_node, local_count, mapped_in, node_at}
+use Rattle.sc_combine.specs.Outputs.{dealing_of_node}
+use Rattle.sc_compute.specs.Stages.{HasBounds, HasMade, local_count, mapped_in, node_at}
 use Rattle.sc_compute.specs.declared.stages.Stages.{Stages}
 use Rattle.sc_compute.specs.declared.targets.Computed.{Computed}
 use Rattle.sc_compute.specs.declared.targets.Computed.TheVariants.{Output, Raised, Result}

@@ -9,7 +9,8 @@ ghost use Rattle.sc_lineage.specs.Partitioners.{partitioner_of_shuffle};
 ghost use Rattle.sc_lineage.specs.Shuffles.{dealing_of};
 ghost use Rattle.sc_lineage.specs.Streams.{whole_stream};
 ghost use Rattle.sc_lineage.specs.Views.{node_data_of, partitioner_data_of, shuffling_data_of};
-ghost use Rattle.sc_compute.specs.Stages.{AreDealt, AreRight, AreSides, HasMade, IsInput, IsSideFor, OpensAs, dealing_in, handed_in, lies_so as lies_in, local_count, node_at, parents_left, sides_of};
+ghost use Rattle.sc_combine.specs.Outputs.{dealing_in};
+ghost use Rattle.sc_compute.specs.Stages.{AreDealt, AreRight, AreSides, HasMade, IsInput, IsSideFor, OpensAs, handed_in, lies_so as lies_in, local_count, node_at, parents_left, sides_of};
 
 use crate::counting::narrow_count;
 use crate::handing::SideId;

@@ -8,7 +8,8 @@ ghost use Rattle.sc_lineage.specs.Meaning.{local_stream};
 ghost use Rattle.sc_lineage.specs.Shuffles.{dealing_of, map_side as map_side_of, stream_of_side};
 ghost use Rattle.sc_lineage.specs.Targets.{map_target, own_value};
 ghost use Rattle.sc_lineage.specs.Views.{partitioner_data_of, shuffling_data_of};
-ghost use Rattle.sc_compute.specs.Stages.{AreRight, HasBounds, HasMade, dealing_of_node, local_count, mapped_in, node_at};
+ghost use Rattle.sc_combine.specs.Outputs.{dealing_of_node};
+ghost use Rattle.sc_compute.specs.Stages.{AreRight, HasBounds, HasMade, local_count, mapped_in, node_at};
 ghost use Rattle.sc_compute.specs.Tasks.{IsSideOf, LeavesSide};
 
 use crate::handing::SideId;
