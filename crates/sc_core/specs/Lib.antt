@@ -1,4 +1,6 @@
 pub mod HandOuts
+pub mod Kept
+pub mod Owners
 pub mod CoreData
 pub mod Takes
 pub mod Tells

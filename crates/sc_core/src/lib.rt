@@ -14,10 +14,14 @@
 mod answers;
 mod entries;
 mod events;
+mod inputs;
+mod kept;
 mod laws;
 mod running;
+mod stages;
 
-pub use answers::{Abort, Answer, Job, NotEnabled};
+pub use answers::{Abort, Answer, Job, NotEnabled, Stepped};
 pub use entries::Entry;
 pub use events::{Event, Outcome};
+pub use inputs::Inputs;
 pub use running::{HandOut, Phase, Running, Shelved};
