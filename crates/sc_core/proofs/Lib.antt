@@ -1,3 +1,4 @@
 pub mod InputLemmas
 pub mod KeptLemmas
 pub mod TellLemmas
+pub mod PlaceLemmas

@@ -12,13 +12,19 @@
 #![tactic(auto)]
 
 mod answers;
+mod attempts;
 mod entries;
 mod events;
+mod fits;
 mod inputs;
 mod kept;
 mod laws;
+mod posts;
 mod running;
 mod stages;
+mod states;
+mod takes;
+mod tells;
 
 pub use answers::{Abort, Answer, Job, NotEnabled, Stepped};
 pub use entries::Entry;
