@@ -2,3 +2,5 @@ pub mod InputLemmas
 pub mod KeptLemmas
 pub mod TellLemmas
 pub mod PlaceLemmas
+pub mod Pending
+pub mod CoreLemmas
