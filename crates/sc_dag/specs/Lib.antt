@@ -7,4 +7,5 @@ pub mod Losses
 pub mod Openings
 pub mod Sound
 pub mod Settled
+pub mod Rows
 pub mod Laws

@@ -53,7 +53,7 @@ started t limits stage state =
     record state {
       waits = false;
       attempts = (changed_newest as_zombie state).attempts
-        ++ stage_attempt (new_set t limits stage state.results) false ∷ [];
+          ++ stage_attempt (new_set t limits stage state.results) false ∷ [];
     }
 
 -- a stage that waits for its parents

@@ -18,7 +18,16 @@
 #![tactic(auto)]
 
 mod attempts;
+mod changes;
+mod dags;
+mod fates;
+mod openings;
+mod outputs;
 mod reports;
+mod rows;
+mod stages;
+mod submissions;
 
 pub use attempts::StageAttempt;
+pub use dags::Dag;
 pub use reports::Success;

@@ -1,0 +1,33 @@
+use Rattle.std.proofs.Common.{arith}
+use Rattle.sc_ids.proofs.ChangeLemmas.{view_changed, view_kept, view_past}
+use Rattle.sc_taskset.specs.Reports.{after_end}
+use Rattle.sc_dag.specs.DagData.{changed_set}
+use Rattle.sc_dag.proofs.stages.end_at.Goals as goal
+
+pub returns-then-stage-len-clause-states : goal.returns-then-stage-len-clause-states
+returns-then-stage-len-clause-states c =
+    let v = c.args.rows.now in
+    view_changed (λ r. r.state) v.items c.args.a.stage c.index_mut.result.now c.end.new.self
+    (changed_set c.args.a.stage_attempt
+    (λ set. after_end set c.args.a.partition c.args.a.nth))
+    (omega (arith, v.ok.0)) c.index_mut.ensures.value c.end.ensures.state
+
+pub returns-then-stage-len-clause-stages : goal.returns-then-stage-len-clause-stages
+returns-then-stage-len-clause-stages c =
+    let v = c.args.rows.now in
+    view_kept (λ r. r.stage) v.items c.args.a.stage c.index_mut.result.now c.end.new.self
+    (omega (arith, v.ok.0)) c.index_mut.ensures.value c.end.ensures.stage
+
+pub returns-then-stage-len-clause-ready : goal.returns-then-stage-len-clause-ready
+returns-then-stage-len-clause-ready c =
+    let v = c.args.rows.now in
+    view_kept (λ r. r.is_ready) v.items c.args.a.stage c.index_mut.result.now c.end.new.self
+    (omega (arith, v.ok.0)) c.index_mut.ensures.value c.end.ensures.ready
+
+pub returns-else-stage-len-clause-states : goal.returns-else-stage-len-clause-states
+returns-else-stage-len-clause-states c =
+    let v = c.args.rows.now in
+    view_past (λ r. r.state) v.items c.args.a.stage
+    (changed_set c.args.a.stage_attempt
+    (λ set. after_end set c.args.a.partition c.args.a.nth))
+    (omega (arith, v.ok.0))

@@ -1,0 +1,81 @@
+//! Which partitions of a stage are done.
+#![tactic(auto)]
+
+ghost use Rattle.std.specs.Prelude.{◌≡◌, [], false};
+ghost use Rattle.sc_taskset.specs.Rooms.{room_of};
+ghost use Rattle.sc_tracker.specs.Tracking.{is_bogus};
+ghost use Rattle.sc_dag.specs.Outputs.{is_complete_by, is_done_by};
+ghost use Rattle.sc_dag.specs.Submission.{is_map, new_set};
+
+use sc_ids::{BlockId, Epoch, Limits, Loc, Stage, Target};
+use sc_taskset::{SetRoom, TaskSet};
+use sc_tracker::Tracker;
+
+/// Whether a stage is one of map tasks.
+pub(crate) fn is_map(target: Target) -> bool
+    ensures { result ≡ is_map target }
+{
+    match target {
+        Target::Map(_) => true,
+        Target::Result { .. } => false,
+    }
+}
+
+/// Whether an output at this location, by a task of this epoch, may be lost already.
+pub(crate) fn is_bogus(tracker: &Tracker, loc: Loc, epoch: Epoch) -> bool
+    ensures { result ≡ is_bogus tracker.now loc epoch }
+{
+    let is_old = loc.generation < tracker.seen(loc.exec);
+    match tracker.mark(loc.exec) {
+        Some(mark) => epoch <= mark || is_old,
+        None => is_old,
+    }
+}
+
+/// Whether a partition is done: its map output is registered, or it has a result.
+pub(crate) fn is_done(tracker: &Tracker, target: Target, results: &[bool], partition: u32) -> bool
+    ensures { result ≡ is_done_by tracker.now target results.now partition }
+{
+    match target {
+        Target::Map(shuffle) => {
+            let block = BlockId {
+                shuffle,
+                map: partition,
+            };
+            tracker.output(block).here.is_some()
+        }
+        Target::Result { .. } => match results.get(partition as usize) {
+            Some(done) => *done,
+            None => false,
+        },
+    }
+}
+
+/// Whether all partitions of a stage are done.
+pub(crate) fn is_complete(stage: &Stage, tracker: &Tracker, results: &[bool]) -> bool
+    ensures { result ≡ is_complete_by tracker.now stage.now results.now }
+{
+    (0..stage.tasks()).all(|k| is_done(tracker, stage.target(), results, k))
+}
+
+/// The task set of the partitions that aren't done, in the room that there is for it. It takes no
+/// memory.
+pub(crate) fn missing_set(
+    room: SetRoom,
+    stage: &Stage,
+    tracker: &Tracker,
+    results: &[bool],
+    limits: Limits,
+) -> TaskSet
+    requires room { room ≡ room_of [] stage.now.tasks }
+    requires incomplete { is_complete_by tracker.now stage.now results.now ≡ false }
+    ensures { result ≡ new_set tracker.now limits stage.now results.now }
+{
+    let mut room = room;
+    for k in 0..stage.tasks() {
+        if !is_done(tracker, stage.target(), results, k) {
+            room.hold(k);
+        }
+    }
+    room.begin(is_map(stage.target()), limits, tracker.epoch())
+}

@@ -1,0 +1,220 @@
+//! The stages of a job, each told what becomes of it.
+#![tactic(auto)]
+
+ghost use Rattle.std.specs.Prelude.{◌≡◌, ◌↔◌, OnOk, OnErr, length, map, None, slice_get, Some, true};
+ghost use Rattle.sc_base.specs.Lists.{at_or};
+ghost use Rattle.sc_ids.specs.Changes.{change_at};
+ghost use Rattle.sc_taskset.specs.Offers.{handed};
+ghost use Rattle.sc_taskset.specs.Reports.{after_end, after_failure, after_held, after_success};
+ghost use Rattle.sc_dag.specs.DagData.{changed_newest, changed_set, newest_at, no_stage};
+ghost use Rattle.sc_dag.specs.Losses.{without_executor};
+ghost use Rattle.sc_dag.specs.Offers.{may_be_given_in};
+ghost use Rattle.sc_dag.specs.Reports.{completed, failed_count, reaches_limit_in, set_of, with_failed, with_result};
+ghost use Rattle.sc_dag.specs.Rows.{are_ready, dag_of, is_complete_in, ready_of, row_without_executor, stages_of, states_of};
+ghost use Rattle.sc_tracker.specs.TrackerData.{TrackerData};
+ghost use Rattle.sc_ids.specs.declared.limits.Limits.{Limits};
+
+use crate::rows::StageRow;
+use sc_ids::{AttemptId, ExecId, FailureCause, StageId, Target};
+use sc_taskset::Verdict;
+use sc_tracker::Tracker;
+use std::alloc::{AllocError, Global};
+
+/// Whether all partitions of a stage are done.
+pub(crate) fn is_complete_at(rows: &[StageRow], tracker: &Tracker, stage: StageId) -> bool
+    ensures { result ≡ is_complete_in rows.now tracker.now stage }
+{
+    match rows.get(stage as usize) {
+        Some(row) => row.is_complete(tracker),
+        None => true,
+    }
+}
+
+/// How many attempts of a stage failed since it was complete.
+pub(crate) fn failed_count_at(rows: &[StageRow], stage: StageId) -> usize
+    ensures { result ≡ failed_count (slice_get (states_of rows.now) stage) }
+{
+    match rows.get(stage as usize) {
+        Some(row) => row.failed_count(),
+        None => 0,
+    }
+}
+
+/// What the tasks of a stage make: of one that isn't there, nothing.
+pub(crate) fn target_at(rows: &[StageRow], stage: StageId) -> Target
+    ensures { result ≡ (at_or (stages_of rows.now) stage no_stage).target }
+{
+    match rows.get(stage as usize) {
+        Some(row) => row.stage().target(),
+        None => Target::Result { node: 0 },
+    }
+}
+
+/// Makes room for one more attempt of each stage. Nothing that is seen of the stages changes.
+pub(crate) fn prepare_all(rows: &mut Vec<StageRow>, alloc: Global) -> Result<(), AllocError>
+    ensures states { states_of rows.new.items ≡ states_of rows.old.items }
+    ensures stages { stages_of rows.new.items ≡ stages_of rows.old.items }
+    ensures ready { OnOk result (are_ready rows.new.items ≡ true) }
+    ensures len { length rows.new.items ≡ length rows.old.items }
+{
+    for k in 0..rows.len() {
+        rows[k].prepare(alloc)?;
+    }
+    Ok(())
+}
+
+/// A task of a stage's newest attempt handed out.
+pub(crate) fn give_at(
+    rows: &mut Vec<StageRow>,
+    a: AttemptId,
+    exec: ExecId,
+    now: u64,
+) -> Result<(), AllocError>
+    requires { (t : TrackerData) (limits : Limits)
+        → may_be_given_in (newest_at (dag_of rows.old.items t limits) a.stage) exec a.partition
+        ≡ true }
+    ensures ok { OnOk result (states_of rows.new.items ≡ change_at (states_of rows.old.items)
+        a.stage (changed_newest (λ set. handed set a.partition exec now))) }
+    ensures err { OnErr result (states_of rows.new.items ≡ states_of rows.old.items) }
+    ensures stages { stages_of rows.new.items ≡ stages_of rows.old.items }
+    ensures ready { ready_of rows.new.items ≡ ready_of rows.old.items }
+    ensures len { length rows.new.items ≡ length rows.old.items }
+{
+    let stage = a.stage;
+    if (stage as usize) < rows.len() {
+        rows[stage as usize].give(a.partition, exec, now)
+    } else {
+        Ok(())
+    }
+}
+
+/// A success told to the attempt's own task set.
+pub(crate) fn succeed_at(rows: &mut Vec<StageRow>, a: AttemptId, now: u64)
+    ensures states { states_of rows.new.items ≡ change_at (states_of rows.old.items) a.stage
+        (changed_set a.stage_attempt (λ set. after_success set a.partition (Some a.nth) now)) }
+    ensures stages { stages_of rows.new.items ≡ stages_of rows.old.items }
+    ensures ready { ready_of rows.new.items ≡ ready_of rows.old.items }
+    ensures len { length rows.new.items ≡ length rows.old.items }
+{
+    let stage = a.stage;
+    if (stage as usize) < rows.len() {
+        rows[stage as usize].succeed(a.stage_attempt, a.partition, a.nth, now);
+    }
+}
+
+/// A success of an older attempt told to the newest task set of its stage.
+pub(crate) fn succeed_newest_at(rows: &mut Vec<StageRow>, a: AttemptId, now: u64)
+    ensures states { states_of rows.new.items ≡ change_at (states_of rows.old.items) a.stage
+        (changed_newest (λ set. after_success set a.partition None now)) }
+    ensures stages { stages_of rows.new.items ≡ stages_of rows.old.items }
+    ensures ready { ready_of rows.new.items ≡ ready_of rows.old.items }
+    ensures len { length rows.new.items ≡ length rows.old.items }
+{
+    let stage = a.stage;
+    if (stage as usize) < rows.len() {
+        rows[stage as usize].succeed_newest(a.partition, now);
+    }
+}
+
+/// An attempt ended, and that changes nothing else.
+pub(crate) fn end_at(rows: &mut Vec<StageRow>, a: AttemptId)
+    ensures states { states_of rows.new.items ≡ change_at (states_of rows.old.items) a.stage
+        (changed_set a.stage_attempt (λ set. after_end set a.partition a.nth)) }
+    ensures stages { stages_of rows.new.items ≡ stages_of rows.old.items }
+    ensures ready { ready_of rows.new.items ≡ ready_of rows.old.items }
+    ensures len { length rows.new.items ≡ length rows.old.items }
+{
+    let stage = a.stage;
+    if (stage as usize) < rows.len() {
+        rows[stage as usize].end(a.stage_attempt, a.partition, a.nth);
+    }
+}
+
+/// An attempt failed.
+pub(crate) fn fail_at(rows: &mut Vec<StageRow>, a: AttemptId, cause: FailureCause) -> Verdict
+    ensures limit { (t : TrackerData) (limits : Limits) → (result ≡ Verdict.Limit)
+        ↔ (reaches_limit_in (set_of (dag_of rows.old.items t limits) a) a cause ≡ true) }
+    ensures states { states_of rows.new.items ≡ change_at (states_of rows.old.items) a.stage
+        (changed_set a.stage_attempt (λ set. after_failure set a.partition a.nth cause)) }
+    ensures stages { stages_of rows.new.items ≡ stages_of rows.old.items }
+    ensures ready { ready_of rows.new.items ≡ ready_of rows.old.items }
+    ensures len { length rows.new.items ≡ length rows.old.items }
+{
+    let stage = a.stage;
+    if (stage as usize) < rows.len() {
+        rows[stage as usize].fail(a, cause)
+    } else {
+        Verdict::Again
+    }
+}
+
+/// A stage's newest task set is told whether a held grant has denied an attempt of a partition.
+pub(crate) fn hold_at(rows: &mut Vec<StageRow>, stage: StageId, partition: u32, denied: bool)
+    ensures states { states_of rows.new.items ≡ change_at (states_of rows.old.items) stage
+        (changed_newest (λ set. after_held set partition denied)) }
+    ensures stages { stages_of rows.new.items ≡ stages_of rows.old.items }
+    ensures ready { ready_of rows.new.items ≡ ready_of rows.old.items }
+    ensures len { length rows.new.items ≡ length rows.old.items }
+{
+    if (stage as usize) < rows.len() {
+        rows[stage as usize].hold(partition, denied);
+    }
+}
+
+/// A partition of a stage has a result.
+pub(crate) fn put_result_at(rows: &mut Vec<StageRow>, stage: StageId, partition: u32)
+    ensures states { states_of rows.new.items ≡ change_at (states_of rows.old.items) stage
+        (with_result partition) }
+    ensures stages { stages_of rows.new.items ≡ stages_of rows.old.items }
+    ensures ready { ready_of rows.new.items ≡ ready_of rows.old.items }
+    ensures len { length rows.new.items ≡ length rows.old.items }
+{
+    if (stage as usize) < rows.len() {
+        rows[stage as usize].put_result(partition);
+    }
+}
+
+/// All partitions of a stage are done.
+pub(crate) fn complete_at(rows: &mut Vec<StageRow>, stage: StageId)
+    ensures states { states_of rows.new.items ≡ change_at (states_of rows.old.items) stage
+        completed }
+    ensures stages { stages_of rows.new.items ≡ stages_of rows.old.items }
+    ensures ready { ready_of rows.new.items ≡ ready_of rows.old.items }
+    ensures len { length rows.new.items ≡ length rows.old.items }
+{
+    if (stage as usize) < rows.len() {
+        rows[stage as usize].complete();
+    }
+}
+
+/// An attempt of a stage failed.
+pub(crate) fn fail_attempt_at(rows: &mut Vec<StageRow>, stage: StageId, number: u64)
+    ensures states { states_of rows.new.items ≡ change_at (states_of rows.old.items) stage
+        (with_failed number) }
+    ensures stages { stages_of rows.new.items ≡ stages_of rows.old.items }
+    ensures ready { ready_of rows.new.items ≡ ready_of rows.old.items }
+    ensures len { length rows.new.items ≡ length rows.old.items }
+{
+    if (stage as usize) < rows.len() {
+        rows[stage as usize].fail_attempt(number);
+    }
+}
+
+/// An executor is lost.
+pub(crate) fn lose_all(rows: &mut Vec<StageRow>, exec: ExecId)
+    ensures states { states_of rows.new.items
+        ≡ map (without_executor exec) (states_of rows.old.items) }
+    ensures stages { stages_of rows.new.items ≡ stages_of rows.old.items }
+    ensures ready { ready_of rows.new.items ≡ ready_of rows.old.items }
+    ensures len { length rows.new.items ≡ length rows.old.items }
+{
+    lose_each(rows.as_mut_slice(), exec);
+}
+
+fn lose_each(rows: &mut [StageRow], exec: ExecId)
+    ensures { rows.new ≡ map (row_without_executor exec) rows.old }
+{
+    for row in rows.iter_mut() {
+        row.lose(exec);
+    }
+}
