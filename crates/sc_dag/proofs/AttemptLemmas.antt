@@ -1,5 +1,5 @@
 -- Attempts of a stage in a list.
-use Rattle.std.proofs.Common.{◌≡◌, ℕ, ◌<◌, List, ap, get_or, length, ◌∙◌}
+use Rattle.std.proofs.Common.{◌≡◌, ℕ, ◌<◌, List, ap, get_or, length}
 use Rattle.std.proofs.Math.ListN.{set}
 use Rattle.sc_ids.specs.Changes.{change_at}
 use Rattle.sc_ids.proofs.ChangeLemmas.{set_changed}

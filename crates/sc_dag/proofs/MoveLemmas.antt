@@ -1,18 +1,16 @@
 -- What was noted of stages made of them, from the first number on.
-use Rattle.std.proofs.Common.{◌≡◌, ℕ, ◌+◌, ◌<◌, ◌≤◌, zero, suc, Bool, true, false, Option, Some, List, [], ◌∷◌, ◌++◌, length, get_or, map, slice_get, take, drop, refl, ap, sym, ◌∙◌, arith, rules}
+use Rattle.std.proofs.Common.{◌≡◌, ℕ, ◌+◌, ◌<◌, ◌≤◌, zero, suc, Bool, true, false, Some, List, [], ◌∷◌, ◌++◌, length, slice_get, take, drop, refl, ap, sym, ◌∙◌, arith, rules}
 use Rattle.std.specs.List.{list_all}
 use Rattle.std.specs.Option.{option_map}
 use Rattle.std.proofs.lemmas.List.{length-map}
 use Rattle.std.proofs.lemmas.Option.{slice_get-map}
 use Rattle.sc_base.specs.Lists.{at_or}
 use Rattle.sc_ids.specs.Changes.{change_at}
-use Rattle.sc_ids.specs.Graphs.{StageData}
-use Rattle.sc_ids.specs.declared.limits.Limits.{Limits}
 use Rattle.sc_tracker.specs.TrackerData.{TrackerData}
 use Rattle.sc_dag.specs.DagData.{DagData, StageState, no_stage, stage_at}
-use Rattle.sc_dag.specs.Outputs.{has_inputs, is_complete_by, results_in}
-use Rattle.sc_dag.specs.Submission.{by_number, moved_if, moved_on}
-use Rattle.sc_dag.specs.Rows.{RowData, SuitFates, SuitsFate, are_ready, dag_of, fate_at, fated, is_complete_in, is_looked_at, moves, ready_of, stages_of, states_of}
+use Rattle.sc_dag.specs.Outputs.{is_complete_by, results_in}
+use Rattle.sc_dag.specs.Submission.{by_number, moved_if}
+use Rattle.sc_dag.specs.Rows.{RowData, SuitFates, SuitsFate, are_ready, fate_at, fated, is_complete_in, is_looked_at, ready_of, stages_of, states_of}
 use Rattle.sc_dag.specs.declared.fates.Fate.{Fate}
 use Rattle.sc_dag.specs.declared.fates.Fate.TheVariants.{Starts, Stays, Waits}
 
@@ -97,7 +95,8 @@ complete_still rows now t k stages rest =
     slice_get-map (λ r. r.state) now k
     ∙ ap (option_map (λ r. r.state)) (slice_same now rows k rest)
     ∙ sym (slice_get-map (λ r. r.state) rows k) in
-    ap (λ s. is_complete_by t (at_or s k no_stage) (results_in (slice_get (states_of now) k))) stages
+    ap (λ s. is_complete_by t (at_or s k no_stage) (results_in (slice_get (states_of now) k)))
+    stages
     ∙ ap (λ s. is_complete_by t (at_or (stages_of rows) k no_stage) (results_in s)) state
 
 -- ---- stages

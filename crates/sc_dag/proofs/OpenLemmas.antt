@@ -1,5 +1,5 @@
 -- Rows for the stages of a job that begins.
-use Rattle.std.proofs.Common.{◌≡◌, ℕ, ◌+◌, ◌-◌, ◌<◌, ◌≤◌, ◌⊎◌, inl, inr, zero, suc, Bool, false, Option, Some, None, List, [], ◌∷◌, ◌++◌, length, get_or, map, replicate, slice_get, take, refl, ap, sym, subst, ◌∙◌, arith, rules}
+use Rattle.std.proofs.Common.{◌≡◌, ℕ, ◌+◌, ◌<◌, ◌≤◌, ◌⊎◌, inl, inr, zero, suc, false, Option, Some, List, [], ◌∷◌, ◌++◌, length, get_or, replicate, slice_get, take, refl, ap, sym, subst, ◌∙◌, arith, rules}
 use Rattle.std.specs.List.{All, AllPairs, Contains}
 use Rattle.std.proofs.Math.Seq.{take-suc}
 use Rattle.std.proofs.lemmas.Bool.{cases_eq, cases_lt}
@@ -9,7 +9,7 @@ use Rattle.sc_base.specs.Lists.{at_or}
 use Rattle.sc_ids.specs.Graphs.{StageData}
 use Rattle.sc_dag.specs.DagData.{DagData, StageState, no_stage}
 use Rattle.sc_dag.specs.Openings.{AreNumbered, attempts_so_far, blank_state, blank_states, number_behind}
-use Rattle.sc_dag.specs.Rows.{AreBlank, AreOlder, RowData, row_data, stages_of, states_of}
+use Rattle.sc_dag.specs.Rows.{AreBlank, RowData, row_data, stages_of}
 
 -- ---- lists
 
@@ -115,6 +115,7 @@ stand_more graph stages x h at =
         × ((at_or stages s no_stage).id ≡ s))
     more s (inl none) = inl none
     more s (inr some) = inr (in_more graph (x ∷ []) (at_or stages s no_stage) some.0, some.1)
+
     by : (s : ℕ) → (s < length stages) ⊎ (length stages ≤ s)
         → (s ≡ length stages) ⊎ (s ≡ length stages → ⊥)
         → (at_or (stages ++ x ∷ []) s no_stage ≡ no_stage)
@@ -240,22 +241,3 @@ pub behind_next : (graph : List StageData) (i : ℕ) (x : StageData) → i < len
     → x ≡ get_or graph i x → number_behind (take (i + 1) graph) ≡ x.id + 1
 behind_next graph i x l at =
     ap number_behind (take_one i graph x l at) ∙ behind_last (take i graph) x
-
--- ---- parents
-
--- parents have smaller numbers, where stages stand at theirs
-pub older_by_number : (graph stages : List StageData)
-    → All (λ stage. All (λ parent. parent < stage.id) stage.parents) graph
-    → AreNumbered graph stages → AreOlder stages
-older_by_number graph stages older h s = by (h.only s)
-  where
-    by : (at_or stages s no_stage ≡ no_stage)
-        ⊎ (Contains graph (at_or stages s no_stage) × ((at_or stages s no_stage).id ≡ s))
-        → All (λ parent. parent < s) (at_or stages s no_stage).parents
-    by (inl none) = rw none (All-nil (λ parent. parent < s))
-    by (inr some) =
-        let stage = at_or stages s no_stage in
-        let its : All (λ parent. parent < stage.id) stage.parents =
-        subst (λ (x : StageData). All (λ parent. parent < x.id) x.parents) some.0.2
-        (older some.0.0 stage some.0.1) in
-        subst (λ n. All (λ parent. parent < n) stage.parents) some.1 its

@@ -1,5 +1,5 @@
 -- Rows of stages.
-use Rattle.std.proofs.Common.{◌≡◌, ℕ, ◌+◌, ◌<◌, ◌≤◌, zero, suc, Bool, true, false, Option, Some, None, List, [], ◌∷◌, length, get_or, map, slice_get, take, refl, ap, sym, ◌∙◌, arith, add-one, rules}
+use Rattle.std.proofs.Common.{◌≡◌, ℕ, ◌+◌, ◌<◌, ◌≤◌, zero, suc, Bool, true, false, Some, None, List, [], ◌∷◌, length, get_or, map, slice_get, take, refl, ap, sym, ◌∙◌, arith, rules}
 use Rattle.std.specs.List.{list_all}
 use Rattle.std.specs.Option.{option_map}
 use Rattle.std.proofs.Math.ListN.{set}
@@ -8,7 +8,7 @@ use Rattle.std.proofs.lemmas.Option.{slice_get-map, slice_get_past, slice_get_re
 use Rattle.sc_base.specs.Lists.{at_or}
 use Rattle.sc_ids.specs.Graphs.{StageData}
 use Rattle.sc_ids.specs.declared.attempts.AttemptId.{AttemptId}
-use Rattle.sc_dag.specs.DagData.{DagData, StageState, attempt_in, newest_at, newest_set, no_stage, set_in}
+use Rattle.sc_dag.specs.DagData.{DagData, StageState, newest_at, newest_set, no_stage}
 use Rattle.sc_dag.specs.Losses.{without_executor}
 use Rattle.sc_dag.specs.Reports.{set_of}
 use Rattle.sc_dag.specs.Rows.{RowData, ready_of, row_data, row_without_executor, stages_of, states_of}

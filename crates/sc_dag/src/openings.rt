@@ -79,7 +79,8 @@ fn size_for(tracker: &mut Tracker, stage: &Stage) -> Result<(), AllocError>
 fn rows_of(alloc: Global, graph: &[Stage], last: Option<&Dag>) -> Result<Vec<StageRow>, AllocError>
     requires { AllPairs (λ a b. a.id < b.id) graph.now }
     ensures numbered { IfOk result (λ rows. AreNumbered graph.now (stages_of rows.items)) }
-    ensures blank { IfOk result (λ rows. AreBlank (option_map (λ l. l.now.0) last.entry) rows.items) }
+    ensures blank { IfOk result (λ rows. AreBlank (option_map (λ l. l.now.0) last.entry)
+        rows.items) }
     ensures few { IfOk result (λ rows. length rows.items ≤ 2 ^ 32) }
 {
     let mut rows = Vec::new(alloc);
@@ -121,7 +122,8 @@ fn push(
 ) -> Result<(), AllocError>
     requires { length rows.old.items < 2 ^ 32 }
     ensures { OnOk result (rows.new.items ≡ rows.old.items ++ row_data stage (blank_state stage
-        (attempts_so_far (option_map (λ l. l.now.0) last.entry) (length rows.old.items))) false ∷ []) }
+        (attempts_so_far (option_map (λ l. l.now.0) last.entry) (length rows.old.items))) false
+        ∷ []) }
 {
     let before = so_far(last, rows.len() as u32);
     rows.push(StageRow::new(alloc, stage, before)?)?;

@@ -36,7 +36,8 @@ impl Model for StageRow {
 
     ghost Value = { RowData };
 
-    ghost view = { λ r. row_data r.stage (state_of r.before r.attempts.items r.waits r.results.items)
+    ghost view = { λ r. row_data r.stage
+        (state_of r.before r.attempts.items r.waits r.results.items)
         (is_some r.room && (nat_lt (vec_len r.attempts) (vec_capacity r.attempts)
         && nat_lt (r.before + vec_len r.attempts + 1) (2 ^ 64))) };
 

@@ -1,4 +1,4 @@
-use Rattle.std.proofs.Common.{◌≡◌, ◌&&◌, ◌==◌, ℕ, Bool, rules, tests, ap, arith, length, refl, sym, ◌∙◌}
+use Rattle.std.proofs.Common.{◌&&◌, ◌==◌, ℕ, Bool, rules, tests, ap, arith, length, refl, sym, ◌∙◌}
 use Rattle.std.specs.List.{list_any}
 use Rattle.std.proofs.lemmas.Iterator.{YieldsList-from_range}
 use Rattle.std.proofs.lemmas.Iterator.Search.{any_from_yields_List}

@@ -1,4 +1,4 @@
-use Rattle.std.proofs.Common.{ap, refl, sym, ◌∙◌}
+use Rattle.std.proofs.Common.{ap, sym, ◌∙◌}
 use Rattle.sc_base.specs.Lists.{at_or}
 use Rattle.sc_ids.proofs.ChangeLemmas.{view_changed, view_kept}
 use Rattle.sc_dag.specs.DagData.{no_stage}

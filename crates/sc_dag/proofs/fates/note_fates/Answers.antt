@@ -26,7 +26,8 @@ loop-k-preserved c =
           (omega (arith, c.loop-k.invariant.below, c.loop-k.invariant.len, c.requires.fates))
           c.loop-k.invariant.are
           (c.fate_of-fate.ensures
-          ∙ ap (λ fs. fate_for d submitted (is_looked_at fs) (c.loop-k.k - 1)) c.deref.ensures.value);
+          ∙ ap (λ fs. fate_for d submitted (is_looked_at fs) (c.loop-k.k - 1))
+          c.deref.ensures.value);
       len = length-set fates (c.loop-k.k - 1) c.fate_of-fate.result ∙ c.loop-k.invariant.len;
       below = omega (arith, c.loop-k.invariant.below);
     }

@@ -5,7 +5,8 @@ use Rattle.sc_dag.proofs.fates.note_fates.Given as goal
 -- what becomes of the stages from here on is noted
 abbrev pub invariant-loop-k : goal.invariant-loop-k
 invariant-loop-k l = record {
-  are : AreFatesFrom (outlook l.rows l.tracker) (is_submitted l.submitted (outlook l.rows l.tracker)) l.k l.fates.items;
+  are : AreFatesFrom (outlook l.rows l.tracker)
+      (is_submitted l.submitted (outlook l.rows l.tracker)) l.k l.fates.items;
   len : length l.fates.items ≡ length l.fn.fates.items;
   below : l.k ≤ length l.rows;
 }

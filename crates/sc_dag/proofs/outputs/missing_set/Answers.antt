@@ -1,4 +1,4 @@
-use Rattle.std.proofs.Common.{◌≡◌, ◌∙◌, ℕ, Bool, false, not, true, ap, arith, sym}
+use Rattle.std.proofs.Common.{◌≡◌, ◌∙◌, ℕ, Bool, not, ap, arith, sym}
 use Rattle.sc_base.specs.Lists.{numbers_below}
 use Rattle.sc_taskset.specs.TaskSetData.{fresh_set}
 use Rattle.sc_dag.specs.Outputs.{is_done_by, missing_by}

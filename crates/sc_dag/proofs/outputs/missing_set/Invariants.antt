@@ -1,7 +1,4 @@
-use Rattle.std.proofs.Common.{◌≡◌, ◌-◌, length, not}
-use Rattle.std.specs.List.{filter}
-use Rattle.sc_base.specs.Lists.{numbers_below}
-use Rattle.sc_taskset.specs.Rooms.{room_of}
+use Rattle.std.proofs.Common.{◌≡◌, not}
 use Rattle.sc_dag.specs.Outputs.{is_done_by}
 use Rattle.sc_dag.proofs.NumberLemmas.{room_below}
 use Rattle.sc_dag.proofs.outputs.missing_set.Given as goal

@@ -1,6 +1,5 @@
-use Rattle.std.proofs.Common.{◌≡◌, ◌∙◌, ap, map, sym}
+use Rattle.std.proofs.Common.{◌∙◌, ap, map}
 use Rattle.std.proofs.lemmas.List.{with_items_is}
-use Rattle.sc_dag.specs.Losses.{without_executor}
 use Rattle.sc_dag.specs.Rows.{ready_of, row_without_executor, stages_of, states_of}
 use Rattle.sc_dag.proofs.RowLemmas.{lost_ready, lost_stages, lost_states}
 use Rattle.sc_dag.proofs.stages.lose_all.Goals as goal
