@@ -23,6 +23,7 @@ mod dags;
 mod fates;
 mod openings;
 mod outputs;
+mod readers;
 mod reports;
 mod rows;
 mod stages;
