@@ -4,3 +4,4 @@ pub mod TellLemmas
 pub mod PlaceLemmas
 pub mod Pending
 pub mod CoreLemmas
+pub mod OpenLemmas

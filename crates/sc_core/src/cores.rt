@@ -1,7 +1,7 @@
 //! The core.
 #![tactic(auto)]
 
-ghost use Rattle.std.specs.Prelude.{◌≡◌, ◌-◌, IfOk, OnErr, false, length, true};
+ghost use Rattle.std.specs.Prelude.{◌≡◌, IfOk, IfSome, OnErr, false, true};
 ghost use Rattle.std.specs.Option.{option_map};
 ghost use Rattle.sc_dag.specs.DagData.{stage_at};
 ghost use Rattle.sc_dag.specs.Openings.{FitsJob, IsJob};
@@ -53,11 +53,7 @@ impl Core {
         ensures { IfOk result
             (λ c. IsOpening graph.now limits saved (option_map (λ l. l.now) last.entry) c) }
     {
-        let last = match last {
-            Some(core) => Some(&core.state),
-            None => None,
-        };
-        let state = State::open(alloc, graph, limits, saved, last)?;
+        let state = State::open(alloc, graph, limits, saved, state_behind(last))?;
         Ok(Core { state })
     }
 
@@ -130,5 +126,16 @@ impl Core {
         ensures { IsSoundCore self.now }
     {
         let _ = &self.state;
+    }
+}
+
+/// The state of the job before.
+fn state_behind(last: Option<&Core>) -> Option<&State>
+    ensures state { option_map (λ s. s.now.0) result ≡ option_map (λ l. l.now) last.entry }
+    ensures sound { IfSome (option_map (λ l. l.now) last.entry) IsSoundCore }
+{
+    match last {
+        Some(core) => Some(&core.state),
+        None => None,
     }
 }

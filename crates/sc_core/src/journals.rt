@@ -77,7 +77,11 @@ impl Journal {
         ensures err { OnErr result (self.new ≡ self.old) }
     {
         self.entries.reserve(1)?;
-        let Stepped { answer, twin, log: _ } = self.core.step(&event)?;
+        let Stepped {
+            answer,
+            twin,
+            log: _,
+        } = self.core.step(&event)?;
         self.entries.push_reserved(Entry { by, event, answer });
         Ok(twin)
     }

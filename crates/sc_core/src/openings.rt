@@ -62,15 +62,20 @@ fn submitted(
     ensures { IfOk result (λ s. BeginsWith graph.now limits
         (option_map (λ l. l.now.0.dag) last.entry) tracker s.0) }
 {
-    let last = match last {
+    let mut stages = Stages::open(alloc, graph, stages_behind(last), tracker, limits)?;
+    stages.prepare()?;
+    stages.submit_result();
+    Ok(stages)
+}
+
+/// The stages of the job before.
+fn stages_behind(last: Option<&State>) -> Option<&Stages>
+    ensures { option_map (λ s. s.now.0) result ≡ option_map (λ l. l.now.0.dag) last.entry }
+{
+    match last {
         Some(state) => Some(&state.stages),
         None => None,
-    };
-    let mut stages = Stages::open(alloc, graph, last, tracker, limits)?;
-    stages.prepare()?;
-    let result = stages.dag().last_stage();
-    stages.submit(result);
-    Ok(stages)
+    }
 }
 
 /// The tracker that is carried on from the job before, or a new one.

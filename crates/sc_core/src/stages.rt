@@ -3,6 +3,7 @@
 
 ghost use Rattle.std.specs.Prelude.{◌≡◌, ◌↔◌, IfOk, OnErr, OnOk, true};
 ghost use Rattle.std.specs.Option.{option_map};
+ghost use Rattle.sc_core.specs.CoreData.{result_stage};
 ghost use Rattle.sc_core.specs.HandOuts.{inputs_of};
 ghost use Rattle.sc_core.specs.Tells.{FollowsUp, LooksAgain};
 ghost use Rattle.sc_dag.specs.DagData.{DagData, newest_at};
@@ -60,11 +61,7 @@ impl Stages {
             (λ s. Opens graph.now (option_map (λ l. l.now.0) last.entry) tracker s.0) }
         ensures limits { IfOk result (λ s. s.0.limits ≡ limits) }
     {
-        let last = match last {
-            Some(stages) => Some(&stages.dag),
-            None => None,
-        };
-        let dag = Dag::open(alloc, graph, last, tracker, limits)?;
+        let dag = Dag::open(alloc, graph, dag_behind(last), tracker, limits)?;
         let kept = Kept::new(alloc, dag.last_stage() as usize + 1)?;
         Ok(Stages { alloc, dag, kept })
     }
@@ -97,11 +94,12 @@ impl Stages {
         self.dag.prepare()
     }
 
-    /// Submits a stage. It takes no memory.
-    pub fn submit(&mut self, stage: StageId)
+    /// Submits the result stage. It takes no memory.
+    pub fn submit_result(&mut self)
         requires { self.old.1 ≡ true }
-        ensures { IsSubmitted self.old.0 (this_stage stage) self.new.0 }
+        ensures { IsSubmitted self.old.0 (this_stage (result_stage self.old.0)) self.new.0 }
     {
+        let stage = self.dag.last_stage();
         self.dag.submit(stage);
     }
 
@@ -199,5 +197,15 @@ impl Stages {
         ensures { FailsStage self.old.0 stage number result self.new.0 }
     {
         self.dag.stage_failed(stage, number)
+    }
+}
+
+/// The stages of the job before alone.
+fn dag_behind(last: Option<&Stages>) -> Option<&Dag>
+    ensures { option_map (λ d. d.now.0) result ≡ option_map (λ l. l.now.0) last.entry }
+{
+    match last {
+        Some(stages) => Some(&stages.dag),
+        None => None,
     }
 }

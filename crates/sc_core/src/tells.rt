@@ -49,7 +49,7 @@ impl State {
         ensures plain { has_task result ≡ false }
     {
         let attempt = running.hand_out.attempt();
-        if self.stages.dag().is_repeat(attempt) {
+        if !self.stages.dag().wants(attempt) {
             self.put_result(attempt);
             return Answer::Repeated;
         }
@@ -83,7 +83,7 @@ impl State {
             self.old.0 attempt cause result self.new.0 }
         ensures plain { has_task result ≡ false }
     {
-        let hands_out = self.stages.dag().is_in_live(attempt);
+        let hands_out = self.stages.dag().hands_out(attempt);
         let verdict = self.stages.failed(attempt, cause);
         self.release(attempt, Ending::Failed);
         match verdict {

@@ -16,9 +16,9 @@ returns-in-Again-clause-tells c =
     let a = c.args.attempt in
     rw (← c.self.view_is)
     (failure_told (reaches_limit_in (set_of i.stages.0 a) a c.args.cause) before a c.args.cause
-    c.is_in_live-hands_out.result c.release.new.self.0 c.fail_by.result c.fail_by.new.self.0
+    c.hands_out-hands_out.result c.release.new.self.0 c.fail_by.result c.fail_by.new.self.0
     (λ h. again_is_no_limit (c.in-Again.ensures.limit.1 h))
-    (rw c.dag.ensures at c.is_in_live-hands_out.ensures)
+    (rw c.dag.ensures at c.hands_out-hands_out.ensures)
     (c.release.ensures.state
     ∙ ap (λ (d : DagData). released (with_dag before d) a endings.Failed)
     c.failed-verdict.ensures.state)
