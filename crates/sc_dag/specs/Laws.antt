@@ -10,6 +10,7 @@ use Rattle.sc_taskset.specs.declared.tasks.Verdict.{Verdict}
 use Rattle.sc_taskset.specs.declared.tasks.Verdict.TheVariants.{Again}
 use Rattle.sc_tracker.specs.TrackerData.{TrackerData}
 use Rattle.sc_tracker.specs.TrackerFacts.{IsSoundTracker}
+use Rattle.sc_tracker.specs.Trust.{is_live as is_live_executor}
 use Rattle.sc_dag.specs.DagData.{DagData, is_live_set, newest_at, stage_at}
 use Rattle.sc_dag.specs.Losses.{after_lost, after_seen}
 use Rattle.sc_dag.specs.Offers.{HasNone, handed_out, may_be_given_in, newest_number}
@@ -29,17 +30,17 @@ SubmissionsAgree =
 -- a stage that is submitted once more stays as it is
 abbrev pub SubmissionsRepeat : Type 0
 SubmissionsRepeat =
-    (d after again : DagData) (s : ℕ) → IsSoundDag d → IsSettledBy d (this_stage s)
-    → is_live_set (newest_at d s) ≡ false → IsSubmitted d (this_stage s) after
+    (d after again : DagData) (s : ℕ) → IsSoundDag d → IsSubmitted d (this_stage s) after
     → is_live_set (newest_at after s) ≡ false
     → IsSubmitted after (this_stage s) again → again ≡ after
 
--- a job begins sound and settled, and with its result stage submitted it is under way
+-- A job begins sound and settled. Its result stage isn't complete, so once that is submitted it is
+-- under way.
 abbrev pub OpeningsAreSound : Type 0
 OpeningsAreSound =
     (graph : List StageData) (last : Option DagData) (t : TrackerData) (d : DagData)
-    → IsJob graph → FitsJob t graph → IsSoundTracker t → Opens graph last t d
-    → IsSoundDag d × IsSettled d
+    (job : IsJob graph) → FitsJob t graph → IsSoundTracker t → Opens graph last t d
+    → IsSoundDag d × IsSettled d × (is_complete d job.result.id ≡ false)
 
 -- what every call keeps
 abbrev pub CallsKeepSound : Type 0
@@ -60,7 +61,8 @@ CallsKeepSound =
     × ((s : ℕ) (after : DagData) → CompletesMap d s after → IsSoundDag after)
     × ((s p : ℕ) (denied : Bool) → IsSoundDag (after_hold d s p denied))
     × ((exec found : ℕ) → IsSoundDag (after_seen d exec found))
-    × ((exec : ℕ) → IsSoundDag (after_lost d exec))
+    × ((exec : ℕ) → is_live_executor (slice_get d.tracker.trust exec) ≡ true
+    → IsSoundDag (after_lost d exec))
 
 -- a stage that was under way is still, unless it is complete
 abbrev pub KeepsUnderWay : DagData → DagData → Type 0

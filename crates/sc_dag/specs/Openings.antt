@@ -7,7 +7,7 @@ use Rattle.sc_ids.specs.declared.blocks.ShuffleId.{ShuffleId}
 use Rattle.sc_ids.specs.declared.blocks.Target.{Target}
 use Rattle.sc_ids.specs.declared.blocks.Target.TheVariants as targets
 use Rattle.sc_tracker.specs.TrackerData.{TrackerData, outputs_of}
-use Rattle.sc_tracker.specs.Tracking.{sized}
+use Rattle.sc_tracker.specs.Tracking.{has_room, sized}
 use Rattle.sc_dag.specs.DagData.{DagData, StageState, no_stage}
 use Rattle.sc_dag.specs.Submission.{by_number, is_map}
 
@@ -34,7 +34,7 @@ pub record IsJob (graph : List StageData) : Type 0 where
 -- outputs of its map stage.
 abbrev pub FitsIn : TrackerData → StageData → Type 0
 FitsIn t stage = (shuffle : ShuffleId) → stage.target ≡ targets.Map shuffle
-    → (outputs_of t shuffle ≡ []) ⊎ (length (outputs_of t shuffle) ≡ stage.tasks)
+    → (has_room t shuffle ≡ false) ⊎ (length (outputs_of t shuffle) ≡ stage.tasks)
 
 abbrev pub FitsJob : TrackerData → List StageData → Type 0
 FitsJob t graph = All (FitsIn t) graph

@@ -1,5 +1,5 @@
 -- What holds of the stages of every job.
-use Rattle.std.specs.Prelude.{ℕ, ◌-◌, ◌<◌, ◌≤◌, ◌≡◌, ◌≢◌, List, [], Bool, true, false, Option, Some, None, IfSome, All, if◌then◌else◌, length, slice_get, take}
+use Rattle.std.specs.Prelude.{ℕ, ◌-◌, ◌<◌, ◌≤◌, ◌≡◌, ◌≢◌, ◌⊎◌, List, [], Bool, true, false, Option, Some, None, IfSome, All, if◌then◌else◌, length, slice_get, take}
 use Rattle.std.specs.Option.{option_map}
 use Rattle.sc_base.specs.Lists.{at_or}
 use Rattle.sc_ids.specs.Graphs.{StageData}
@@ -27,6 +27,11 @@ pub record AreSoundStages (stages : List StageData) (t : TrackerData) : Type 0 w
   -- no shuffle has two stages
   pub apart : (r s : ℕ) → r ≢ s
       → AreOfTwo (at_or stages r no_stage).target (at_or stages s no_stage).target
+  -- map outputs alone are read: a parent is a map stage, or has no task
+  pub read : (s : ℕ)
+      → All (λ parent. (is_map (at_or stages parent no_stage).target ≡ true)
+      ⊎ ((at_or stages parent no_stage).tasks ≡ 0))
+      (at_or stages s no_stage).parents
   -- there is room for the outputs of each map stage
   pub room : (s : ℕ) (shuffle : ShuffleId)
       → (at_or stages s no_stage).target ≡ targets.Map shuffle

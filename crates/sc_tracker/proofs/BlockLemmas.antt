@@ -58,7 +58,7 @@ length-nothing zero = refl
 length-nothing (suc n) = ap suc (length-nothing n)
 
 -- a shuffle is of itself
-is_of_itself : (shuffle : ShuffleId) (outputs : List Output)
+pub is_of_itself : (shuffle : ShuffleId) (outputs : List Output)
     → is_of shuffle (shuffle_data shuffle outputs) ≡ true
 is_of_itself shuffle outputs = grind (arith, nat_tests)
 
@@ -67,7 +67,7 @@ place_here : (x : ShuffleData) (xs : List ShuffleData) (shuffle : ShuffleId)
     → is_of shuffle x ≡ true → place_of (x ∷ xs) shuffle ≡ 0
 place_here x xs shuffle e = rw e refl
 
-under_here : (x : ShuffleData) (xs : List ShuffleData) (shuffle : ShuffleId)
+pub under_here : (x : ShuffleData) (xs : List ShuffleData) (shuffle : ShuffleId)
     → is_of shuffle x ≡ true → outputs_under (x ∷ xs) shuffle ≡ x.outputs
 under_here x xs shuffle e =
     ap (λ i. outputs_among (slice_get (x ∷ xs) i)) (place_here x xs shuffle e)
@@ -77,7 +77,7 @@ place_behind : (x : ShuffleData) (xs : List ShuffleData) (shuffle : ShuffleId)
     → is_of shuffle x ≡ false → place_of (x ∷ xs) shuffle ≡ suc (place_of xs shuffle)
 place_behind x xs shuffle e = rw e (omega arith)
 
-under_behind : (x : ShuffleData) (xs : List ShuffleData) (shuffle : ShuffleId)
+pub under_behind : (x : ShuffleData) (xs : List ShuffleData) (shuffle : ShuffleId)
     → is_of shuffle x ≡ false → outputs_under (x ∷ xs) shuffle ≡ outputs_under xs shuffle
 under_behind x xs shuffle e =
     ap (λ i. outputs_among (slice_get (x ∷ xs) i)) (place_behind x xs shuffle e)
@@ -177,7 +177,7 @@ same_shuffle a b node side = ap (λ n. shuffle n a.side) node ∙ ap (λ s. shuf
     shuffle n s = record { node = n; side = s }
 
 -- entries are of one shuffle
-one_shuffle : (a b : ShuffleId) (x : ShuffleData)
+pub one_shuffle : (a b : ShuffleId) (x : ShuffleData)
     → is_of a x ≡ true → is_of b x ≡ true → a ≡ b
 one_shuffle a b x d e = same_shuffle a b (grind (arith, nat_tests)) (grind (arith, nat_tests))
 
@@ -261,7 +261,7 @@ registers_one t block loc = (here, others)
     others other h = by other h (is_of other.shuffle (shuffle_data block.shuffle [])) refl
 
 -- the outputs of a shuffle, where the outputs of all were changed alike
-under_mapped : (xs : List ShuffleData) (shuffle : ShuffleId) (f : Output → Output)
+pub under_mapped : (xs : List ShuffleData) (shuffle : ShuffleId) (f : Output → Output)
     → outputs_under (map (λ s. shuffle_data s.shuffle (map f s.outputs)) xs) shuffle
     ≡ map f (outputs_under xs shuffle)
 under_mapped [] shuffle f = refl

@@ -1,0 +1,125 @@
+-- Calls that finish no task keep what holds of every job.
+use Rattle.std.proofs.Common.{◌≡◌, ℕ, zero, suc, ◌-◌, Bool, true, List, [], ◌∷◌, length, map, Option, Some, None, option_map, slice_get, refl, ap, sym, ◌∙◌, true≢false}
+use Rattle.std.proofs.lemmas.List.{length-map}
+use Rattle.sc_ids.specs.Graphs.{StageData}
+use Rattle.sc_ids.specs.declared.attempts.AttemptId.{AttemptId}
+use Rattle.sc_ids.specs.declared.failures.FailureCause.{FailureCause}
+use Rattle.sc_taskset.specs.Offers.{handed, may_be_given}
+use Rattle.sc_taskset.specs.Reports.{after_end, after_failure, after_held, as_zombie}
+use Rattle.sc_taskset.specs.TaskSetData.{TaskSetData}
+use Rattle.sc_dag.specs.DagData.{DagData, StageState, newest_at, place_of_attempt, set_in, stage_at, with_set, with_state}
+use Rattle.sc_dag.specs.Offers.{handed_out, may_be_given_in}
+use Rattle.sc_dag.specs.Reports.{after_failed, after_hold, completed, ended_in_own, failed_attempt, forgiven, with_failed}
+use Rattle.sc_dag.specs.Sound.{IsSoundDag}
+use Rattle.sc_dag.specs.declared.attempts.StageAttempt.{StageAttempt}
+use Rattle.sc_dag.proofs.Moving.{newest_among}
+use Rattle.sc_dag.proofs.Sets.{KeepsSet, SameFinish, keeps_end, keeps_failure, keeps_handed, keeps_hold, keeps_zombie, same_end, same_failure, same_handed, same_hold, same_zombie}
+use Rattle.sc_dag.proofs.SoundAttempts.{KeepsAttempt, attempts_mapped, keeps_with, set_kept, state_quiet}
+use Rattle.sc_dag.proofs.SoundStages.{IsNewest, sound_with}
+
+-- a change of a set that finishes no task
+pub quiet :
+    (stage : StageData) (a : StageAttempt) (g : TaskSetData → TaskSetData)
+    → KeepsSet a.set (g a.set) → SameFinish a.set (g a.set)
+    → KeepsAttempt stage a (with_set g a) × SameFinish a.set (with_set g a).set
+quiet stage a g keeps same = (keeps_with stage a g keeps, same)
+
+pub handed_sound :
+    (d : DagData) (a : AttemptId) (exec now : ℕ) → IsSoundDag d
+    → may_be_given_in (newest_at d a.stage) exec a.partition ≡ true
+    → IsSoundDag (handed_out d a exec now)
+handed_sound d a exec now sound may =
+    sound_with d a.stage _ sound (λ state at is.
+    state_quiet d.tracker (stage_at d a.stage) state (length state.attempts - 1)
+    (with_set (λ set. handed set a.partition exec now))
+    (λ x newest. quiet (stage_at d a.stage) x (λ set. handed set a.partition exec now)
+    (keeps_handed x.set a.partition exec now (given state x at newest))
+    (same_handed x.set a.partition exec now)) is)
+  where
+    given : (state : StageState) (x : StageAttempt) → slice_get d.states a.stage ≡ Some state
+        → slice_get state.attempts (length state.attempts - 1) ≡ Some x
+        → may_be_given x.set exec a.partition ≡ true
+    given state x at newest =
+        sym (ap (λ o. may_be_given_in o exec a.partition)
+        (ap newest_among at ∙ ap set_in newest)) ∙ may
+
+pub ended_sound : (d : DagData) (a : AttemptId) → IsSoundDag d → IsSoundDag (ended_in_own d a)
+ended_sound d a sound =
+    sound_with d a.stage _ sound (λ state at is.
+    state_quiet d.tracker (stage_at d a.stage) state (place_of_attempt state a.stage_attempt)
+    (with_set (λ set. after_end set a.partition a.nth))
+    (λ x there. quiet (stage_at d a.stage) x (λ set. after_end set a.partition a.nth)
+    (keeps_end x.set a.partition a.nth) (same_end x.set a.partition a.nth)) is)
+
+pub failed_sound :
+    (d : DagData) (a : AttemptId) (cause : FailureCause) → IsSoundDag d
+    → IsSoundDag (after_failed d a cause)
+failed_sound d a cause sound =
+    sound_with d a.stage _ sound (λ state at is.
+    state_quiet d.tracker (stage_at d a.stage) state (place_of_attempt state a.stage_attempt)
+    (with_set (λ set. after_failure set a.partition a.nth cause))
+    (λ x there. quiet (stage_at d a.stage) x (λ set. after_failure set a.partition a.nth cause)
+    (keeps_failure x.set a.partition a.nth cause) (same_failure x.set a.partition a.nth cause))
+    is)
+
+pub hold_sound :
+    (d : DagData) (s p : ℕ) (denied : Bool) → IsSoundDag d → IsSoundDag (after_hold d s p denied)
+hold_sound d s p denied sound =
+    sound_with d s _ sound (λ state at is.
+    state_quiet d.tracker (stage_at d s) state (length state.attempts - 1)
+    (with_set (λ set. after_held set p denied))
+    (λ x newest. quiet (stage_at d s) x (λ set. after_held set p denied)
+    (keeps_hold x.set p denied) (same_hold x.set p denied)) is)
+
+-- a stage attempt that failed
+pub with_failed_sound :
+    (d : DagData) (s number : ℕ) → IsSoundDag d
+    → IsSoundDag (with_state d s (with_failed number))
+with_failed_sound d s number sound =
+    sound_with d s (with_failed number) sound (λ state at is.
+    state_quiet d.tracker (stage_at d s) state (place_of_attempt state number) failed_attempt
+    (λ x there. (
+      record {
+        is = λ was. record {
+          set = set_kept (stage_at d s) x.set (as_zombie x.set) (keeps_zombie x.set) was.set;
+          failed = λ e. refl;
+        };
+        dead = λ z. refl;
+      },
+      same_zombie x.set,
+    )) is)
+
+-- the newest set where all attempts were changed
+pub newest_mapped :
+    (attempts : List StageAttempt) (h : StageAttempt → StageAttempt)
+    → slice_get (map h attempts) (length (map h attempts) - 1)
+    ≡ option_map h (slice_get attempts (length attempts - 1))
+newest_mapped attempts h =
+    rw (length-map attempts h) (each attempts (length attempts - 1))
+  where
+    each : (xs : List StageAttempt) (i : ℕ)
+        → slice_get (map h xs) i ≡ option_map h (slice_get xs i)
+    each [] i = refl
+    each (x ∷ xs) zero = refl
+    each (x ∷ xs) (suc i) = each xs i
+
+-- a stage that is complete
+pub completed_sound :
+    (d : DagData) (s : ℕ) → IsSoundDag d → IsSoundDag (with_state d s completed)
+completed_sound d s sound =
+    sound_with d s completed sound (λ state at is. record {
+      results = is.results;
+      attempts = attempts_mapped (stage_at d s) state.attempts forgiven
+          (λ x. record {
+            is = λ was. record { set = was.set; failed = λ e. absurd (true≢false (sym e)) };
+            dead = λ z. z;
+          }) is.attempts;
+      newest = rw (newest_mapped state.attempts forgiven)
+          (same state (slice_get state.attempts (length state.attempts - 1)) is.newest);
+    })
+  where
+    same : (state : StageState) (o : Option StageAttempt)
+        → IsNewest d.tracker (stage_at d s) state.results (set_in o)
+        → IsNewest d.tracker (stage_at d s) state.results (set_in (option_map forgiven o))
+    same state None is = is
+    same state (Some x) is = is
