@@ -28,9 +28,11 @@ pub record RowData : Type 0 where
   -- whether it has room for one more attempt
   pub is_ready : Bool
 
+-- a row with these parts
 abbrev pub row_data : StageData → StageState → Bool → RowData
 row_data stage state is_ready = record { stage = stage; state = state; is_ready = is_ready }
 
+-- a state with these parts
 abbrev pub state_of : ℕ → List StageAttempt → Bool → List Bool → StageState
 state_of before attempts waits results =
     record { before = before; attempts = attempts; waits = waits; results = results }
@@ -83,12 +85,13 @@ row_without_executor exec r = row_data r.stage (without_executor exec r.state) r
 abbrev pub fate_at : List Fate → ℕ → Fate
 fate_at fates s = at_or fates s Stays
 
--- a stage is looked at
+-- a stage that this is made of is looked at
 abbrev pub moves : Fate → Bool
 moves Stays = false
 moves Waits = true
 moves Starts = true
 
+-- the stage of a number is looked at
 abbrev pub is_looked_at : List Fate → ℕ → Bool
 is_looked_at fates s = moves (fate_at fates s)
 
@@ -130,6 +133,7 @@ SuitsFate d s Stays = Unit {0}
 SuitsFate d s Waits = has_inputs d s ≡ false
 SuitsFate d s Starts = (has_inputs d s ≡ true) × (is_complete d s ≡ false)
 
+-- what a submission makes of all stages suits them
 abbrev pub SuitFates : DagData → List Fate → Type 0
 SuitFates d fates = (s : ℕ) → SuitsFate d s (fate_at fates s)
 
