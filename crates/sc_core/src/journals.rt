@@ -34,6 +34,15 @@ impl Model for Journal {
     ghost invariant = { λ j. Replays j.opening j.entries.items j.core };
 }
 
+/// What an event was answered, for the caller and for its log.
+#[derive(Drop)]
+pub struct Entered {
+    /// For the caller.
+    pub answer: Answer,
+    /// For the log.
+    pub log: Answer,
+}
+
 /// How a job began, what happened, and how it ended.
 #[derive(Drop)]
 pub struct JobHistory {
@@ -76,14 +85,27 @@ impl Journal {
             → is_enabled self.old.core event ≡ false }
         ensures err { OnErr result (self.new ≡ self.old) }
     {
+        match self.enter_logged(by, event) {
+            Ok(entered) => Ok(entered.answer),
+            Err(error) => Err(error),
+        }
+    }
+
+    /// The same for a caller who keeps a log of answers too.
+    pub fn enter_logged(&mut self, by: Mark, event: Event) -> Result<Entered, OrMemory<NotEnabled>>
+        ensures step { IfOk result (λ e. Steps self.old.core event e.answer self.new.core) }
+        ensures entry { IfOk result
+            (λ e. self.new.entries ≡ self.old.entries ++ entry by event e.answer ∷ []) }
+        ensures log { IfOk result (λ e. e.log ≡ e.answer) }
+        ensures opening { self.new.opening ≡ self.old.opening }
+        ensures not_enabled { (fault : NotEnabled) → result ≡ Err (OrMemory.Fault fault)
+            → is_enabled self.old.core event ≡ false }
+        ensures err { OnErr result (self.new ≡ self.old) }
+    {
         self.entries.reserve(1)?;
-        let Stepped {
-            answer,
-            twin,
-            log: _,
-        } = self.core.step(&event)?;
+        let Stepped { answer, twin, log } = self.core.step(&event)?;
         self.entries.push_reserved(Entry { by, event, answer });
-        Ok(twin)
+        Ok(Entered { answer: twin, log })
     }
 
     /// The core as it is now.

@@ -37,6 +37,6 @@ pub use cores::Core;
 pub use entries::Entry;
 pub use events::{Event, Outcome};
 pub use inputs::Inputs;
-pub use journals::{JobHistory, Journal};
+pub use journals::{Entered, JobHistory, Journal};
 pub use running::{HandOut, Phase, Running, Shelved};
 pub use stories::story;

@@ -2,7 +2,7 @@ use Rattle.std.proofs.Common.{◌∙◌, ap, ◌++◌, ◌∷◌, []}
 use Rattle.sc_core.specs.Journals.{entry}
 use Rattle.sc_core.specs.declared.entries.Entry.{Entry}
 use Rattle.sc_core.proofs.CoreLemmas.{replays_entry}
-use Rattle.sc_core.proofs.journals.Journal.enter.Goals as goal
+use Rattle.sc_core.proofs.journals.Journal.enter_logged.Goals as goal
 
 pub invariant_of-self-2 : goal.invariant_of-self-2
 invariant_of-self-2 c =
