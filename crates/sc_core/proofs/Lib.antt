@@ -1,3 +1,9 @@
+pub mod InputLemmas
+pub mod KeptLemmas
+pub mod TellLemmas
+pub mod PlaceLemmas
+pub mod CoreLemmas
+pub mod OpenLemmas
 pub mod LookupLemmas
 pub mod WaitLemmas
 pub mod SetLemmas

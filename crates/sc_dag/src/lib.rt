@@ -24,6 +24,7 @@ mod fates;
 mod laws;
 mod openings;
 mod outputs;
+mod readers;
 mod reports;
 mod rows;
 mod stages;
