@@ -3,8 +3,8 @@
 //!
 //! [`map_side`] and [`reduce_side`] are those of the definitions of `sc_lineage`
 //! (`specs/Shuffles.antt`), and [`meet`] is `met` of `specs/Keyed.antt`. [`dealt_by_hash`],
-//! [`dealt_by_range`] and [`dealt_in_turn`] deal the rows of one map partition out, to the map output
-//! of its task. [`bounds_between`] finds what divides the keys of a sort into ranges.
+//! [`dealt_by_range`] and [`dealt_in_turn`] deal the rows of one map partition out, which gives the
+//! map output of its task. [`bounds_between`] finds what divides the keys of a sort into ranges.
 //!
 //! Rows go by columns: keys are grouped or sorted as they lie, and columns are picked by row
 //! number. Rows that aren't held as pairs go one by one. A row number has 32 bits, so more rows

@@ -43,7 +43,8 @@ pub opening_is : {A : Type 0} (value : A → CoreData) (graph : List StageData) 
     → committers ≡ replicate saved Nobody
     → IsOpening graph limits saved (option_map value last)
     (core_data told now 0 jobs.Running None [] [] 0 committers dag)
-opening_is value graph limits saved last t told now committers dag tracker begins telling time free =
+opening_is value graph limits saved last t told now committers dag tracker begins telling time
+    free =
     record {
       dag = begins.dag;
       opens = rw (← last_stages value last, ← tracker) begins.opens;

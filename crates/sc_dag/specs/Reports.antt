@@ -109,7 +109,8 @@ completed_if d s = if is_complete d s then with_state d s completed else d
 abbrev pub after_result_success : DagData → AttemptId → ℕ → DagData
 after_result_success d a now =
     if is_repeat d a then ended_in_own d a
-    else completed_if (with_state (succeeded_in_both d a now) a.stage (with_result a.partition)) a.stage
+    else completed_if
+    (with_state (succeeded_in_both d a now) a.stage (with_result a.partition)) a.stage
 
 abbrev pub set_of : DagData → AttemptId → Option TaskSetData
 set_of d a = set_among (slice_get d.states a.stage) a.stage_attempt

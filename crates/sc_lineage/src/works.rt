@@ -16,8 +16,8 @@ use sc_plan::Plan;
 use sc_value::{Name, Texts};
 use std::marker::Model;
 
-/// A script with the inputs that it names, the faults that are planned for its run, and the limits of
-/// that. By its type each input is there, once, and is text, the plan names executors of the run
+/// A script with the inputs that it names, the faults that are planned for its run, and the limits
+/// of that. By its type each input is there, once, and is text, the plan names executors of the run
 /// alone, and the limits are in their ranges.
 ///
 /// It never changes. What computes a part of it carries the whole of it.

@@ -16,8 +16,8 @@ use sc_plan::Plan;
 use std::alloc::Global;
 
 /// A script with its inputs, each of which is asked for once, in the order in which the script
-/// names them first. What was read is kept behind what was kept before. No fault is planned, and the
-/// limits are those of a run that sets none.
+/// names them first. What was read is kept behind what was kept before. No fault is planned, and
+/// the limits are those of a run that sets none.
 ///
 /// # Errors
 ///

@@ -7,7 +7,7 @@ use sc_shuffle::MapOutput;
 use sc_value::{Value, print};
 use std::process::Abort;
 
-/// In each line: numbers, a mark for each of them, and the numbers of each mark, which are a bucket.
+/// In each line: numbers, a mark for each of them, and the numbers of each mark, a bucket.
 const OUTPUTS: &str = "5 6 7 8;1 0 1 2;5 7/6/8/\n\
 1 2 3;2 2 2;1 2 3/\n\
 3 2 1 0;0 1 0 1;3 1/2 0/\n\
