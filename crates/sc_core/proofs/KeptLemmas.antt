@@ -1,6 +1,5 @@
 -- Lists of inputs that are kept.
-use Rattle.std.proofs.Common.{◌≡◌, ◌≢◌, ℕ, zero, suc, Bool, true, false, List, [], ◌∷◌, Option, Some, None, IfSome, replicate, refl, Result, Ok, Err, OnOk, OnErr, rules}
-use Rattle.sc_base.specs.Lists.{at_or}
+use Rattle.std.proofs.Common.{◌≡◌, ◌≢◌, ℕ, zero, suc, Bool, true, false, List, [], ◌∷◌, Option, Some, None, IfSome, replicate, refl, Result, Ok, Err, OnOk, OnErr}
 use Rattle.sc_ids.specs.Changes.{change_at}
 use Rattle.sc_ids.specs.declared.attempts.AttemptId.{AttemptId}
 use Rattle.sc_ids.specs.declared.blocks.Loc.{Loc}
@@ -11,9 +10,8 @@ use Rattle.sc_tracker.specs.declared.outputs.Location.{Location}
 use Rattle.sc_dag.specs.DagData.{DagData, with_state}
 use Rattle.sc_dag.specs.Offers.{handed_out}
 use Rattle.sc_dag.specs.Outputs.{is_complete}
-use Rattle.sc_dag.specs.Reports.{CompletesMap, FailsStage, after_map_success, after_result_success, completed, completed_if, is_repeat, is_of_newest, map_success_of, succeeded_in_both, with_result}
+use Rattle.sc_dag.specs.Reports.{FailsStage, after_map_success, after_result_success, completed_if, is_repeat, is_of_newest, map_success_of, succeeded_in_both, with_result}
 use Rattle.sc_dag.specs.Submission.{IsSubmitted}
-use Rattle.sc_dag.specs.declared.reports.Success.{Success}
 use Rattle.sc_dag.specs.declared.reports.Success.TheVariants as successes
 use Rattle.sc_core.specs.HandOuts.{inputs_of}
 use Rattle.sc_core.specs.Kept.{AreInputs, kept_at}

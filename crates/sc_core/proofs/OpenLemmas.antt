@@ -1,5 +1,5 @@
 -- The core of a job that begins.
-use Rattle.std.proofs.Common.{◌≡◌, ◌∙◌, ℕ, List, [], Option, Some, None, IfSome, option_map, replicate, refl, ap, sym}
+use Rattle.std.proofs.Common.{◌≡◌, ℕ, List, [], Option, Some, None, IfSome, option_map, replicate, refl}
 use Rattle.sc_commit.specs.declared.committers.Committer.{Committer}
 use Rattle.sc_commit.specs.declared.committers.Committer.TheVariants.{Nobody}
 use Rattle.sc_dag.specs.DagData.{DagData}
@@ -43,14 +43,13 @@ pub opening_is : {A : Type 0} (value : A → CoreData) (graph : List StageData) 
     → committers ≡ replicate saved Nobody
     → IsOpening graph limits saved (option_map value last)
     (core_data told now 0 jobs.Running None [] [] 0 committers dag)
-opening_is value graph limits saved last t told now committers dag tracker begins telling time
-    free =
+opening_is value graph limits saved last t told now free dag tracker begins tells time all_free =
     record {
       dag = begins.dag;
       opens = rw (← last_stages value last, ← tracker) begins.opens;
       limits_are = begins.limits_are;
       submits = begins.submits;
-      told = telling;
+      told = tells;
       now = time;
       handed = refl;
       job = refl;
@@ -58,7 +57,7 @@ opening_is value graph limits saved last t told now committers dag tracker begin
       running = refl;
       shelf = refl;
       next_key = refl;
-      committers = free;
+      committers = all_free;
     }
 
 -- it is sound

@@ -1,26 +1,18 @@
 -- Where a running attempt stands among others.
-use Rattle.std.proofs.Common.{◌≡◌, ◌≢◌, ℕ, ◌+◌, ◌<◌, ◌≤◌, suc, Bool, true, false, not, cond, List, [], ◌∷◌, ◌++◌, length, take, drop, remove, Option, Some, None, slice_get, nat_lt, inl, inr, refl, ap, sym, ◌∙◌, subst, arith, rules}
+use Rattle.std.proofs.Common.{◌≡◌, ℕ, ◌+◌, ◌<◌, ◌≤◌, suc, Bool, true, false, not, cond, List, [], ◌∷◌, length, remove, Some, None, slice_get, nat_lt, inl, inr, refl, ap, sym, ◌∙◌, arith}
 use Rattle.std.specs.List.{All, AllPairs, filter, find, position, position_or_len}
 use Rattle.std.proofs.lemmas.Bool.Decides.{nat_tests}
 use Rattle.std.proofs.lemmas.List.Elements.{All-head, All-tail}
 use Rattle.std.proofs.lemmas.List.Folds.{find_at}
 use Rattle.std.proofs.lemmas.Option.{slice_get_cases, slice_get_past}
 use Rattle.sc_ids.specs.declared.attempts.AttemptId.{AttemptId}
+use Rattle.sc_taskset.proofs.FindLemmas.{pairs_head, pairs_tail}
 use Rattle.sc_commit.specs.Committing.{is_same}
 use Rattle.sc_commit.proofs.LawLemmas.{is_same_itself, same_attempt}
 use Rattle.sc_core.specs.CoreData.{is_of}
 use Rattle.sc_core.specs.Rooms.{IsRunningAt}
 use Rattle.sc_core.specs.Sound.{AreTwo}
 use Rattle.sc_core.specs.declared.running.Running.{Running}
-
--- a pair of a list, behind its first
-pairs_head : {A : Type 0} (R : A → A → Type 0) (x : A) (xs : List A)
-    → AllPairs R (x ∷ xs) → All (R x) xs
-pairs_head R x xs pairs k d l = pairs 0 (suc k) d (omega arith) (omega (arith, l))
-
-pairs_tail : {A : Type 0} (R : A → A → Type 0) (x : A) (xs : List A)
-    → AllPairs R (x ∷ xs) → AllPairs R xs
-pairs_tail R x xs pairs i j d lt l = pairs (suc i) (suc j) d (omega (arith, lt)) (omega (arith, l))
 
 module _ {A : Type 0} (R : A → A → Type 0) (p : A → Bool)
     (clash : (x y : A) → R x y → p x ≡ true → p y ≡ false) where

@@ -2,9 +2,7 @@
 use Rattle.std.specs.Prelude.{ℕ, List, [], map}
 use Rattle.std.specs.List.{flat_map}
 use Rattle.sc_base.specs.Lists.{numbers_below}
-use Rattle.sc_ids.specs.Graphs.{StageData}
 use Rattle.sc_ids.specs.declared.attempts.AttemptId.{AttemptId}
-use Rattle.sc_ids.specs.declared.blocks.ShuffleId.{ShuffleId}
 use Rattle.sc_ids.specs.declared.blocks.Target.{Target}
 use Rattle.sc_ids.specs.declared.blocks.Target.TheVariants as targets
 use Rattle.sc_tracker.specs.Outputs.{location_in}

@@ -1,5 +1,5 @@
 -- Lists of inputs that are kept until the tracker changes.
-use Rattle.std.specs.Prelude.{ℕ, ◌≡◌, List, Bool, Option, None, IfSome}
+use Rattle.std.specs.Prelude.{ℕ, ◌≡◌, List, Option, None, IfSome}
 use Rattle.sc_base.specs.Lists.{at_or}
 use Rattle.sc_tracker.specs.declared.outputs.Location.{Location}
 use Rattle.sc_dag.specs.DagData.{DagData}

@@ -1,5 +1,5 @@
 -- What a report is answered that is posted, and what that leaves.
-use Rattle.std.specs.Prelude.{ℕ, ◌≡◌, ◌==◌, ◌&&◌, ◌||◌, not, List, [], ◌∷◌, Bool, true, false, Option, Some, None, nat_lt}
+use Rattle.std.specs.Prelude.{◌≡◌, ◌==◌, ◌&&◌, ◌||◌, not, List, [], ◌∷◌, Bool, true, false, Option, Some, None, nat_lt}
 use Rattle.std.specs.List.{list_any}
 use Rattle.sc_commit.specs.declared.committers.Committer.{Committer}
 use Rattle.sc_dag.specs.DagData.{stage_at}

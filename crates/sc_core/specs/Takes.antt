@@ -1,6 +1,5 @@
 -- What an executor that asks for a task is answered, and what that leaves.
-use Rattle.std.specs.Prelude.{ℕ, ◌+◌, ◌<◌, ◌≤◌, ◌≡◌, ◌≢◌, List, [], ◌∷◌, ◌++◌, Bool, true, false, Option, Some, None}
-use Rattle.sc_dag.specs.DagData.{DagData}
+use Rattle.std.specs.Prelude.{ℕ, ◌+◌, ◌<◌, ◌≤◌, ◌≡◌, ◌≢◌, [], ◌∷◌, ◌++◌, Bool, true, false, Some, None}
 use Rattle.sc_dag.specs.Offers.{HasNone, IsOffer, handed_out}
 use Rattle.sc_ids.specs.declared.attempts.AttemptId.{AttemptId}
 use Rattle.sc_tracker.specs.TrackerData.{trust_of}

@@ -1,11 +1,10 @@
 -- What a report is answered that is told to the core, and what that leaves.
-use Rattle.std.specs.Prelude.{ℕ, ◌≡◌, ◌==◌, ◌&&◌, ◌||◌, not, List, [], ◌∷◌, Bool, true, false, Option, Some, None, if◌then◌else◌, nat_lt, slice_get}
-use Rattle.std.specs.List.{list_any}
+use Rattle.std.specs.Prelude.{ℕ, ◌≡◌, ◌&&◌, not, Bool, true, false, Option, Some, None, if◌then◌else◌, slice_get}
 use Rattle.sc_commit.specs.Committers.{committer_at}
 use Rattle.sc_commit.specs.Committing.{after_end, holds}
 use Rattle.sc_commit.specs.declared.committers.Ending.{Ending}
 use Rattle.sc_commit.specs.declared.committers.Ending.TheVariants as endings
-use Rattle.sc_dag.specs.DagData.{DagData, stage_at}
+use Rattle.sc_dag.specs.DagData.{DagData}
 use Rattle.sc_dag.specs.Losses.{after_seen}
 use Rattle.sc_dag.specs.Outputs.{is_complete}
 use Rattle.sc_dag.specs.Reports.{CompletesMap, FailsStage, after_failed, after_hold, after_map_success, after_result_success, is_finished_short, is_of_newest, map_success_of, reaches_limit_in, result_success_of, set_of}

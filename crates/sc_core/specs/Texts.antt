@@ -1,5 +1,5 @@
 -- How entries of a journal are written: one line each.
-use Rattle.std.specs.Prelude.{ℕ, List, [], ◌∷◌, ◌++◌, Option, Some, None, codes, decimal}
+use Rattle.std.specs.Prelude.{ℕ, List, [], ◌∷◌, ◌++◌, Some, None, codes, decimal}
 use Rattle.std.specs.List.{flat_map}
 use Rattle.sc_ids.specs.Attempts.{attempt_text}
 use Rattle.sc_ids.specs.declared.attempts.Mark.{Mark}

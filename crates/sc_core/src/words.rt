@@ -44,7 +44,7 @@ impl fmt::Display for Store {
     }
 }
 
-/// Where an input lies.
+/// Where an input lies; one that is missing has a hyphen, and where it was last.
 #[derive(Clone, Copy)]
 struct At {
     location: Location,

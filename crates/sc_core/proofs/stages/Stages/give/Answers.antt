@@ -1,4 +1,3 @@
-use Rattle.std.proofs.Common.{ap}
 use Rattle.sc_core.proofs.KeptLemmas.{given_inputs}
 use Rattle.sc_core.proofs.stages.Stages.give.Goals as goal
 

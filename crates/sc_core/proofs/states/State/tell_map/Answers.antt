@@ -1,4 +1,4 @@
-use Rattle.std.proofs.Common.{refl, ap, ◌∙◌}
+use Rattle.std.proofs.Common.{refl}
 use Rattle.sc_core.specs.CoreData.{CoreData, core_data}
 use Rattle.sc_core.proofs.TellLemmas.{map_told}
 use Rattle.sc_core.proofs.states.State.tell_map.Goals as goal
