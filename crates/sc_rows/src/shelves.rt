@@ -1,6 +1,6 @@
 //! The shelf of reports: which is due, and under which key.
 //!
-//! Reports stand here for their numbers. What is wanted follows by hand from the order of the calls.
+//! Reports stand here for their numbers. What is wanted follows by hand from the calls before.
 #![tactic(auto)]
 
 use self::Call::{Clears, Due, Idle, Puts, Takes};
