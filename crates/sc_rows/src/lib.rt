@@ -79,6 +79,8 @@ mod scripts;
 #[cfg(test)]
 mod shapes;
 #[cfg(test)]
+mod shelves;
+#[cfg(test)]
 mod shuffles;
 #[cfg(test)]
 mod statuses;
