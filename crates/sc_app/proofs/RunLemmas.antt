@@ -7,6 +7,7 @@ use Rattle.std.proofs.lemmas.List.{append-nil, length-map, take_all}
 use Rattle.sc_base.specs.Outside.{Files, SourceState, SinkState, HasAsked, IsLaterSource, IsQuietSource, outside_of}
 use Rattle.sc_base.specs.declared.refusals.OrMemory.{OrMemory}
 use Rattle.sc_base.specs.declared.refusals.OrMemory.TheVariants as refusals
+use Rattle.sc_ids.specs.LimitDefaults.{default_limits}
 use Rattle.sc_lineage.specs.ScriptData.{ScriptData, WorkData, IsSoundWork, AreTexts, input_names, name_of_input}
 use Rattle.sc_print.specs.declared.printing.PrintFault.{PrintFault}
 use Rattle.sc_print.specs.declared.printing.PrintFault.TheVariants as print_faults
@@ -263,7 +264,8 @@ module _ (words : List (List ℕ)) (name : List ℕ)
 
     -- all inputs were read
     module _ (after : SourceState) (more : List Read) (work : WorkData)
-        (same : work.script ≡ script)
+        (same : work.script ≡ script) (plan : work.plan ≡ [])
+        (limits : work.limits ≡ default_limits)
         (inputs : TakesInputs script before after reads more work.inputs)
         (sound : IsSoundWork work) where
       has_work : HasReadWork more work
@@ -271,6 +273,8 @@ module _ (words : List (List ℕ)) (name : List ℕ)
         read = subst (λ s. HasRead more s work.inputs) (sym same)
             (has_read work.inputs more inputs.kept);
         sound = sound;
+        plan = plan;
+        limits = limits;
       }
 
       quiet : IsQuietSource start after

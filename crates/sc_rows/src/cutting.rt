@@ -11,8 +11,9 @@ ghost use Rattle.sc_stagecut.specs.Carrying.{AreRightBounds, IsCarriedFor};
 
 use sc_columns::Rows;
 use sc_expr::{Expr, Head, Variable};
-use sc_ids::{Stage, StageGraph, Target};
+use sc_ids::{Limits, Stage, StageGraph, Target};
 use sc_lineage::{Elementwise, Meeting, Node, NodeId, Script, Shuffling, Work};
+use sc_plan::Plan;
 use sc_stagecut::{Carried, cut, laws_of_cuts, unbounded_sort};
 use std::alloc::{AllocError, Global};
 use std::fmt::Write;

@@ -10,9 +10,9 @@ ghost use Rattle.std.specs.Prelude.{◌≡◌, []};
 use self::Told::{Absent, Cached, Found, Gone, Nothing, Put, Stale, Wiped};
 use sc_cache::CachedId;
 use sc_columns::Rows;
-use sc_ids::{BlockId, Generation, Loc, ShuffleId};
+use sc_ids::{BlockId, Generation, Limits, Loc, ShuffleId};
 use sc_lineage::{Script, Work};
-use sc_plan::{Order, OrderKind};
+use sc_plan::{Order, OrderKind, Plan};
 use sc_shuffle::MapOutput;
 use sc_store::{Block, FetchAnswer, Store, WipeAnswer};
 use sc_work::{Naming, SharedWork};
@@ -158,7 +158,8 @@ fn assert_calls_of<W: Naming, R: Abort + AllocGlobal>(rt: &R, work: Work, calls:
 
 /// The same of a new store.
 fn assert_calls<R: Abort + AllocGlobal>(rt: &R, calls: &[(Call, Told)]) {
-    let work = Work::new(Script::new(rt.alloc()), Vec::new(rt.alloc()));
+    let plan = Plan::empty(rt.alloc());
+    let work = Work::new(Script::new(rt.alloc()), Vec::new(rt.alloc()), plan, Limits::default());
     assert_calls_of::<Brand, R>(rt, work, calls);
 }
 

@@ -35,7 +35,8 @@ returns-in-Ok-print_work-clause-run g c =
     λ words is. run-done words c.args.name is start before c.in-Ok.ensures.later
     c.read_script.new.reads.items taken.0 taken.1 c.in-Ok.script taken.2 after
     c.read_work.new.reads.items c.in-Ok-read_work.work c.in-Ok-read_work.ensures.work.0
-    c.in-Ok-read_work.ensures.work.1 c.is_sound.ensures (g.K.Sink.state c.args.sink.now)
+    c.in-Ok-read_work.ensures.work.1 c.in-Ok-read_work.ensures.work.2
+    c.in-Ok-read_work.ensures.work.3 c.is_sound.ensures (g.K.Sink.state c.args.sink.now)
     (g.K.Sink.state c.print_work.new.sink) c.in-Ok-print_work.ensures.prints
 
 pub returns-clause-run : goal.returns-clause-run
@@ -48,6 +49,7 @@ returns-clause-run g c =
     rw c.status_of_print.ensures (λ words is. printing-stops words c.args.name is start before
     c.in-Ok.ensures.later c.read_script.new.reads.items taken.0 taken.1 c.in-Ok.script taken.2 after
     c.read_work.new.reads.items c.in-Ok-read_work.work c.in-Ok-read_work.ensures.work.0
-    c.in-Ok-read_work.ensures.work.1 c.is_sound.ensures (g.K.Sink.state c.args.sink.now)
+    c.in-Ok-read_work.ensures.work.1 c.in-Ok-read_work.ensures.work.2
+    c.in-Ok-read_work.ensures.work.3 c.is_sound.ensures (g.K.Sink.state c.args.sink.now)
     (g.K.Sink.state c.print_work.new.sink) c.in-Err-print_work.stop
     c.in-Err-print_work.ensures.prints)
