@@ -1,7 +1,7 @@
 //! The commit coordinator of a stage.
 #![tactic(auto)]
 
-ghost use Rattle.std.specs.Prelude.{◌≡◌, ◌≢◌, ◌↔◌, IfOk, if◌then◌else◌, replicate, slice_get};
+ghost use Rattle.std.specs.Prelude.{◌≡◌, ◌≢◌, ◌↔◌, IfOk, if◌then◌else◌, length, replicate, slice_get};
 ghost use Rattle.sc_ids.specs.Changes.{change_at};
 ghost use Rattle.sc_commit.specs.CommitFacts.{IsSoundCommit};
 ghost use Rattle.sc_commit.specs.Committers.{committer_at, holder_in, winner_in};
@@ -89,6 +89,13 @@ impl Commit {
             Some(committer) => *committer,
             None => Committer::Nobody,
         }
+    }
+
+    /// How many partitions there are.
+    pub fn partitions(&self) -> usize
+        ensures { result ≡ length self.now }
+    {
+        self.committers.len()
     }
 
     /// What every coordinator keeps: holders and winners are of their partition, a partition with a

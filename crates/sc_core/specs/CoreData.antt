@@ -35,6 +35,22 @@ pub record CoreData : Type 0 where
   -- the stages
   pub dag : DagData
 
+abbrev pub core_data : ℕ → ℕ → ℕ → Job → Option ℕ → List Running → List Shelved → ℕ
+    → List Committer → DagData → CoreData
+core_data told now handed job left_first running shelf next_key committers dag =
+    record {
+      told = told;
+      now = now;
+      handed = handed;
+      job = job;
+      left_first = left_first;
+      running = running;
+      shelf = shelf;
+      next_key = next_key;
+      committers = committers;
+      dag = dag;
+    }
+
 abbrev pub with_dag : CoreData → DagData → CoreData
 with_dag c dag = record c { dag = dag }
 

@@ -2,6 +2,9 @@
 use Rattle.std.specs.Prelude.{◌≡◌, List, [], ◌∷◌}
 use Rattle.sc_core.specs.CoreData.{CoreData}
 use Rattle.sc_core.specs.Steps.{Steps}
+use Rattle.sc_ids.specs.declared.attempts.Mark.{Mark}
+use Rattle.sc_core.specs.declared.answers.Answer.{Answer}
+use Rattle.sc_core.specs.declared.events.Event.{Event}
 use Rattle.sc_core.specs.declared.entries.Entry.{Entry}
 
 -- from a state, these entries may be what happened, and leave another one
@@ -9,6 +12,10 @@ abbrev pub Replays : CoreData → List Entry → CoreData → Type 0
 Replays opening [] end = end ≡ opening
 Replays opening (entry ∷ entries) end =
     (mid : CoreData) × Steps opening entry.event entry.answer mid × Replays mid entries end
+
+-- what happened, by whom, and what it was answered
+abbrev pub entry : Mark → Event → Answer → Entry
+entry by event answer = record { by = by; event = event; answer = answer }
 
 -- a journal: how it began, its entries, and the state now
 pub record JournalData : Type 0 where

@@ -1,8 +1,11 @@
 pub mod HandOuts
+pub mod Kept
+pub mod Owners
 pub mod CoreData
 pub mod Takes
 pub mod Tells
 pub mod Posts
+pub mod Rooms
 pub mod Steps
 pub mod Openings
 pub mod Sound

@@ -43,3 +43,12 @@ pub record IsOpening (graph : List StageData) (limits : Limits) (saved : ℕ)
   pub shelf : c.shelf ≡ []
   pub next_key : c.next_key ≡ 0
   pub committers : c.committers ≡ replicate saved Nobody
+
+-- The stages of a job that begins with these limits, behind those of another job or none, once the
+-- result stage is submitted.
+pub record BeginsWith (graph : List StageData) (limits : Limits) (last : Option DagData)
+    (t : TrackerData) (after : DagData) : Type 0 where
+  pub dag : DagData
+  pub opens : Opens graph last t dag
+  pub limits_are : dag.limits ≡ limits
+  pub submits : IsSubmitted dag (this_stage (result_stage dag)) after

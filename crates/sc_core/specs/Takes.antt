@@ -1,5 +1,5 @@
 -- What an executor that asks for a task is answered, and what that leaves.
-use Rattle.std.specs.Prelude.{ℕ, ◌+◌, ◌<◌, ◌≤◌, ◌≡◌, List, [], ◌∷◌, ◌++◌, Bool, true, false, Option, Some, None}
+use Rattle.std.specs.Prelude.{ℕ, ◌+◌, ◌<◌, ◌≤◌, ◌≡◌, ◌≢◌, List, [], ◌∷◌, ◌++◌, Bool, true, false, Option, Some, None}
 use Rattle.sc_dag.specs.DagData.{DagData}
 use Rattle.sc_dag.specs.Offers.{HasNone, IsOffer, handed_out}
 use Rattle.sc_ids.specs.declared.attempts.AttemptId.{AttemptId}
@@ -63,3 +63,7 @@ Takes c exec (says.Aborted Budget) after =
 Takes c exec (says.Wait out) after =
     IsAsking c exec × HasNone c.dag exec × (under_way c ≡ Some out) × (after ≡ c)
 Takes c exec answer after = ⊥
+
+-- where an executor may have to wait, an attempt is under way
+abbrev pub WaitsWell : CoreData → ℕ → Type 0
+WaitsWell c exec = job_runs c ≡ true → HasNone c.dag exec → under_way c ≢ None

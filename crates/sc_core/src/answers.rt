@@ -1,8 +1,12 @@
 //! What a core answers.
 #![tactic(auto)]
 
+ghost use Rattle.std.specs.Prelude.{◌≡◌, IfOk, false};
+ghost use Rattle.sc_core.specs.Owners.{IsThrice, has_task};
+
 use crate::running::HandOut;
 use sc_ids::{AttemptId, ExecId, StageId};
+use std::alloc::AllocError;
 
 /// Why a job was aborted.
 #[derive(Clone, Copy, Debug, PartialEq, Eq)]
@@ -83,3 +87,71 @@ pub enum Answer {
 /// The answer to an event that isn't enabled: a report that doesn't fit its running attempt.
 #[derive(Clone, Copy, Debug, PartialEq, Eq)]
 pub struct NotEnabled;
+
+impl Answer {
+    /// One more owner of what is answered.
+    pub fn share(&self) -> Result<Answer, AllocError>
+        ensures { IfOk result (λ a. a ≡ self.now) }
+    {
+        match self {
+            Answer::Task(hand_out) => Ok(Answer::Task(hand_out.share()?)),
+            _ => Ok(copied(self)),
+        }
+    }
+}
+
+/// An answer that hands out no task, once more.
+fn copied(answer: &Answer) -> Answer
+    requires { has_task answer.now ≡ false }
+    ensures { result ≡ answer.now }
+{
+    match answer {
+        Answer::Task(_) => unreachable!(),
+        Answer::Wait { out } => Answer::Wait { out: *out },
+        Answer::Busy { held } => Answer::Busy { held: *held },
+        Answer::Lost => Answer::Lost,
+        Answer::Stopped { exec } => Answer::Stopped { exec: *exec },
+        Answer::Ended => Answer::Ended,
+        Answer::Aborted(why) => Answer::Aborted(*why),
+        Answer::Ignored => Answer::Ignored,
+        Answer::Repeated => Answer::Repeated,
+        Answer::Registered => Answer::Registered,
+        Answer::Bogus => Answer::Bogus,
+        Answer::Finished => Answer::Finished,
+        Answer::Again => Answer::Again,
+        Answer::Resubmitted => Answer::Resubmitted,
+    }
+}
+
+/// What a step answers, for three owners: the journal, the caller, and the executor's log.
+#[derive(Drop)]
+pub struct Stepped {
+    /// For the journal.
+    pub answer: Answer,
+    /// For the caller.
+    pub twin: Answer,
+    /// For the executor's log.
+    pub log: Answer,
+}
+
+impl Stepped {
+    /// An answer that hands out no task. It takes no memory.
+    pub(crate) fn plain(answer: Answer) -> Stepped
+        requires { has_task answer ≡ false }
+        ensures { IsThrice result answer }
+    {
+        let twin = copied(&answer);
+        let log = copied(&answer);
+        Stepped { answer, twin, log }
+    }
+
+    /// A task that is handed out.
+    pub(crate) fn task(hand_out: HandOut) -> Result<Stepped, AllocError>
+        ensures { IfOk result (λ s. IsThrice s (Answer.Task hand_out)) }
+    {
+        let twin = Answer::Task(hand_out.share()?);
+        let log = Answer::Task(hand_out.share()?);
+        let answer = Answer::Task(hand_out);
+        Ok(Stepped { answer, twin, log })
+    }
+}

@@ -12,12 +12,27 @@
 #![tactic(auto)]
 
 mod answers;
+mod attempts;
+mod cores;
 mod entries;
 mod events;
+mod fits;
+mod inputs;
+mod journals;
+mod kept;
 mod laws;
+mod openings;
+mod posts;
 mod running;
+mod stages;
+mod states;
+mod takes;
+mod tells;
 
-pub use answers::{Abort, Answer, Job, NotEnabled};
+pub use answers::{Abort, Answer, Job, NotEnabled, Stepped};
+pub use cores::Core;
 pub use entries::Entry;
 pub use events::{Event, Outcome};
+pub use inputs::Inputs;
+pub use journals::{JobHistory, Journal};
 pub use running::{HandOut, Phase, Running, Shelved};

@@ -5,11 +5,11 @@ ghost use Rattle.std.specs.Prelude.{◌≡◌, IfOk};
 ghost use Rattle.sc_core.specs.HandOuts.{hand_out};
 
 use crate::events::Outcome;
+use crate::inputs::Inputs;
 use sc_ids::{AttemptId, Epoch, ExecId, Fault};
 use sc_tracker::Location;
-use std::alloc::{AllocError, Global};
+use std::alloc::AllocError;
 use std::marker::Model;
-use std::sync::Arc;
 
 /// What is handed out with a task: which attempt it is, the tracker's epoch, and where the blocks
 /// lie that its stage reads, by parent and then by map partition. The list is shared by all tasks
@@ -18,16 +18,60 @@ use std::sync::Arc;
 pub struct HandOut {
     attempt: AttemptId,
     epoch: Epoch,
-    inputs: Arc<Vec<Location>, Global>,
+    inputs: Inputs,
 }
 
 impl Model for HandOut {
-    ghost use Rattle.std.specs.Arc.{arc_value};
     ghost use Rattle.sc_core.specs.HandOuts.{HandOutData, hand_out};
 
     ghost Value = { HandOutData };
 
-    ghost view = { λ h. hand_out h.attempt h.epoch (arc_value h.inputs).items };
+    ghost view = { λ h. hand_out h.attempt h.epoch h.inputs };
+}
+
+impl HandOut {
+    /// What is handed out with an attempt in this epoch, whose inputs lie there.
+    pub fn new(attempt: AttemptId, epoch: Epoch, inputs: Inputs) -> HandOut
+        ensures { result ≡ hand_out attempt epoch inputs }
+    {
+        HandOut {
+            attempt,
+            epoch,
+            inputs,
+        }
+    }
+
+    /// One more owner. No location is copied.
+    pub fn share(&self) -> Result<HandOut, AllocError>
+        ensures { IfOk result (λ h. h ≡ self.now) }
+    {
+        Ok(HandOut {
+            attempt: self.attempt,
+            epoch: self.epoch,
+            inputs: self.inputs.share()?,
+        })
+    }
+
+    /// Which attempt it is.
+    pub fn attempt(&self) -> AttemptId
+        ensures { result ≡ self.now.attempt }
+    {
+        self.attempt
+    }
+
+    /// The tracker's epoch when it was handed out.
+    pub fn epoch(&self) -> Epoch
+        ensures { result ≡ self.now.epoch }
+    {
+        self.epoch
+    }
+
+    /// Where the blocks lie that its stage reads.
+    pub fn inputs(&self) -> &[Location]
+        ensures { result.now ≡ self.now.inputs }
+    {
+        self.inputs.as_slice()
+    }
 }
 
 /// How far a running attempt of a save has come. All other attempts stay at the first.

@@ -2,7 +2,7 @@
 #![tactic(auto)]
 
 ghost use Rattle.std.specs.Prelude.{◌≡◌, ◌+◌, ◌-◌, OnOk, IfOk, false, length, Some, true};
-ghost use Rattle.sc_dag.specs.DagData.{is_live, newest_set, place_of_attempt};
+ghost use Rattle.sc_dag.specs.DagData.{attempt_in, is_live, is_live_set, newest_set, place_of_attempt, set_in};
 ghost use Rattle.sc_dag.specs.Offers.{OffersIn};
 ghost use Rattle.sc_dag.specs.Openings.{blank_state};
 ghost use Rattle.sc_dag.specs.Outputs.{is_complete_by};
@@ -107,6 +107,16 @@ impl StageRow {
         ensures { result ≡ is_live self.now.state }
     {
         match newest(&self.attempts) {
+            Some(attempt) => !attempt.set.is_zombie(),
+            None => false,
+        }
+    }
+
+    /// Whether the attempt of a number hands out tasks.
+    pub fn hands_out(&self, number: u64) -> bool
+        ensures { result ≡ is_live_set (set_in (attempt_in self.now.state number)) }
+    {
+        match self.attempts.get(self.place(number)) {
             Some(attempt) => !attempt.set.is_zombie(),
             None => false,
         }

@@ -1,12 +1,12 @@
 //! The tracker.
 #![tactic(auto)]
 
-ghost use Rattle.std.specs.Prelude.{◌≡◌, [], IfOk, OnErr, OnOk, if◌then◌else◌, is_ok, replicate};
+ghost use Rattle.std.specs.Prelude.{◌≡◌, [], IfOk, OnErr, OnOk, if◌then◌else◌, is_ok, replicate, slice_get};
 ghost use Rattle.sc_tracker.specs.Outputs.{location_in};
 ghost use Rattle.sc_tracker.specs.TrackerData.{output_of, tracker_data, trust_of};
 ghost use Rattle.sc_tracker.specs.TrackerFacts.{IsSoundTracker};
 ghost use Rattle.sc_tracker.specs.Tracking.{after_executor_lost, after_gone, emptied, is_bogus, registered, sized};
-ghost use Rattle.sc_tracker.specs.Trust.{untold};
+ghost use Rattle.sc_tracker.specs.Trust.{is_newer, untold};
 
 use crate::outputs::{Location, Output};
 use crate::shuffles::{
@@ -162,6 +162,13 @@ impl Tracker {
         ensures { result ≡ (trust_of self.now exec).seen }
     {
         trust_at(self.trust.as_slice(), exec).seen
+    }
+
+    /// Whether an executor is there, and a generation of its store is newer than what was seen.
+    pub fn is_newer(&self, exec: ExecId, found: Generation) -> bool
+        ensures { result ≡ is_newer (slice_get self.now.trust exec) found }
+    {
+        is_newer(self.trust.as_slice(), exec, found)
     }
 
     /// The epoch when an executor's outputs were last forgotten.

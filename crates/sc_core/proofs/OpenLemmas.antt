@@ -1,0 +1,69 @@
+-- The core of a job that begins.
+use Rattle.std.proofs.Common.{◌≡◌, ◌∙◌, ℕ, List, [], Option, Some, None, IfSome, option_map, replicate, refl, ap, sym}
+use Rattle.sc_commit.specs.declared.committers.Committer.{Committer}
+use Rattle.sc_commit.specs.declared.committers.Committer.TheVariants.{Nobody}
+use Rattle.sc_dag.specs.DagData.{DagData}
+use Rattle.sc_dag.specs.Openings.{FitsJob, IsJob, Opens}
+use Rattle.sc_dag.specs.Submission.{IsSubmitted, this_stage}
+use Rattle.sc_ids.specs.Graphs.{StageData}
+use Rattle.sc_ids.specs.declared.limits.Limits.{Limits}
+use Rattle.sc_tracker.specs.TrackerData.{TrackerData}
+use Rattle.sc_core.specs.CoreData.{CoreData, core_data, result_stage}
+use Rattle.sc_core.specs.Openings.{BeginsWith, IsOpening, now_before, told_before, tracker_behind}
+use Rattle.sc_core.specs.Sound.{IsSoundCore}
+use Rattle.sc_core.specs.declared.answers.Job.TheVariants as jobs
+use Rattle.sc_core.proofs.Pending.{openings_are_sound}
+
+-- the stages are opened, and the result stage is submitted
+pub begins_with : (graph : List StageData) (limits : Limits) (last before : Option DagData)
+    (t : TrackerData) (dag mid after : DagData) → before ≡ last → Opens graph before t dag
+    → dag.limits ≡ limits → mid ≡ dag
+    → IsSubmitted mid (this_stage (result_stage mid)) after → BeginsWith graph limits last t after
+begins_with graph limits last before t dag mid after is opens limited same submits =
+    record {
+      dag = dag;
+      opens = rw (← is) opens;
+      limits_are = limited;
+      submits = rw same at submits;
+    }
+
+-- the stages of the job before
+last_stages : {A : Type 0} (value : A → CoreData) (last : Option A)
+    → option_map (λ l. (value l).dag) last ≡ option_map (λ c. c.dag) (option_map value last)
+last_stages value None = refl
+last_stages value (Some l) = refl
+
+-- all else is as where nothing happened
+pub opening_is : {A : Type 0} (value : A → CoreData) (graph : List StageData) (limits : Limits)
+    (saved : ℕ) (last : Option A) (t : TrackerData) (told now : ℕ) (committers : List Committer)
+    (dag : DagData)
+    → t ≡ tracker_behind (option_map value last) limits
+    → BeginsWith graph limits (option_map (λ l. (value l).dag) last) t dag
+    → told ≡ told_before (option_map value last) → now ≡ now_before (option_map value last)
+    → committers ≡ replicate saved Nobody
+    → IsOpening graph limits saved (option_map value last)
+    (core_data told now 0 jobs.Running None [] [] 0 committers dag)
+opening_is value graph limits saved last t told now committers dag tracker begins telling time free =
+    record {
+      dag = begins.dag;
+      opens = rw (← last_stages value last, ← tracker) begins.opens;
+      limits_are = begins.limits_are;
+      submits = begins.submits;
+      told = telling;
+      now = time;
+      handed = refl;
+      job = refl;
+      left_first = refl;
+      running = refl;
+      shelf = refl;
+      next_key = refl;
+      committers = free;
+    }
+
+-- it is sound
+pub opening_sound : (graph : List StageData) (limits : Limits) (saved : ℕ)
+    (last before : Option CoreData) (c : CoreData) → before ≡ last → IsJob graph
+    → FitsJob (tracker_behind last limits) graph → IfSome last IsSoundCore
+    → IsOpening graph limits saved before c → IsSoundCore c
+opening_sound graph limits saved last before c is job fits sound opening =
+    openings_are_sound graph limits saved last c job fits sound (rw (← is) opening)

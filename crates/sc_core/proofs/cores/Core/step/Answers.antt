@@ -1,0 +1,18 @@
+use Rattle.sc_core.specs.declared.events.Event.TheVariants.{Post, Take}
+use Rattle.sc_core.proofs.CoreLemmas.{stepped_sound}
+use Rattle.sc_core.proofs.Pending.{waits_have_cause}
+use Rattle.sc_core.proofs.cores.Core.step.Goals as goal
+
+pub take-requires : goal.take-requires
+take-requires c = waits_have_cause c.self.inside.state.0 c.in-Take.exec c.self.invariant
+
+pub invariant_of-self-in-Take : goal.invariant_of-self-in-Take
+invariant_of-self-in-Take c =
+    stepped_sound c.self.inside.state.0 c.take.new.self.0 (Take c.in-Take.exec) c.take.result
+    c.self.invariant c.take.ensures.ok c.take.ensures.err
+
+pub invariant_of-self-in-Post : goal.invariant_of-self-in-Post
+invariant_of-self-in-Post c =
+    stepped_sound c.self.inside.state.0 c.post.new.self.0
+    (Post c.in-Post.attempt c.in-Post.outcome) c.post.result c.self.invariant
+    c.post.ensures.ok c.post.ensures.err

@@ -1,0 +1,10 @@
+use Rattle.std.proofs.Common.{ap}
+use Rattle.sc_dag.specs.DagData.{DagData}
+use Rattle.sc_core.proofs.KeptLemmas.{same_inputs}
+use Rattle.sc_core.proofs.stages.Stages.held.Goals as goal
+
+pub invariant_of-self : goal.invariant_of-self
+invariant_of-self c =
+    same_inputs c.self.inside.dag.0 c.held.new.self.0 c.self.inside.kept
+    (ap (λ (d : DagData). d.stages) c.held.ensures.state)
+    (ap (λ (d : DagData). d.tracker) c.held.ensures.state) c.self.invariant

@@ -1,0 +1,141 @@
+//! The core.
+#![tactic(auto)]
+
+ghost use Rattle.std.specs.Prelude.{◌≡◌, IfOk, IfSome, OnErr, false, true};
+ghost use Rattle.std.specs.Option.{option_map};
+ghost use Rattle.sc_dag.specs.DagData.{stage_at};
+ghost use Rattle.sc_dag.specs.Openings.{FitsJob, IsJob};
+ghost use Rattle.sc_core.specs.CoreData.{job_runs, result_stage};
+ghost use Rattle.sc_core.specs.Openings.{IsOpening, tracker_behind};
+ghost use Rattle.sc_core.specs.Owners.{IsThrice};
+ghost use Rattle.sc_core.specs.Sound.{IsSoundCore};
+ghost use Rattle.sc_core.specs.Steps.{Steps, is_enabled};
+ghost use Rattle.sc_core.specs.declared.answers.NotEnabled.{NotEnabled};
+
+use crate::answers::{Job, NotEnabled, Stepped};
+use crate::events::Event;
+use crate::running::Running;
+use crate::states::State;
+use sc_base::OrMemory;
+use sc_ids::{Limits, StageGraph, StageId};
+use std::alloc::{AllocError, Global};
+use std::marker::Model;
+
+/// The scheduler of one job. Contracts see its data; what holds of every core is kept by its type.
+#[derive(Drop)]
+pub struct Core {
+    state: State,
+}
+
+impl Model for Core {
+    ghost use Rattle.sc_core.specs.CoreData.{CoreData};
+    ghost use Rattle.sc_core.specs.Sound.{IsSoundCore};
+
+    ghost Value = { CoreData };
+
+    ghost view = { λ c. c.state.0 };
+
+    ghost invariant = { λ c. IsSoundCore c.state.0 };
+}
+
+impl Core {
+    /// The core of a job with these stages, which saves so many partitions or none, behind another
+    /// job or none. What that one's tracker knows of shuffles is carried on.
+    pub fn open(
+        alloc: Global,
+        graph: &StageGraph,
+        limits: Limits,
+        saved: u32,
+        last: Option<&Core>,
+    ) -> Result<Core, AllocError>
+        requires job { IsJob graph.now }
+        requires fits { FitsJob (tracker_behind (option_map (λ l. l.now) last) limits) graph.now }
+        ensures { IfOk result
+            (λ c. IsOpening graph.now limits saved (option_map (λ l. l.now) last.entry) c) }
+    {
+        let state = State::open(alloc, graph, limits, saved, state_behind(last))?;
+        Ok(Core { state })
+    }
+
+    /// One event. Where memory is wanting, or the event isn't enabled, nothing changes.
+    pub fn step(&mut self, event: &Event) -> Result<Stepped, OrMemory<NotEnabled>>
+        ensures ok { IfOk result (λ s. Steps self.old event.now s.answer self.new) }
+        ensures thrice { IfOk result (λ s. IsThrice s s.answer) }
+        ensures not_enabled { (fault : NotEnabled) → result ≡ Err (OrMemory.Fault fault)
+            → is_enabled self.old event.now ≡ false }
+        ensures enabled { IfOk result (λ s. is_enabled self.old event.now ≡ true) }
+        ensures err { OnErr result (self.new ≡ self.old) }
+    {
+        match *event {
+            Event::Take { exec } => Ok(self.state.take(exec)?),
+            Event::Post { attempt, outcome } => self.state.post(attempt, outcome),
+        }
+    }
+
+    /// How far the job is.
+    pub fn job(&self) -> Job
+        ensures { result ≡ self.now.job }
+    {
+        self.state.job
+    }
+
+    /// How many reports were told in the run so far, while the count fits.
+    pub fn told(&self) -> u64
+        ensures { result ≡ self.now.told }
+    {
+        self.state.told
+    }
+
+    /// How many tasks were handed out in this job.
+    pub fn handed(&self) -> u32
+        ensures { result ≡ self.now.handed }
+    {
+        self.state.handed
+    }
+
+    /// The limits of the run.
+    pub fn limits(&self) -> Limits
+        ensures { result ≡ self.now.dag.limits }
+    {
+        self.state.stages.dag().limits()
+    }
+
+    /// The attempts that run, the one handed out first in front.
+    pub fn running(&self) -> &[Running]
+        ensures { result.now ≡ self.now.running }
+    {
+        self.state.running.as_slice()
+    }
+
+    /// The number of the result stage.
+    pub fn result_stage(&self) -> StageId
+        ensures { result ≡ result_stage self.now.dag }
+    {
+        self.state.stages.dag().last_stage()
+    }
+
+    /// How many tasks a stage has.
+    pub fn tasks(&self, stage: StageId) -> u32
+        ensures { result ≡ (stage_at self.now.dag stage).tasks }
+    {
+        self.state.stages.dag().tasks(stage)
+    }
+
+    /// What every core keeps.
+    pub fn is_sound(&self)
+        ensures { IsSoundCore self.now }
+    {
+        let _ = &self.state;
+    }
+}
+
+/// The state of the job before.
+fn state_behind(last: Option<&Core>) -> Option<&State>
+    ensures state { option_map (λ s. s.now.0) result ≡ option_map (λ l. l.now) last.entry }
+    ensures sound { IfSome (option_map (λ l. l.now) last.entry) IsSoundCore }
+{
+    match last {
+        Some(core) => Some(&core.state),
+        None => None,
+    }
+}

@@ -1,0 +1,114 @@
+//! The core of a job that begins.
+#![tactic(auto)]
+
+ghost use Rattle.std.specs.Prelude.{◌≡◌, IfOk};
+ghost use Rattle.std.specs.Option.{option_map};
+ghost use Rattle.sc_dag.specs.Openings.{FitsJob, IsJob};
+ghost use Rattle.sc_core.specs.Openings.{BeginsWith, IsOpening, now_before, told_before, tracker_behind};
+
+use crate::answers::Job;
+use crate::stages::Stages;
+use crate::states::State;
+use sc_commit::Commit;
+use sc_ids::{Limits, StageGraph};
+use sc_tracker::Tracker;
+use std::alloc::{AllocError, Global};
+
+impl State {
+    /// A job that begins with its result stage submitted, behind another one or none.
+    pub fn open(
+        alloc: Global,
+        graph: &StageGraph,
+        limits: Limits,
+        saved: u32,
+        last: Option<&State>,
+    ) -> Result<State, AllocError>
+        requires job { IsJob graph.now }
+        requires fits { FitsJob (tracker_behind (option_map (λ l. l.now.0) last) limits)
+            graph.now }
+        ensures { IfOk result
+            (λ s. IsOpening graph.now limits saved (option_map (λ l. l.now.0) last.entry) s.0) }
+    {
+        let told = told_before(last);
+        let tick = now_before(last);
+        let commit = Commit::begin(alloc, saved)?;
+        let tracker = tracker_behind(alloc, limits, last)?;
+        let stages = submitted(alloc, graph, limits, last, tracker)?;
+        Ok(State {
+            told,
+            tick,
+            handed: 0,
+            job: Job::Running,
+            left_first: None,
+            running: Vec::new(alloc),
+            shelf: Vec::new(alloc),
+            next_key: 0,
+            commit,
+            stages,
+        })
+    }
+}
+
+/// The stages with the result stage submitted.
+fn submitted(
+    alloc: Global,
+    graph: &StageGraph,
+    limits: Limits,
+    last: Option<&State>,
+    tracker: Tracker,
+) -> Result<Stages, AllocError>
+    requires job { IsJob graph.now }
+    requires fits { FitsJob tracker graph.now }
+    ensures { IfOk result (λ s. BeginsWith graph.now limits
+        (option_map (λ l. l.now.0.dag) last.entry) tracker s.0) }
+{
+    let mut stages = Stages::open(alloc, graph, stages_behind(last), tracker, limits)?;
+    stages.prepare()?;
+    stages.submit_result();
+    Ok(stages)
+}
+
+/// The stages of the job before.
+fn stages_behind(last: Option<&State>) -> Option<&Stages>
+    ensures { option_map (λ s. s.now.0) result ≡ option_map (λ l. l.now.0.dag) last.entry }
+{
+    match last {
+        Some(state) => Some(&state.stages),
+        None => None,
+    }
+}
+
+/// The tracker that is carried on from the job before, or a new one.
+fn tracker_behind(
+    alloc: Global,
+    limits: Limits,
+    last: Option<&State>,
+) -> Result<Tracker, AllocError>
+    ensures { IfOk result
+        (λ t. t ≡ tracker_behind (option_map (λ l. l.now.0) last.entry) limits) }
+{
+    match last {
+        Some(state) => state.stages.dag().tracker().copied(),
+        None => Tracker::new(alloc, limits.executors),
+    }
+}
+
+/// How many reports were told before.
+fn told_before(last: Option<&State>) -> u64
+    ensures { result ≡ told_before (option_map (λ l. l.now.0) last.entry) }
+{
+    match last {
+        Some(state) => state.told,
+        None => 0,
+    }
+}
+
+/// The greatest tick before.
+fn now_before(last: Option<&State>) -> u64
+    ensures { result ≡ now_before (option_map (λ l. l.now.0) last.entry) }
+{
+    match last {
+        Some(state) => state.tick,
+        None => 0,
+    }
+}
