@@ -21,6 +21,7 @@ mod attempts;
 mod changes;
 mod dags;
 mod fates;
+mod laws;
 mod openings;
 mod outputs;
 mod readers;
