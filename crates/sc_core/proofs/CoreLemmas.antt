@@ -7,7 +7,7 @@ use Rattle.sc_core.specs.Steps.{Steps}
 use Rattle.sc_core.specs.declared.answers.Stepped.{Stepped}
 use Rattle.sc_core.specs.declared.entries.Entry.{Entry}
 use Rattle.sc_core.specs.declared.events.Event.{Event}
-use Rattle.sc_core.proofs.Pending.{steps_keep_sound}
+use Rattle.sc_core.proofs.LawLemmas.{steps_keep_sound}
 
 -- a call that steps, or changes nothing
 pub stepped_sound : {E : Type 0} (c after : CoreData) (event : Event) (result : Result Stepped E)

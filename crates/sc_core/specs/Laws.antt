@@ -15,7 +15,7 @@ use Rattle.sc_core.specs.CoreData.{CoreData, job_runs, result_stage, under_way}
 use Rattle.sc_core.specs.Journals.{Replays}
 use Rattle.sc_core.specs.Openings.{IsOpening, tracker_behind}
 use Rattle.sc_core.specs.Sound.{IsSoundCore}
-use Rattle.sc_core.specs.Steps.{Steps}
+use Rattle.sc_core.specs.Steps.{Steps, is_enabled}
 use Rattle.sc_core.specs.Takes.{IsAsking}
 use Rattle.sc_core.specs.declared.answers.Abort.TheVariants.{Budget, TaskLimit}
 use Rattle.sc_core.specs.declared.answers.Answer.{Answer}
@@ -56,6 +56,12 @@ abbrev pub ReplaysAgree : Type 0
 ReplaysAgree =
     (opening x y : CoreData) (entries : List Entry) → IsSoundCore opening
     → Replays opening entries x → Replays opening entries y → x ≡ y
+
+-- an event that is enabled has an answer
+abbrev pub EventsAreAnswered : Type 0
+EventsAreAnswered =
+    (c : CoreData) (event : Event) → IsSoundCore c → is_enabled c event ≡ true
+    → (answer : Answer) × (after : CoreData) × Steps c event answer after
 
 -- where an executor asks and no stage has a task for it, an attempt is under way
 abbrev pub WaitsHaveCause : Type 0

@@ -10,4 +10,6 @@ pub mod Steps
 pub mod Openings
 pub mod Sound
 pub mod Journals
+pub mod Texts
+pub mod Stories
 pub mod Laws

@@ -1,8 +1,8 @@
 -- What holds of every core.
-use Rattle.std.specs.Prelude.{ℕ, ◌<◌, ◌≤◌, ◌≡◌, ◌≢◌, List, [], Bool, true, false, Option, Some, None, All}
+use Rattle.std.specs.Prelude.{ℕ, ◌≤◌, ◌≡◌, ◌≢◌, ◌⊎◌, [], true, false, Some, None, All}
 use Rattle.std.specs.List.{AllPairs}
 use Rattle.sc_commit.specs.Committing.{is_same}
-use Rattle.sc_dag.specs.DagData.{DagData, stage_at}
+use Rattle.sc_dag.specs.DagData.{no_stage, stage_at}
 use Rattle.sc_dag.specs.Outputs.{is_complete}
 use Rattle.sc_dag.specs.Settled.{IsSettled, IsUnderWay}
 use Rattle.sc_dag.specs.Sound.{IsSoundDag, attempts_of, runner_of}
@@ -40,8 +40,10 @@ IsUnheld a = All (λ task. task.denied ≡ false) a.set.tasks
 -- every core
 pub record IsSoundCore (c : CoreData) : Type 0 where
   pub dag : IsSoundDag c.dag
-  -- the last stage is the result stage
+  -- the last stage is the result stage, and all others of the job are map stages
   pub result : is_map (stage_at c.dag (result_stage c.dag)).target ≡ false
+  pub maps : (s : ℕ) → s ≢ result_stage c.dag
+      → (is_map (stage_at c.dag s).target ≡ true) ⊎ (stage_at c.dag s ≡ no_stage)
   -- what runs, runs in its task set, and what runs in a task set is known
   pub running : All (RunsWell c) c.running
   pub known : (a : AttemptId) (exec : ℕ) → runner_of c.dag a ≡ Some exec

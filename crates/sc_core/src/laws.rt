@@ -1,7 +1,7 @@
 //! Laws of cores, as functions that do nothing.
 #![tactic(auto)]
 
-ghost use Rattle.sc_core.specs.Laws.{DoneJobsAreWhole, NeverStuck, OpeningsAreSound, ReplaysAgree, ReplaysKeepSound, StepsAgree, StepsAreSpent, StepsKeepSound, TaskLimitsAreReached, WaitsHaveCause};
+ghost use Rattle.sc_core.specs.Laws.{DoneJobsAreWhole, EventsAreAnswered, NeverStuck, OpeningsAreSound, ReplaysAgree, ReplaysKeepSound, StepsAgree, StepsAreSpent, StepsKeepSound, TaskLimitsAreReached, WaitsHaveCause};
 
 /// An event has one answer and leaves one state, and so a journal does. A call does nothing.
 pub fn steps_have_one_answer()
@@ -16,9 +16,10 @@ pub fn cores_are_sound()
     ensures replays { ReplaysKeepSound }
 {}
 
-/// A job never sticks: who waits waits for an attempt that is under way, and where none is there
-/// is a task. A call does nothing.
+/// A job never sticks: each event that is enabled has an answer, who waits waits for an attempt
+/// that is under way, and where none is there is a task. A call does nothing.
 pub fn jobs_never_stick()
+    ensures answered { EventsAreAnswered }
     ensures waits { WaitsHaveCause }
     ensures never_stuck { NeverStuck }
     ensures spent { StepsAreSpent }

@@ -26,8 +26,11 @@ mod posts;
 mod running;
 mod stages;
 mod states;
+mod stories;
 mod takes;
 mod tells;
+mod texts;
+mod words;
 
 pub use answers::{Abort, Answer, Job, NotEnabled, Stepped};
 pub use cores::Core;
@@ -36,3 +39,4 @@ pub use events::{Event, Outcome};
 pub use inputs::Inputs;
 pub use journals::{JobHistory, Journal};
 pub use running::{HandOut, Phase, Running, Shelved};
+pub use stories::story;

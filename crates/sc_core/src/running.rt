@@ -66,6 +66,13 @@ impl HandOut {
         self.epoch
     }
 
+    /// The list of them.
+    pub(crate) fn listed(&self) -> &Inputs
+        ensures { result.now ≡ self.now.inputs }
+    {
+        &self.inputs
+    }
+
     /// Where the blocks lie that its stage reads.
     pub fn inputs(&self) -> &[Location]
         ensures { result.now ≡ self.now.inputs }

@@ -1,6 +1,6 @@
 use Rattle.sc_core.specs.declared.events.Event.TheVariants.{Post, Take}
 use Rattle.sc_core.proofs.CoreLemmas.{stepped_sound}
-use Rattle.sc_core.proofs.Pending.{waits_have_cause}
+use Rattle.sc_core.proofs.LawLemmas.{waits_have_cause}
 use Rattle.sc_core.proofs.cores.Core.step.Goals as goal
 
 pub take-requires : goal.take-requires

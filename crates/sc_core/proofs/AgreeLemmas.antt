@@ -1,0 +1,209 @@
+-- An event has one answer in a state, and leaves one state; so a journal leaves one.
+use Rattle.std.proofs.Common.{◌≡◌, ℕ, ◌==◌, ◌&&◌, not, Bool, true, false, [], ◌∷◌, Option, Some, None, slice_get, refl, ap, sym, subst, ◌∙◌, arith}
+use Rattle.std.proofs.lemmas.Bool.Decides.{nat_tests}
+use Rattle.sc_ids.specs.declared.attempts.AttemptId.{AttemptId}
+use Rattle.sc_ids.specs.declared.blocks.Loc.{Loc}
+use Rattle.sc_ids.specs.declared.failures.FailureCause.{FailureCause}
+use Rattle.sc_ids.specs.declared.failures.FailureCause.TheVariants as causes
+use Rattle.sc_commit.specs.declared.committers.Ending.TheVariants as endings
+use Rattle.sc_taskset.specs.declared.tasks.Verdict.{Verdict}
+use Rattle.sc_taskset.specs.declared.tasks.Verdict.TheVariants as verdicts
+use Rattle.sc_tracker.specs.Trust.{is_newer}
+use Rattle.sc_dag.specs.DagData.{DagData, stage_at, with_state}
+use Rattle.sc_dag.specs.Laws.{CallsKeepSound, OthersGoOn, SubmissionsAgree}
+use Rattle.sc_dag.specs.Losses.{after_seen}
+use Rattle.sc_dag.specs.Outputs.{is_complete}
+use Rattle.sc_dag.specs.Reports.{CompletesMap, FailsStage, after_failed, after_map_success, completed, is_finished_short, is_of_newest, map_success_of, reaches_limit_in, set_of, with_failed}
+use Rattle.sc_dag.specs.Sound.{IsSoundDag}
+use Rattle.sc_dag.specs.Submission.{is_map, this_stage, waiting_stages}
+use Rattle.sc_dag.specs.declared.reports.Success.{Success}
+use Rattle.sc_dag.specs.declared.reports.Success.TheVariants as successes
+use Rattle.sc_dag.proofs.Tests.{both_left, both_right, clash}
+use Rattle.sc_dag.proofs.Keeping.{completed_sound, with_failed_sound}
+use Rattle.sc_core.specs.CoreData.{CoreData, job_runs, running_of, taken_off, with_dag}
+use Rattle.sc_core.specs.Journals.{Replays}
+use Rattle.sc_core.specs.Laws.{ReplaysAgree, StepsAgree, StepsKeepSound}
+use Rattle.sc_core.specs.Posts.{PostsIf, PostsOf, fits}
+use Rattle.sc_core.specs.Sound.{RunsWell}
+use Rattle.sc_core.specs.Tells.{FailsBy, FailsOrAborts, FollowsUp, IsGone, LooksAgain, Misses, MissesIf, Tells, TellsFailure, TellsFailureIf, TellsMap, after_failure, is_zombie_in}
+use Rattle.sc_core.specs.declared.answers.Answer.{Answer}
+use Rattle.sc_core.specs.declared.events.Event.TheVariants.{Post, Take}
+use Rattle.sc_core.specs.declared.events.Outcome.{Outcome}
+use Rattle.sc_core.specs.declared.events.Outcome.TheVariants as outcomes
+use Rattle.sc_core.specs.declared.running.Running.{Running}
+use Rattle.sc_core.proofs.TakeAgreeLemmas.{takes_agree}
+use Rattle.sc_core.proofs.StepLemmas.{posted}
+use Rattle.sc_core.proofs.ResultLemmas.{frees}
+
+-- two answers and what they leave are one
+abbrev Same : Answer → Answer → CoreData → CoreData → Type 0
+Same a b x y = (a ≡ b) × (x ≡ y)
+
+-- ---- stages
+
+completes_agree :
+    SubmissionsAgree → (d x y : DagData) (s : ℕ) → IsSoundDag d → CompletesMap d s x
+    → CompletesMap d s y → x ≡ y
+completes_agree one d x y s sound a b =
+    one (with_state d s completed) x y (waiting_stages (with_state d s completed))
+    (completed_sound d s sound) a b
+
+-- how a stage attempt fails, and what that leaves
+fails_agree :
+    SubmissionsAgree → (d x y : DagData) (s number : ℕ) (v w : Verdict) → IsSoundDag d
+    → FailsStage d s number v x → FailsStage d s number w y → (v ≡ w) × (x ≡ y)
+fails_agree one d x y s number verdicts.Limit verdicts.Limit sound (e, a) (f, b) =
+    (refl, a ∙ sym b)
+fails_agree one d x y s number verdicts.Limit verdicts.Again sound (e, a) (f, b) =
+    absurd (clash e f)
+fails_agree one d x y s number verdicts.Again verdicts.Limit sound (e, a) (f, b) =
+    absurd (clash f e)
+fails_agree one d x y s number verdicts.Again verdicts.Again sound (e, a) (f, b) = (
+  refl,
+  one (with_state d s (with_failed number)) x y (this_stage s)
+      (with_failed_sound d s number sound) a b,
+)
+
+-- what follows a map success
+follows_agree :
+    SubmissionsAgree → (success : Success) (d x y : DagData) (s : ℕ) → IsSoundDag d
+    → FollowsUp success d s x → FollowsUp success d s y → x ≡ y
+follows_agree one success d x y s sound a b = by success a b
+  where
+    looks : (u v : Bool) → LooksAgain u v d s x → LooksAgain u v d s y → x ≡ y
+    looks true v e f = completes_agree one d x y s sound e f
+    looks false true e f = one d x y (this_stage s) sound e f
+    looks false false e f = e ∙ sym f
+
+    by : (success : Success) → FollowsUp success d s x → FollowsUp success d s y → x ≡ y
+    by successes.Repeated e f = e ∙ sym f
+    by successes.Registered e f = looks (is_complete d s) (is_finished_short d s) e f
+    by successes.Bogus e f = looks (is_complete d s) (is_finished_short d s) e f
+    by successes.Finished e f = looks (is_complete d s) (is_finished_short d s) e f
+
+-- ---- reports
+
+maps_agree :
+    SubmissionsAgree → (c x y : CoreData) (r : Running) (loc : Loc) (a b : Answer)
+    → IsSoundDag (after_map_success c.dag r.hand_out.attempt loc r.hand_out.epoch c.now)
+    → TellsMap c r loc a x → TellsMap c r loc b y → Same a b x y
+maps_agree one c x y r loc a b sound (d, up, e, is) (d', up', e', is') =
+    let same : d ≡ d' =
+    follows_agree one (map_success_of c.dag r.hand_out.attempt loc r.hand_out.epoch)
+    (after_map_success c.dag r.hand_out.attempt loc r.hand_out.epoch c.now) d d'
+    r.hand_out.attempt.stage sound up up' in
+    (e ∙ sym e', is ∙ ap (λ z. with_dag c z) same ∙ sym is')
+
+misses_agree :
+    SubmissionsAgree → (c x y : CoreData) (a : AttemptId) (u v : Answer) → IsSoundDag c.dag
+    → Misses c a u x → Misses c a v y → Same u v x y
+misses_agree one c x y a u v sound miss other =
+    by (is_of_newest c.dag a && not (is_complete c.dag a.stage)) miss other
+  where
+    verdict_agrees : (w : Verdict) (d : DagData) → FailsOrAborts c a w d u x
+        → FailsOrAborts c a w d v y → Same u v x y
+    verdict_agrees verdicts.Limit d (e, is) (f, is') = (e ∙ sym f, is ∙ sym is')
+    verdict_agrees verdicts.Again d (e, is) (f, is') = (e ∙ sym f, is ∙ sym is')
+
+    by : (b : Bool) → MissesIf b c a u x → MissesIf b c a v y → Same u v x y
+    by true (w, d, f, or) (w', d', f', or') =
+        let same = fails_agree one c.dag d d' a.stage a.stage_attempt w w' sound f f' in
+        verdict_agrees w' d'
+        (subst (λ z. FailsOrAborts c a w' z u x) same.1
+        (subst (λ z. FailsOrAborts c a z d u x) same.0 or)) or'
+    by false (e, is) (f, is') = (e ∙ sym f, is ∙ sym is')
+
+causes_agree :
+    CallsKeepSound → SubmissionsAgree → (c x y : CoreData) (a : AttemptId) (cause : FailureCause)
+    (zombie : Bool) (u v : Answer) → IsSoundDag c.dag → FailsBy cause zombie c a u x
+    → FailsBy cause zombie c a v y → Same u v x y
+causes_agree calls one c x y a (causes.Gone exec wanted found) zombie u v sound e f =
+    by (is_newer (slice_get c.dag.tracker.trust exec) found) zombie e f
+  where
+    by : (b z : Bool) → IsGone b z c a exec found u x → IsGone b z c a exec found v y
+        → Same u v x y
+    by true z g h =
+        misses_agree one (with_dag c (after_seen c.dag exec found)) x y a u v
+        ((calls c.dag sound).8 exec found) g h
+    by false true (g, is) (h, is') = (g ∙ sym h, is ∙ sym is')
+    by false false g h = misses_agree one c x y a u v sound g h
+causes_agree calls one c x y a (causes.Metadata last) zombie u v sound e f =
+    misses_agree one c x y a u v sound e f
+causes_agree calls one c x y a causes.Planned zombie u v sound (g, is) (h, is') =
+    (g ∙ sym h, is ∙ sym is')
+causes_agree calls one c x y a causes.Raised zombie u v sound (g, is) (h, is') =
+    (g ∙ sym h, is ∙ sym is')
+causes_agree calls one c x y a (causes.Device fault) zombie u v sound (g, is) (h, is') =
+    (g ∙ sym h, is ∙ sym is')
+causes_agree calls one c x y a causes.Denied zombie u v sound (g, is) (h, is') =
+    (g ∙ sym h, is ∙ sym is')
+
+failures_agree :
+    CallsKeepSound → OthersGoOn → SubmissionsAgree → (c x y : CoreData) (r : Running)
+    (cause : FailureCause) (u v : Answer) → IsSoundDag c.dag → TellsFailure c r cause u x
+    → TellsFailure c r cause v y → Same u v x y
+failures_agree calls others one c x y r cause u v sound e f =
+    by (reaches_limit_in (set_of c.dag a) a cause) e f
+  where
+    a : AttemptId
+    a = r.hand_out.attempt
+
+    left_sound : IsSoundDag (after_failure c r.hand_out.attempt cause).dag
+    left_sound =
+        (frees calls others (with_dag c (after_failed c.dag r.hand_out.attempt cause))
+        r.hand_out.attempt endings.Failed).sound
+        ((calls c.dag sound).4 r.hand_out.attempt cause)
+
+    by : (b : Bool) → TellsFailureIf b c a cause u x → TellsFailureIf b c a cause v y
+        → Same u v x y
+    by true (g, is) (h, is') = (g ∙ sym h, is ∙ sym is')
+    by false g h =
+        causes_agree calls one (after_failure c a cause) x y a cause
+        (is_zombie_in (set_of c.dag a)) u v left_sound g h
+
+-- ---- events
+
+pub steps_agree_by : CallsKeepSound → OthersGoOn → SubmissionsAgree → StepsAgree
+steps_agree_by calls others one c (Take exec) a b x y sound s t = takes_agree c exec a b x y s t
+steps_agree_by calls others one c (Post at outcome) a b x y sound s t = by (job_runs c) s t
+  where
+    tells : (r : Running) → RunsWell c r → (outcome : Outcome) → fits c r outcome ≡ true
+        → Tells (taken_off c r.hand_out.attempt) r outcome a x
+        → Tells (taken_off c r.hand_out.attempt) r outcome b y → Same a b x y
+    tells r well (outcomes.Map loc) fit e f =
+        let kind : is_map (stage_at c.dag r.hand_out.attempt.stage).target ≡ true =
+        both_left (is_map (stage_at c.dag r.hand_out.attempt.stage).target)
+        (loc.exec == r.exec) fit in
+        let on : (loc.exec == r.exec) ≡ true =
+        both_right (is_map (stage_at c.dag r.hand_out.attempt.stage).target)
+        (loc.exec == r.exec) fit in
+        let exec : loc.exec ≡ r.exec = grind (arith, nat_tests, on) in
+        maps_agree one (taken_off c r.hand_out.attempt) x y r loc a b
+        ((calls c.dag sound.dag).2 r.hand_out.attempt loc r.hand_out.epoch c.now kind
+        (well.in_set ∙ ap (λ (e : ℕ). Some e) (sym exec))) e f
+    tells r well outcomes.Result fit (e, is) (f, is') = (e ∙ sym f, is ∙ sym is')
+    tells r well (outcomes.Failed cause) fit e f =
+        failures_agree calls others one (taken_off c r.hand_out.attempt) x y r cause a b sound.dag
+        e f
+
+    of : (o : Option Running) → running_of c at ≡ o → PostsOf o c at outcome a x
+        → PostsOf o c at outcome b y → Same a b x y
+    of None e (u, is) (v, is') = (u ∙ sym v, is ∙ sym is')
+    of (Some r) e (fit, u) (fit', v) =
+        let p = posted c at r sound e in
+        tells r p.well outcome fit
+        (subst (λ z. Tells (taken_off c z) r outcome a x) (sym p.attempt) u)
+        (subst (λ z. Tells (taken_off c z) r outcome b y) (sym p.attempt) v)
+
+    by : (z : Bool) → PostsIf z c at outcome a x → PostsIf z c at outcome b y → Same a b x y
+    by false (u, is) (v, is') = (u ∙ sym v, is ∙ sym is')
+    by true u v = of (running_of c at) refl u v
+
+pub replays_agree_by : StepsKeepSound → StepsAgree → ReplaysAgree
+replays_agree_by keep agree opening x y [] sound e f = e ∙ sym f
+replays_agree_by keep agree opening x y (entry ∷ entries) sound (m, s, rest) (n, t, rest') =
+    let same : m ≡ n =
+    (agree opening entry.event entry.answer entry.answer m n sound s t).1 in
+    replays_agree_by keep agree n x y entries
+    (keep opening n entry.event entry.answer sound t)
+    (subst (λ z. Replays z entries x) same rest) rest'

@@ -1,0 +1,199 @@
+-- What a told report leaves, as far as it tells how much may still happen.
+use Rattle.std.proofs.Common.{◌≡◌, ◌&&◌, not, Bool, true, false, if◌then◌else◌, slice_get, refl, ap, sym, subst, ◌∙◌}
+use Rattle.sc_ids.specs.declared.attempts.AttemptId.{AttemptId}
+use Rattle.sc_ids.specs.declared.blocks.Loc.{Loc}
+use Rattle.sc_ids.specs.declared.failures.FailureCause.{FailureCause}
+use Rattle.sc_ids.specs.declared.failures.FailureCause.TheVariants as causes
+use Rattle.sc_commit.specs.Committers.{committer_at}
+use Rattle.sc_commit.specs.Committing.{holds}
+use Rattle.sc_commit.specs.declared.committers.Ending.{Ending}
+use Rattle.sc_commit.specs.declared.committers.Ending.TheVariants as endings
+use Rattle.sc_taskset.specs.declared.tasks.Verdict.{Verdict}
+use Rattle.sc_taskset.specs.declared.tasks.Verdict.TheVariants as verdicts
+use Rattle.sc_tracker.specs.Trust.{is_newer}
+use Rattle.sc_dag.specs.DagData.{DagData}
+use Rattle.sc_dag.specs.Losses.{after_seen}
+use Rattle.sc_dag.specs.Outputs.{is_complete}
+use Rattle.sc_dag.specs.Reports.{FailsStage, after_failed, after_hold, after_map_success, after_result_success, is_finished_short, is_of_newest, map_success_of, reaches_limit_in, result_success_of, set_of}
+use Rattle.sc_dag.specs.Submission.{this_stage}
+use Rattle.sc_dag.specs.declared.reports.Success.{Success}
+use Rattle.sc_dag.specs.declared.reports.Success.TheVariants as successes
+use Rattle.sc_core.specs.CoreData.{CoreData, with_dag}
+use Rattle.sc_core.specs.Tells.{FailsBy, FailsOrAborts, FollowsUp, IsGone, LooksAgain, Misses, MissesIf, Tells, TellsFailure, TellsFailureIf, TellsMap, TellsResult, after_failure, after_result, done_if, is_zombie_in, released, with_result_of}
+use Rattle.sc_core.specs.declared.answers.Answer.{Answer}
+use Rattle.sc_core.specs.declared.events.Outcome.{Outcome}
+use Rattle.sc_core.specs.declared.events.Outcome.TheVariants as outcomes
+use Rattle.sc_core.specs.declared.running.Running.{Running}
+use Rattle.sc_core.proofs.StageCallLemmas.{completes_calm, fails_calm, submitted_calm}
+use Rattle.sc_core.proofs.TaskCallLemmas.{map_moves, result_moves, seen_calm}
+
+-- What a told report leaves, as far as it may run: the limits, what was handed out, and what runs.
+pub record Left (c after : CoreData) : Type 0 where
+  pub limits : after.dag.limits ≡ c.dag.limits
+  pub handed : after.handed ≡ c.handed
+  pub running : after.running ≡ c.running
+
+left_then : (a b c : CoreData) → Left a b → Left b c → Left a c
+left_then a b c h k =
+    record {
+      limits = k.limits ∙ h.limits;
+      handed = k.handed ∙ h.handed;
+      running = k.running ∙ h.running;
+    }
+
+left_dag : (c : CoreData) (d : DagData) → d.limits ≡ c.dag.limits → Left c (with_dag c d)
+left_dag c d limits = record { limits = limits; handed = refl; running = refl }
+
+released_left : (c : CoreData) (a : AttemptId) (how : Ending) → Left c (released c a how)
+released_left c a how =
+    record {
+      limits = by (holds a (committer_at c.committers a.partition));
+      handed = refl;
+      running = refl;
+    }
+  where
+    by : (b : Bool) → (if b then after_hold c.dag a.stage a.partition false else c.dag).limits
+        ≡ c.dag.limits
+    by true = refl
+    by false = refl
+
+map_left : (c after : CoreData) (r : Running) (loc : Loc) (answer : Answer)
+    → TellsMap c r loc answer after → Left c after
+map_left c after r loc answer (next, up, says, is) =
+    subst (λ x. Left c x) (sym is)
+    (left_dag c next (by (map_success_of c.dag a loc r.hand_out.epoch) up))
+  where
+    a : AttemptId
+    a = r.hand_out.attempt
+
+    mid : DagData
+    mid = after_map_success c.dag r.hand_out.attempt loc r.hand_out.epoch c.now
+
+    same : mid.limits ≡ c.dag.limits
+    same = (map_moves c.dag a loc r.hand_out.epoch c.now).limits
+
+    looks : (x y : Bool) → LooksAgain x y mid a.stage next → next.limits ≡ c.dag.limits
+    looks true y h = (completes_calm mid a.stage next h).limits ∙ same
+    looks false true h = (submitted_calm mid next (this_stage a.stage) h).limits ∙ same
+    looks false false h = ap (λ (d : DagData). d.limits) h ∙ same
+
+    by : (s : Success) → FollowsUp s mid a.stage next → next.limits ≡ c.dag.limits
+    by successes.Repeated h = ap (λ (d : DagData). d.limits) h ∙ same
+    by successes.Registered h = looks (is_complete mid a.stage) (is_finished_short mid a.stage) h
+    by successes.Bogus h = looks (is_complete mid a.stage) (is_finished_short mid a.stage) h
+    by successes.Finished h = looks (is_complete mid a.stage) (is_finished_short mid a.stage) h
+
+result_left : (c after : CoreData) (r : Running) (answer : Answer)
+    → TellsResult c r answer after → Left c after
+result_left c after r answer (says, is) =
+    subst (λ x. Left c x) (sym is) (by (result_success_of c.dag a))
+  where
+    a : AttemptId
+    a = r.hand_out.attempt
+
+    freed : CoreData
+    freed = released c r.hand_out.attempt endings.Succeeded
+
+    one : (m : CoreData) → Left m (with_result_of m a)
+    one m = left_dag m (after_result_success m.dag a m.now) (result_moves m.dag a m.now).limits
+
+    done : (b : Bool) (m : CoreData) → Left m (done_if b m)
+    done true m = record { limits = refl; handed = refl; running = refl }
+    done false m = record { limits = refl; handed = refl; running = refl }
+
+    won : Left c (done_if (is_complete (with_result_of freed a).dag a.stage)
+        (with_result_of freed a))
+    won =
+        left_then c freed (done_if (is_complete (with_result_of freed a).dag a.stage)
+        (with_result_of freed a))
+        (released_left c a endings.Succeeded)
+        (left_then freed (with_result_of freed a)
+        (done_if (is_complete (with_result_of freed a).dag a.stage) (with_result_of freed a))
+        (one freed)
+        (done (is_complete (with_result_of freed a).dag a.stage) (with_result_of freed a)))
+
+    by : (s : Success) → Left c (after_result s c a)
+    by successes.Repeated = one c
+    by successes.Registered = won
+    by successes.Bogus = won
+    by successes.Finished = won
+
+misses_left : (c after : CoreData) (a : AttemptId) (answer : Answer)
+    → Misses c a answer after → Left c after
+misses_left c after a answer miss =
+    by (is_of_newest c.dag a && not (is_complete c.dag a.stage)) miss
+  where
+    verdict_left : (verdict : Verdict) (d : DagData)
+        → FailsStage c.dag a.stage a.stage_attempt verdict d
+        → FailsOrAborts c a verdict d answer after → Left c after
+    verdict_left verdicts.Limit d f (says, is) =
+        subst (λ x. Left c x) (sym is)
+        (record {
+          limits = (fails_calm c.dag a.stage a.stage_attempt verdicts.Limit d f).limits;
+          handed = refl;
+          running = refl;
+        })
+    verdict_left verdicts.Again d f (says, is) =
+        subst (λ x. Left c x) (sym is)
+        (left_dag c d (fails_calm c.dag a.stage a.stage_attempt verdicts.Again d f).limits)
+
+    by : (b : Bool) → MissesIf b c a answer after → Left c after
+    by true (verdict, d, f, or) = verdict_left verdict d f or
+    by false (says, is) =
+        subst (λ x. Left c x) (sym is) (record { limits = refl; handed = refl; running = refl })
+
+cause_left :
+    (c after : CoreData) (a : AttemptId) (cause : FailureCause) (zombie : Bool) (answer : Answer)
+    → FailsBy cause zombie c a answer after → Left c after
+cause_left c after a (causes.Gone exec wanted found) zombie answer h =
+    by (is_newer (slice_get c.dag.tracker.trust exec) found) zombie h
+  where
+    by : (x y : Bool) → IsGone x y c a exec found answer after → Left c after
+    by true y k =
+        left_then c (with_dag c (after_seen c.dag exec found)) after
+        (left_dag c (after_seen c.dag exec found) (seen_calm c.dag exec found).limits)
+        (misses_left (with_dag c (after_seen c.dag exec found)) after a answer k)
+    by false true (says, is) =
+        subst (λ x. Left c x) (sym is) (record { limits = refl; handed = refl; running = refl })
+    by false false k = misses_left c after a answer k
+cause_left c after a (causes.Metadata last) zombie answer h = misses_left c after a answer h
+cause_left c after a causes.Planned zombie answer (says, is) =
+    subst (λ x. Left c x) (sym is) (record { limits = refl; handed = refl; running = refl })
+cause_left c after a causes.Raised zombie answer (says, is) =
+    subst (λ x. Left c x) (sym is) (record { limits = refl; handed = refl; running = refl })
+cause_left c after a (causes.Device fault) zombie answer (says, is) =
+    subst (λ x. Left c x) (sym is) (record { limits = refl; handed = refl; running = refl })
+cause_left c after a causes.Denied zombie answer (says, is) =
+    subst (λ x. Left c x) (sym is) (record { limits = refl; handed = refl; running = refl })
+
+failure_left :
+    (c after : CoreData) (r : Running) (cause : FailureCause) (answer : Answer)
+    → TellsFailure c r cause answer after → Left c after
+failure_left c after r cause answer tells =
+    by (reaches_limit_in (set_of c.dag a) a cause) tells
+  where
+    a : AttemptId
+    a = r.hand_out.attempt
+
+    left : Left c (after_failure c r.hand_out.attempt cause)
+    left =
+        left_then c (with_dag c (after_failed c.dag a cause))
+        (after_failure c r.hand_out.attempt cause)
+        (left_dag c (after_failed c.dag a cause) refl)
+        (released_left (with_dag c (after_failed c.dag a cause)) a endings.Failed)
+
+    by : (b : Bool) → TellsFailureIf b c a cause answer after → Left c after
+    by true (says, is) =
+        subst (λ x. Left c x) (sym is)
+        (record { limits = left.limits; handed = left.handed; running = left.running })
+    by false h =
+        left_then c (after_failure c a cause) after left
+        (cause_left (after_failure c a cause) after a cause (is_zombie_in (set_of c.dag a))
+        answer h)
+
+pub tells_left :
+    (c after : CoreData) (r : Running) (outcome : Outcome) (answer : Answer)
+    → Tells c r outcome answer after → Left c after
+tells_left c after r (outcomes.Map loc) answer h = map_left c after r loc answer h
+tells_left c after r outcomes.Result answer h = result_left c after r answer h
+tells_left c after r (outcomes.Failed cause) answer h = failure_left c after r cause answer h

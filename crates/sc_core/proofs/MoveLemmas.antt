@@ -1,0 +1,209 @@
+-- What a change of the stages of a job does to the attempts that run.
+use Rattle.std.proofs.Common.{◌≡◌, ℕ, ◌==◌, ◌&&◌, All, Bool, true, false, if◌then◌else◌, List, Option, Some, None, option_map, slice_get, refl, ap, subst, ◌∙◌, arith}
+use Rattle.std.proofs.lemmas.Bool.Decides.{nat_tests}
+use Rattle.sc_ids.specs.Changes.{change_at}
+use Rattle.sc_ids.specs.declared.attempts.AttemptId.{AttemptId}
+use Rattle.sc_ids.proofs.ChangeLemmas.{slice_get_change_other, slice_get_change_same}
+use Rattle.sc_commit.specs.Committing.{is_same}
+use Rattle.sc_tracker.specs.TrackerData.{TrackerData, trust_of}
+use Rattle.sc_dag.specs.DagData.{DagData, StageState, with_state, with_states, with_tracker}
+use Rattle.sc_dag.specs.Outputs.{results_in}
+use Rattle.sc_dag.specs.Sound.{attempts_in, attempts_of, runner_of}
+use Rattle.sc_core.specs.Sound.{IsUnheld}
+use Rattle.sc_core.proofs.SetLemmas.{nothing}
+use Rattle.sc_core.proofs.StateLemmas.{MovesOf, calm_same, is_number_of, runs_in}
+
+-- no grant that is held has denied an attempt
+abbrev pub NoneHeld : DagData → Type 0
+NoneHeld d = (s : ℕ) → All IsUnheld (attempts_of d s)
+
+-- What a change of stages leaves as it is, and which attempts run then: those that pass a test run
+-- somewhere else, or nowhere, and all others as before.
+pub record Moves (test : AttemptId → Bool) (new : Option ℕ) (d after : DagData) : Type 0 where
+  pub stages : after.stages ≡ d.stages
+  pub limits : after.limits ≡ d.limits
+  pub lost : (e : ℕ) → (trust_of after.tracker e).lost ≡ (trust_of d.tracker e).lost
+  pub runners : (b : AttemptId) → runner_of after b ≡ (if test b then new else runner_of d b)
+  pub unheld : NoneHeld d → NoneHeld after
+
+-- nothing that runs is changed
+abbrev pub Calm : DagData → DagData → Type 0
+Calm d after = Moves nothing None d after
+
+-- no result is won or lost
+abbrev pub SameResults : DagData → DagData → Type 0
+SameResults d after =
+    (s : ℕ) → results_in (slice_get after.states s) ≡ results_in (slice_get d.states s)
+
+pub still : (d : DagData) → Calm d d
+still d =
+    record {
+      stages = refl;
+      limits = refl;
+      lost = λ e. refl;
+      runners = λ b. refl;
+      unheld = λ all. all;
+    }
+
+-- a calm change behind another one, and before it
+pub moves_then :
+    (test : AttemptId → Bool) (new : Option ℕ) (c d e : DagData)
+    → Moves test new c d → Calm d e → Moves test new c e
+moves_then test new c d e h k =
+    record {
+      stages = k.stages ∙ h.stages;
+      limits = k.limits ∙ h.limits;
+      lost = λ x. k.lost x ∙ h.lost x;
+      runners = λ b. k.runners b ∙ h.runners b;
+      unheld = λ all. k.unheld (h.unheld all);
+    }
+
+pub calm_then :
+    (test : AttemptId → Bool) (new : Option ℕ) (c d e : DagData)
+    → Calm c d → Moves test new d e → Moves test new c e
+calm_then test new c d e h k =
+    record {
+      stages = k.stages ∙ h.stages;
+      limits = k.limits ∙ h.limits;
+      lost = λ x. k.lost x ∙ h.lost x;
+      runners = λ b. k.runners b ∙ ap (λ o. if test b then new else o) (h.runners b);
+      unheld = λ all. k.unheld (h.unheld all);
+    }
+
+-- ---- one stage changed
+
+pub state_moves :
+    (d : DagData) (a : AttemptId) (new : Option ℕ) (change : StageState → StageState)
+    → ((state : StageState) → slice_get d.states a.stage ≡ Some state
+    → MovesOf (is_number_of a) new (Some state) (Some (change state)))
+    → (slice_get d.states a.stage ≡ None → new ≡ None)
+    → Moves (is_same a) new d (with_state d a.stage change)
+state_moves d a new change moves none =
+    record {
+      stages = refl;
+      limits = refl;
+      lost = λ e. refl;
+      runners = λ b. by b (a.stage == b.stage) refl;
+      unheld = λ all s. held all s (a.stage == s) refl;
+    }
+  where
+    after : DagData
+    after = with_state d a.stage change
+
+    here : (o : Option StageState) → slice_get d.states a.stage ≡ o
+        → MovesOf (is_number_of a) new o (option_map change o)
+    here None e =
+        record {
+          runners = λ b. rw (none e) (nowhere (is_number_of a b) (runs_in None b));
+          unheld = λ all. all;
+        }
+      where
+        nowhere : (x : Bool) (o : Option ℕ) → o ≡ (if x then o else o)
+        nowhere true o = refl
+        nowhere false o = refl
+    here (Some state) e = moves state e
+
+    same : slice_get after.states a.stage ≡ option_map change (slice_get d.states a.stage)
+    same = slice_get_change_same d.states a.stage change
+
+    by : (b : AttemptId) (x : Bool) → (a.stage == b.stage) ≡ x
+        → runs_in (slice_get after.states b.stage) b
+        ≡ (if x && is_number_of a b then new else runs_in (slice_get d.states b.stage) b)
+    by b true e =
+        let s : a.stage ≡ b.stage = grind (arith, nat_tests, e) in
+        subst (λ (s : ℕ). runs_in (slice_get after.states s) b
+        ≡ (if is_number_of a b then new else runs_in (slice_get d.states s) b)) s
+        (ap (λ o. runs_in o b) same
+        ∙ (here (slice_get d.states a.stage) refl).runners b)
+    by b false e =
+        ap (λ o. runs_in o b)
+        (slice_get_change_other d.states a.stage b.stage change
+        (λ is. grind (arith, nat_tests, e, is)))
+
+    held : NoneHeld d → (s : ℕ) (x : Bool) → (a.stage == s) ≡ x
+        → All IsUnheld (attempts_in (slice_get after.states s))
+    held all s true e =
+        let is : a.stage ≡ s = grind (arith, nat_tests, e) in
+        subst (λ (s : ℕ). All IsUnheld (attempts_in (slice_get after.states s))) is
+        (rw same ((here (slice_get d.states a.stage) refl).unheld (all a.stage)))
+    held all s false e =
+        rw (slice_get_change_other d.states a.stage s change
+        (λ is. grind (arith, nat_tests, e, is))) (all s)
+
+-- all stages changed calmly
+pub states_calm :
+    (d : DagData) (states : List StageState)
+    → ((s : ℕ) → MovesOf nothing None (slice_get d.states s) (slice_get states s))
+    → Calm d (with_states d states)
+states_calm d states moves =
+    record {
+      stages = refl;
+      limits = refl;
+      lost = λ e. refl;
+      runners = λ b. (moves b.stage).runners b;
+      unheld = λ all s. (moves s).unheld (all s);
+    }
+
+-- one stage changed calmly
+pub state_calm :
+    (d : DagData) (s : ℕ) (change : StageState → StageState)
+    → ((state : StageState) → MovesOf nothing None (Some state) (Some (change state)))
+    → Calm d (with_state d s change)
+state_calm d s change moves =
+    states_calm d (change_at d.states s change) (λ r. by r (s == r) refl)
+  where
+    here : (o : Option StageState) → MovesOf nothing None o (option_map change o)
+    here None = calm_same None
+    here (Some state) = moves state
+
+    by : (r : ℕ) (x : Bool) → (s == r) ≡ x
+        → MovesOf nothing None (slice_get d.states r) (slice_get (change_at d.states s change) r)
+    by r true e =
+        let is : s ≡ r = grind (arith, nat_tests, e) in
+        subst (λ (r : ℕ). MovesOf nothing None (slice_get d.states r)
+        (slice_get (change_at d.states s change) r)) is
+        (rw (slice_get_change_same d.states s change) (here (slice_get d.states s)))
+    by r false e =
+        rw (slice_get_change_other d.states s r change (λ is. grind (arith, nat_tests, e, is)))
+        (calm_same (slice_get d.states r))
+
+-- another tracker that knows of the same losses
+pub tracker_calm :
+    (d : DagData) (t : TrackerData)
+    → ((e : ℕ) → (trust_of t e).lost ≡ (trust_of d.tracker e).lost) → Calm d (with_tracker d t)
+tracker_calm d t lost =
+    record {
+      stages = refl;
+      limits = refl;
+      lost = lost;
+      runners = λ b. refl;
+      unheld = λ all. all;
+    }
+
+-- ---- results
+
+pub results_then :
+    (c d e : DagData) → SameResults c d → SameResults d e → SameResults c e
+results_then c d e h k s = k s ∙ h s
+
+pub state_results :
+    (d : DagData) (s : ℕ) (change : StageState → StageState)
+    → ((state : StageState) → (change state).results ≡ state.results)
+    → SameResults d (with_state d s change)
+state_results d s change same r = by (s == r) refl
+  where
+    here : (o : Option StageState) → results_in (option_map change o) ≡ results_in o
+    here None = refl
+    here (Some state) = same state
+
+    by : (x : Bool) → (s == r) ≡ x
+        → results_in (slice_get (change_at d.states s change) r)
+        ≡ results_in (slice_get d.states r)
+    by true e =
+        let is : s ≡ r = grind (arith, nat_tests, e) in
+        subst (λ (r : ℕ). results_in (slice_get (change_at d.states s change) r)
+        ≡ results_in (slice_get d.states r)) is
+        (ap results_in (slice_get_change_same d.states s change) ∙ here (slice_get d.states s))
+    by false e =
+        ap results_in
+        (slice_get_change_other d.states s r change (λ is. grind (arith, nat_tests, e, is)))

@@ -1,0 +1,12 @@
+use Rattle.sc_core.proofs.LawLemmas.{events_are_answered, waits_have_cause}
+use Rattle.sc_core.proofs.SpendLemmas.{steps_are_spent}
+use Rattle.sc_core.proofs.laws.jobs_never_stick.Goals as goal
+
+pub returns-clause-answered : goal.returns-clause-answered
+returns-clause-answered c = events_are_answered
+
+pub returns-clause-waits : goal.returns-clause-waits
+returns-clause-waits c = waits_have_cause
+
+pub returns-clause-spent : goal.returns-clause-spent
+returns-clause-spent c = steps_are_spent
