@@ -1,15 +1,14 @@
 -- Two cores of one opening are the same.
-use Rattle.std.proofs.Common.{◌≡◌, ◌⊎◌, inl, inr, ℕ, zero, suc, ◌<◌, Bool, true, false, List, [], ◌∷◌, All, Contains, length, Option, Some, None, IfSome, option_map, replicate, slice_get, refl, ap, sym, subst, ◌∙◌, arith, rules}
+use Rattle.std.proofs.Common.{◌≡◌, ◌⊎◌, inl, inr, ℕ, zero, suc, List, [], ◌∷◌, Contains, length, Option, Some, None, IfSome, option_map, replicate, slice_get, refl, ap, sym, subst, ◌∙◌, arith, rules}
 use Rattle.std.proofs.lemmas.List.Elements.{All-contains, All-replicate}
 use Rattle.sc_base.specs.Lists.{at_or}
 use Rattle.sc_ids.specs.Graphs.{StageData}
 use Rattle.sc_ids.specs.declared.limits.Limits.{Limits}
-use Rattle.sc_commit.specs.declared.committers.Committer.{Committer}
 use Rattle.sc_commit.specs.declared.committers.Committer.TheVariants.{Nobody}
 use Rattle.sc_tracker.specs.TrackerData.{TrackerData}
 use Rattle.sc_tracker.specs.TrackerFacts.{HasMarkBelow, IsSoundTracker}
 use Rattle.sc_tracker.specs.Trust.{untold}
-use Rattle.sc_dag.specs.DagData.{DagData, StageState, dag_data, no_stage}
+use Rattle.sc_dag.specs.DagData.{DagData, dag_data, no_stage}
 use Rattle.sc_dag.specs.Openings.{AreNumbered, FitsJob, IsJob, Opens, blank_states}
 use Rattle.sc_dag.specs.Sound.{IsSoundDag}
 use Rattle.sc_dag.specs.Submission.{IsSubmitted, this_stage}

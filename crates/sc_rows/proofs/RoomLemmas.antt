@@ -1,5 +1,5 @@
 -- No event changes for how many outputs of a shuffle there is room.
-use Rattle.std.proofs.Common.{◌≡◌, ℕ, ◌&&◌, not, Bool, true, false, if◌then◌else◌, length, Option, Some, None, slice_get, refl, ap, sym, subst, ◌∙◌}
+use Rattle.std.proofs.Common.{◌≡◌, ℕ, ◌&&◌, not, Bool, true, false, if◌then◌else◌, length, IfOk, OnErr, Result, Ok, Err, Option, Some, None, slice_get, refl, ap, sym, subst, ◌∙◌}
 use Rattle.std.proofs.lemmas.List.{length-map}
 use Rattle.sc_ids.specs.declared.attempts.AttemptId.{AttemptId}
 use Rattle.sc_ids.specs.declared.blocks.BlockId.{BlockId}
@@ -15,19 +15,20 @@ use Rattle.sc_taskset.specs.Reports.{after_success}
 use Rattle.sc_taskset.specs.declared.tasks.Verdict.{Verdict}
 use Rattle.sc_taskset.specs.declared.tasks.Verdict.TheVariants as verdicts
 use Rattle.sc_tracker.specs.Outputs.{forgotten_on}
-use Rattle.sc_tracker.specs.TrackerData.{TrackerData, outputs_of, tracker_data}
-use Rattle.sc_tracker.specs.Tracking.{after_gone, is_bogus, with_forgotten_on}
-use Rattle.sc_tracker.specs.Trust.{is_newer, seen_at}
+use Rattle.sc_tracker.specs.TrackerData.{TrackerData, outputs_of}
+use Rattle.sc_tracker.specs.Tracking.{is_bogus}
+use Rattle.sc_tracker.specs.Trust.{is_newer}
 use Rattle.sc_tracker.proofs.BlockLemmas.{under_mapped}
 use Rattle.sc_dag.specs.DagData.{DagData, changed_newest, stage_at, with_state}
 use Rattle.sc_dag.specs.Losses.{after_seen}
 use Rattle.sc_dag.specs.Outputs.{is_complete}
-use Rattle.sc_dag.specs.Reports.{CompletesMap, FailsStage, after_failed, after_hold, after_map_success, after_result_success, block_by, completed, completed_if, ended_in_own, is_finished_short, is_of_newest, is_repeat, map_success_of, reaches_limit_in, registered_by, result_success_of, set_of, succeeded_in_both, succeeded_in_own, with_output, with_result}
-use Rattle.sc_dag.specs.Submission.{IsSubmitted}
+use Rattle.sc_dag.specs.Reports.{FailsStage, after_failed, after_hold, after_map_success, after_result_success, block_by, completed, completed_if, ended_in_own, is_finished_short, is_of_newest, is_repeat, map_success_of, reaches_limit_in, registered_by, result_success_of, set_of, succeeded_in_both, succeeded_in_own, with_failed, with_output, with_result}
+use Rattle.sc_dag.specs.Submission.{IsSubmitted, this_stage}
 use Rattle.sc_dag.specs.declared.reports.Success.{Success}
 use Rattle.sc_dag.specs.declared.reports.Success.TheVariants as successes
 use Rattle.sc_dag.proofs.Trackers.{registered_room}
 use Rattle.sc_core.specs.CoreData.{CoreData, job_runs, running_of, taken_off, told_once, with_dag}
+use Rattle.sc_core.specs.Journals.{JournalData}
 use Rattle.sc_core.specs.Posts.{PostsIf, PostsOf}
 use Rattle.sc_core.specs.Steps.{Steps}
 use Rattle.sc_core.specs.Takes.{Takes}
@@ -40,6 +41,7 @@ use Rattle.sc_core.specs.declared.events.Event.TheVariants.{Post, Take}
 use Rattle.sc_core.specs.declared.events.Outcome.{Outcome}
 use Rattle.sc_core.specs.declared.events.Outcome.TheVariants as outcomes
 use Rattle.sc_core.specs.declared.running.Running.{Running}
+use Rattle.sc_rows.specs.Jobs.{room_of, words_shuffle}
 
 -- there is room for as many outputs of each shuffle
 abbrev pub SameRoom : TrackerData → TrackerData → Type 0
@@ -68,8 +70,8 @@ fails_room : (d after : DagData) (s number : ℕ) (verdict : Verdict)
     → FailsStage d s number verdict after → KeepsRoom d after
 fails_room d after s number verdicts.Limit (often, is) =
     same_room d.tracker after.tracker (ap (λ (x : DagData). x.tracker) is)
-fails_room d after s number verdicts.Again (often, looked, are, is) =
-    same_room d.tracker after.tracker (ap (λ (x : DagData). x.tracker) is)
+fails_room d after s number verdicts.Again (often, h) =
+    submitted_room (with_state d s (with_failed number)) after (this_stage s) h
 
 looks_room : (x y : Bool) (d after : DagData) (s : ℕ) → LooksAgain x y d s after
     → KeepsRoom d after
@@ -113,8 +115,8 @@ map_room d a loc epoch now = by (is_repeat d a) (is_bogus d.tracker loc epoch)
     by : (x y : Bool) → KeepsRoom d (if x then ended_in_own d a
         else if y then succeeded_in_own d a now
         else succeeded_in_both (with_output d a loc) a now)
-    by true y shuffle = refl
-    by false true shuffle = refl
+    by true y = λ shuffle. refl
+    by false true = λ shuffle. refl
     by false false =
         room_then d.tracker (with_output d a loc).tracker
         (succeeded_in_both (with_output d a loc) a now).tracker
@@ -312,7 +314,7 @@ takes_room c after exec says.Finished h = absurd h
 takes_room c after exec says.Again h = absurd h
 takes_room c after exec says.Resubmitted h = absurd h
 
-pub steps_leave_room :
+steps_leave_room :
     (c after : CoreData) (event : Event) (answer : Answer) → Steps c event answer after
     → LeavesRoom c after
 steps_leave_room c after (Take exec) answer step = takes_room c after exec answer step
@@ -325,3 +327,12 @@ steps_leave_room c after (Post a outcome) answer step = by (job_runs c) step
     by : (b : Bool) → PostsIf b c a outcome answer after → LeavesRoom c after
     by false (says, is) = at_once c after c refl is
     by true h = of (running_of c a) h
+
+-- nor does an entry of a journal, or one that is refused
+pub entered_room :
+    {E : Type 0} (r : Result Answer E) (j after : JournalData) (event : Event)
+    → IfOk r (λ answer. Steps j.core event answer after.core) → OnErr r (after ≡ j)
+    → room_of after.core ≡ room_of j.core
+entered_room (Ok answer) j after event step err =
+    steps_leave_room j.core after.core event answer step words_shuffle
+entered_room (Err e) j after event step err = ap (λ (x : JournalData). room_of x.core) err

@@ -1,7 +1,11 @@
 //! Jobs whose schedulers are asked, with a journal for each.
 #![tactic(auto)]
 
-ghost use Rattle.std.specs.Prelude.{◌≡◌};
+ghost use Rattle.std.specs.Prelude.{◌≡◌, ◌<◌, IfSome};
+ghost use Rattle.std.specs.Option.{option_map};
+ghost use Rattle.sc_dag.specs.Openings.{FitsJob, IsJob};
+ghost use Rattle.sc_core.specs.Openings.{IsOpening, tracker_behind};
+ghost use Rattle.sc_core.specs.Sound.{IsSoundCore};
 ghost use Rattle.sc_rows.specs.Jobs.{results_alone, room_of, word_count};
 
 use sc_core::{Core, Journal};
@@ -14,9 +18,7 @@ pub fn counting<R: Abort + AllocGlobal>(rt: &R, limits: Limits) -> Journal
     ensures { room_of result.core ≡ 2 }
 {
     let graph = word_count(rt, 1);
-    let opening = Core::open(rt.alloc(), &graph, limits, 0, None).expect(rt, "memory");
-    let core = Core::open(rt.alloc(), &graph, limits, 0, None).expect(rt, "memory");
-    Journal::begin(rt.alloc(), opening, core)
+    begun(rt, &graph, limits, None)
 }
 
 /// That of a job behind it whose stage 2 reads the outputs of the same shuffle.
@@ -24,17 +26,39 @@ pub fn counting_again<R: Abort + AllocGlobal>(rt: &R, limits: Limits, last: &Cor
     requires { room_of last.now ≡ 2 }
 {
     let graph = word_count(rt, 2);
-    let opening = Core::open(rt.alloc(), &graph, limits, 0, Some(last)).expect(rt, "memory");
-    let core = Core::open(rt.alloc(), &graph, limits, 0, Some(last)).expect(rt, "memory");
-    Journal::begin(rt.alloc(), opening, core)
+    begun(rt, &graph, limits, Some(last))
 }
 
 /// That of a job without a shuffle, of two results.
 pub fn results<R: Abort + AllocGlobal>(rt: &R, limits: Limits) -> Journal {
     let graph = results_alone(rt);
-    let opening = Core::open(rt.alloc(), &graph, limits, 0, None).expect(rt, "memory");
-    let core = Core::open(rt.alloc(), &graph, limits, 0, None).expect(rt, "memory");
+    begun(rt, &graph, limits, None)
+}
+
+/// The journal of a job with these stages, which saves nothing.
+fn begun<R: Abort + AllocGlobal>(
+    rt: &R,
+    graph: &StageGraph,
+    limits: Limits,
+    last: Option<&Core>,
+) -> Journal
+    requires job { IsJob graph.now }
+    requires fits { FitsJob (tracker_behind (option_map (λ l. l.now) last) limits) graph.now }
+    ensures { IsOpening graph.now limits 0 (option_map (λ l. l.now) last.entry) result.core }
+{
+    is_sound_behind(last);
+    let opening = Core::open(rt.alloc(), graph, limits, 0, last).expect(rt, "memory");
+    let core = Core::open(rt.alloc(), graph, limits, 0, last).expect(rt, "memory");
     Journal::begin(rt.alloc(), opening, core)
+}
+
+/// The core of the job before is one. A call does nothing.
+fn is_sound_behind(last: Option<&Core>)
+    ensures { IfSome (option_map (λ l. l.now) last.entry) IsSoundCore }
+{
+    if let Some(core) = last {
+        core.is_sound();
+    }
 }
 
 /// The stages of a word count whose result stage has this number.

@@ -131,18 +131,18 @@ fn cause_of(line: &str, numbers: &[u32]) -> FailureCause {
         }
     } else if line.contains(" device, ") {
         FailureCause::Device(Fault {
-            before: counts_of(numbers, 5),
-            after: counts_of(numbers, 6),
+            before: counts_of(at(numbers, 5), at(numbers, 7)),
+            after: counts_of(at(numbers, 6), at(numbers, 8)),
         })
     } else {
         FailureCause::Denied
     }
 }
 
-/// What the files have counted: failed calls from this place on, and clashes two places behind.
-fn counts_of(numbers: &[u32], place: usize) -> Counts {
+/// What the files have counted.
+fn counts_of(faults: u32, clashes: u32) -> Counts {
     Counts {
-        faults: u64::from(at(numbers, place)),
-        clashes: u64::from(at(numbers, place + 2)),
+        faults: u64::from(faults),
+        clashes: u64::from(clashes),
     }
 }
