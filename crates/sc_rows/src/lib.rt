@@ -4,7 +4,8 @@
 //! same arithmetic or from a small sum by hand, and never from the program's own output. Most tests
 //! are tables of text, which cost the check next to nothing: `claims` has a function that runs each
 //! kind of table, `given` makes a run of a script over files and tells what was seen of it, and
-//! `streams` shows the raise that a run doesn't tell. The other modules have a subject each.
+//! `streams` shows the raise that a run doesn't tell. `jobs` begins jobs without a script, and
+//! `transcripts` lets their events happen. The other modules have a subject each.
 //!
 //! A test is code, so it is proved too. It is cheap where it is one call with a table, and where
 //! want of memory ends it by `expect`: a `?` is one more way out, on which all that is held has to
@@ -46,6 +47,12 @@ mod given;
 mod hashes;
 #[cfg(test)]
 mod held;
+#[cfg(test)]
+mod job_reports;
+#[cfg(test)]
+mod job_runs;
+#[cfg(test)]
+mod jobs;
 #[cfg(test)]
 mod key_columns;
 #[cfg(test)]
@@ -94,6 +101,8 @@ mod structures;
 mod task_sets;
 #[cfg(test)]
 mod tracking;
+#[cfg(test)]
+mod transcripts;
 #[cfg(test)]
 mod typing;
 #[cfg(test)]

@@ -1,0 +1,87 @@
+//! Jobs whose schedulers are asked, with a journal for each.
+#![tactic(auto)]
+
+ghost use Rattle.std.specs.Prelude.{◌≡◌, ◌<◌, IfSome};
+ghost use Rattle.std.specs.Option.{option_map};
+ghost use Rattle.sc_dag.specs.Openings.{FitsJob, IsJob};
+ghost use Rattle.sc_core.specs.Openings.{IsOpening, tracker_behind};
+ghost use Rattle.sc_core.specs.Sound.{IsSoundCore};
+ghost use Rattle.sc_rows.specs.Jobs.{results_alone, room_of, word_count};
+
+use sc_core::{Core, Journal};
+use sc_ids::{Limits, ShuffleId, Stage, StageGraph, StageId, Target};
+use std::process::Abort;
+
+/// The journal of a word count over two partitions: stage 0 makes two outputs of a shuffle, and
+/// stage 1 reads them for two results.
+pub fn counting<R: Abort + AllocGlobal>(rt: &R, limits: Limits) -> Journal
+    ensures { room_of result.core ≡ 2 }
+{
+    let graph = word_count(rt, 1);
+    begun(rt, &graph, limits, None)
+}
+
+/// That of a job behind it whose stage 2 reads the outputs of the same shuffle.
+pub fn counting_again<R: Abort + AllocGlobal>(rt: &R, limits: Limits, last: &Core) -> Journal
+    requires { room_of last.now ≡ 2 }
+{
+    let graph = word_count(rt, 2);
+    begun(rt, &graph, limits, Some(last))
+}
+
+/// That of a job without a shuffle, of two results.
+pub fn results<R: Abort + AllocGlobal>(rt: &R, limits: Limits) -> Journal {
+    let graph = results_alone(rt);
+    begun(rt, &graph, limits, None)
+}
+
+/// The journal of a job with these stages, which saves nothing.
+fn begun<R: Abort + AllocGlobal>(
+    rt: &R,
+    graph: &StageGraph,
+    limits: Limits,
+    last: Option<&Core>,
+) -> Journal
+    requires job { IsJob graph.now }
+    requires fits { FitsJob (tracker_behind (option_map (λ l. l.now) last) limits) graph.now }
+    ensures { IsOpening graph.now limits 0 (option_map (λ l. l.now) last.entry) result.core }
+{
+    is_sound_behind(last);
+    let opening = Core::open(rt.alloc(), graph, limits, 0, last).expect(rt, "memory");
+    let core = Core::open(rt.alloc(), graph, limits, 0, last).expect(rt, "memory");
+    Journal::begin(rt.alloc(), opening, core)
+}
+
+/// The core of the job before is one. A call does nothing.
+fn is_sound_behind(last: Option<&Core>)
+    ensures { IfSome (option_map (λ l. l.now) last.entry) IsSoundCore }
+{
+    if let Some(core) = last {
+        core.is_sound();
+    }
+}
+
+/// The stages of a word count whose result stage has this number.
+fn word_count<R: Abort + AllocGlobal>(rt: &R, last: StageId) -> StageGraph
+    ensures { result ≡ word_count last }
+{
+    let mut graph = StageGraph::new(rt.alloc());
+    let shuffle = ShuffleId { node: 3, side: 0 };
+    let map = Stage::new(0, Target::Map(shuffle), 2, Vec::new(rt.alloc()));
+    graph.push(map).expect(rt, "memory");
+    let mut parents = Vec::new(rt.alloc());
+    parents.push(0).expect(rt, "memory");
+    let reading = Stage::new(last, Target::Result { node: 3 }, 2, parents);
+    graph.push(reading).expect(rt, "memory");
+    graph
+}
+
+/// One stage of two results.
+fn results_alone<R: Abort + AllocGlobal>(rt: &R) -> StageGraph
+    ensures { result ≡ results_alone }
+{
+    let mut graph = StageGraph::new(rt.alloc());
+    let alone = Stage::new(0, Target::Result { node: 0 }, 2, Vec::new(rt.alloc()));
+    graph.push(alone).expect(rt, "memory");
+    graph
+}

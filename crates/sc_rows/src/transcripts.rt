@@ -1,0 +1,148 @@
+//! Transcripts of jobs: each line is an event as a journal has it, with what it must be answered.
+//!
+//! A line `told 3` stands for how many reports were told by then. An event that isn't enabled makes
+//! no entry; it is written as one, with `not enabled` for an answer.
+#![tactic(auto)]
+
+ghost use Rattle.std.specs.Prelude.{◌≡◌};
+ghost use Rattle.sc_rows.specs.Jobs.{room_of};
+
+use sc_base::OrMemory;
+use sc_core::{Event, Journal, NotEnabled, Outcome};
+use sc_ids::{AttemptId, Counts, ExecId, FailureCause, Fault, Loc, Mark};
+use std::process::Abort;
+
+/// Sees that the events of a transcript, one after the other, are answered as it says.
+pub fn assert_transcript<R: Abort + AllocGlobal>(rt: &R, journal: &mut Journal, want: &str)
+    ensures { room_of journal.new.core ≡ room_of journal.old.core }
+{
+    let seen = replayed(rt, journal, want);
+    assert_eq!(rt; seen.as_str(), want);
+}
+
+/// Lets the events of a transcript happen: what they are answered, as a transcript.
+fn replayed<R: Abort + AllocGlobal>(rt: &R, journal: &mut Journal, lines: &str) -> String
+    ensures { room_of journal.new.core ≡ room_of journal.old.core }
+{
+    let mut text = String::new(rt.alloc());
+    for line in lines.lines() {
+        let numbers = numbers_of(rt, line);
+        if line.starts_with("told ") {
+            let told = journal.core().told();
+            writeln!(text, "told {told}").expect(rt, "memory");
+        } else {
+            enter(rt, journal, line, numbers.as_slice(), &mut text);
+        }
+    }
+    text
+}
+
+/// Enters the event of a line, and writes it with its answer.
+fn enter<R: Abort + AllocGlobal>(
+    rt: &R,
+    journal: &mut Journal,
+    line: &str,
+    numbers: &[u32],
+    text: &mut String,
+)
+    ensures { room_of journal.new.core ≡ room_of journal.old.core }
+{
+    let exec = at(numbers, 0);
+    let event = event_of(line, numbers);
+    match journal.enter(Mark::Exec(exec), event) {
+        Ok(_) => write_last(rt, journal, text),
+        Err(OrMemory::Fault(NotEnabled)) => {
+            writeln!(text, "{exec} {event}: not enabled").expect(rt, "memory");
+        }
+        Err(OrMemory::OutOfMemory) => panic!(rt; "memory"),
+    }
+}
+
+/// Writes the last entry of a journal.
+fn write_last<R: Abort>(rt: &R, journal: &Journal, text: &mut String) {
+    let entry = journal.entries().last().expect(rt, "an entry");
+    writeln!(text, "{entry}").expect(rt, "memory");
+}
+
+/// The numbers of a line, in order.
+fn numbers_of<R: Abort + AllocGlobal>(rt: &R, line: &str) -> Vec<u32> {
+    let mut numbers = Vec::new(rt.alloc());
+    for word in line.split([' ', '.', ',', ':', '@', '-']) {
+        if let Ok(number) = word.parse::<u32>() {
+            numbers.push(number).expect(rt, "memory");
+        }
+    }
+    numbers
+}
+
+/// A number of a line; 0 where there are fewer.
+fn at(numbers: &[u32], place: usize) -> u32 {
+    numbers.get(place).copied().unwrap_or(0)
+}
+
+/// The event of a line with these numbers.
+fn event_of(line: &str, numbers: &[u32]) -> Event {
+    if line.contains(" take:") {
+        return Event::Take {
+            exec: at(numbers, 0),
+        };
+    }
+    let attempt = AttemptId {
+        stage: at(numbers, 1),
+        stage_attempt: u64::from(at(numbers, 2)),
+        partition: at(numbers, 3),
+        nth: at(numbers, 4),
+    };
+    let outcome = outcome_of(line, numbers);
+    Event::Post { attempt, outcome }
+}
+
+fn outcome_of(line: &str, numbers: &[u32]) -> Outcome {
+    if line.contains(" map at ") {
+        Outcome::Map(loc_of(numbers))
+    } else if line.contains(" result:") {
+        Outcome::Result
+    } else {
+        Outcome::Failed(cause_of(line, numbers))
+    }
+}
+
+/// The location that stands behind the attempt.
+fn loc_of(numbers: &[u32]) -> Loc {
+    let exec: ExecId = at(numbers, 5);
+    let generation = at(numbers, 6);
+    Loc { exec, generation }
+}
+
+fn cause_of(line: &str, numbers: &[u32]) -> FailureCause {
+    if line.contains(" planned:") {
+        FailureCause::Planned
+    } else if line.contains(" raised:") {
+        FailureCause::Raised
+    } else if line.contains(" gone ") {
+        FailureCause::Gone {
+            exec: at(numbers, 5),
+            wanted: at(numbers, 6),
+            found: at(numbers, 7),
+        }
+    } else if line.contains(" missing -") {
+        FailureCause::Metadata {
+            last: loc_of(numbers),
+        }
+    } else if line.contains(" device, ") {
+        FailureCause::Device(Fault {
+            before: counts_of(at(numbers, 5), at(numbers, 7)),
+            after: counts_of(at(numbers, 6), at(numbers, 8)),
+        })
+    } else {
+        FailureCause::Denied
+    }
+}
+
+/// What the files have counted.
+fn counts_of(faults: u32, clashes: u32) -> Counts {
+    Counts {
+        faults: u64::from(faults),
+        clashes: u64::from(clashes),
+    }
+}
