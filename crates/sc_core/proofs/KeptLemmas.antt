@@ -1,5 +1,5 @@
 -- Lists of inputs that are kept.
-use Rattle.std.proofs.Common.{◌≡◌, ◌≢◌, ℕ, zero, suc, Bool, true, false, List, [], ◌∷◌, Option, Some, None, IfSome, replicate, refl, Result, Ok, Err, OnOk, OnErr}
+use Rattle.std.proofs.Common.{◌≡◌, ◌≢◌, ℕ, zero, suc, Bool, true, false, List, [], ◌∷◌, Option, Some, None, IfSome, map, replicate, refl, Result, Ok, Err, OnOk, OnErr}
 use Rattle.sc_ids.specs.Changes.{change_at}
 use Rattle.sc_ids.specs.declared.attempts.AttemptId.{AttemptId}
 use Rattle.sc_ids.specs.declared.blocks.Loc.{Loc}
@@ -21,6 +21,13 @@ pub none_kept : (n s : ℕ) → kept_at (replicate n None) s ≡ None
 none_kept zero s = refl
 none_kept (suc n) zero = refl
 none_kept (suc n) (suc s) = none_kept n s
+
+-- nor where all were forgotten
+pub none_left : (kept : List (Option (List Location))) (s : ℕ)
+    → kept_at (map (λ _. None) kept) s ≡ None
+none_left [] s = refl
+none_left (x ∷ kept) zero = refl
+none_left (x ∷ kept) (suc s) = none_left kept s
 
 -- lists stay those of inputs where there is one more
 put_among : (f : ℕ → List Location) (kept : List (Option (List Location))) (s : ℕ)

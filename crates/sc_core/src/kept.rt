@@ -1,7 +1,7 @@
 //! The lists of inputs that were made last, by their stages.
 #![tactic(auto)]
 
-ghost use Rattle.std.specs.Prelude.{◌≡◌, ◌≢◌, ℕ, IfOk, None, Some};
+ghost use Rattle.std.specs.Prelude.{◌≡◌, ◌≢◌, ℕ, IfOk, None, Some, map};
 ghost use Rattle.sc_ids.specs.Changes.{change_at};
 ghost use Rattle.sc_core.specs.Kept.{kept_at};
 
@@ -67,11 +67,27 @@ impl Kept {
         }
     }
 
-    /// Forgets all lists.
+    /// Forgets all lists, and keeps their places.
     pub fn forget(&mut self)
         ensures { (stage : ℕ) → kept_at self.new stage ≡ None }
     {
-        self.lists.clear();
+        forget_all(&mut self.lists);
+    }
+}
+
+/// Forgets the list in each place.
+fn forget_all(lists: &mut Vec<Option<Inputs>>)
+    ensures { lists.new.items ≡ map (λ _. None) lists.old.items }
+{
+    forget_each(lists.as_mut_slice());
+}
+
+/// The same for places in a slice.
+fn forget_each(lists: &mut [Option<Inputs>])
+    ensures { lists.new ≡ map (λ _. None) lists.old }
+{
+    for list in lists.iter_mut() {
+        *list = None;
     }
 }
 

@@ -1,3 +1,4 @@
 pub mod JobLemmas
 pub mod OpeningLemmas
 pub mod RoomLemmas
+pub mod StageRoomLemmas

@@ -1,38 +1,28 @@
 -- No event changes for how many outputs of a shuffle there is room.
-use Rattle.std.proofs.Common.{◌≡◌, ℕ, ◌&&◌, not, Bool, true, false, if◌then◌else◌, length, IfOk, OnErr, Result, Ok, Err, Option, Some, None, slice_get, refl, ap, sym, subst, ◌∙◌}
-use Rattle.std.proofs.lemmas.List.{length-map}
+use Rattle.std.proofs.Common.{◌≡◌, ℕ, ◌&&◌, not, Bool, true, false, if◌then◌else◌, IfOk, OnErr, Result, Ok, Err, Option, Some, None, slice_get, refl, ap, sym, subst, ◌∙◌}
 use Rattle.sc_ids.specs.declared.attempts.AttemptId.{AttemptId}
-use Rattle.sc_ids.specs.declared.blocks.BlockId.{BlockId}
 use Rattle.sc_ids.specs.declared.blocks.Loc.{Loc}
-use Rattle.sc_ids.specs.declared.blocks.ShuffleId.{ShuffleId}
 use Rattle.sc_ids.specs.declared.failures.FailureCause.{FailureCause}
 use Rattle.sc_ids.specs.declared.failures.FailureCause.TheVariants as causes
 use Rattle.sc_commit.specs.Committers.{committer_at}
 use Rattle.sc_commit.specs.Committing.{holds}
 use Rattle.sc_commit.specs.declared.committers.Ending.{Ending}
 use Rattle.sc_commit.specs.declared.committers.Ending.TheVariants as endings
-use Rattle.sc_taskset.specs.Reports.{after_success}
 use Rattle.sc_taskset.specs.declared.tasks.Verdict.{Verdict}
 use Rattle.sc_taskset.specs.declared.tasks.Verdict.TheVariants as verdicts
-use Rattle.sc_tracker.specs.Outputs.{forgotten_on}
-use Rattle.sc_tracker.specs.TrackerData.{TrackerData, outputs_of}
-use Rattle.sc_tracker.specs.Tracking.{is_bogus}
 use Rattle.sc_tracker.specs.Trust.{is_newer}
-use Rattle.sc_tracker.proofs.BlockLemmas.{under_mapped}
-use Rattle.sc_dag.specs.DagData.{DagData, changed_newest, stage_at, with_state}
+use Rattle.sc_dag.specs.DagData.{DagData}
 use Rattle.sc_dag.specs.Losses.{after_seen}
 use Rattle.sc_dag.specs.Outputs.{is_complete}
-use Rattle.sc_dag.specs.Reports.{FailsStage, after_failed, after_hold, after_map_success, after_result_success, block_by, completed, completed_if, ended_in_own, is_finished_short, is_of_newest, is_repeat, map_success_of, reaches_limit_in, registered_by, result_success_of, set_of, succeeded_in_both, succeeded_in_own, with_failed, with_output, with_result}
-use Rattle.sc_dag.specs.Submission.{IsSubmitted, this_stage}
+use Rattle.sc_dag.specs.Reports.{after_failed, after_hold, after_map_success, is_of_newest, map_success_of, reaches_limit_in, result_success_of, set_of}
 use Rattle.sc_dag.specs.declared.reports.Success.{Success}
 use Rattle.sc_dag.specs.declared.reports.Success.TheVariants as successes
-use Rattle.sc_dag.proofs.Trackers.{registered_room}
 use Rattle.sc_core.specs.CoreData.{CoreData, job_runs, running_of, taken_off, told_once, with_dag}
 use Rattle.sc_core.specs.Journals.{JournalData}
 use Rattle.sc_core.specs.Posts.{PostsIf, PostsOf}
 use Rattle.sc_core.specs.Steps.{Steps}
 use Rattle.sc_core.specs.Takes.{Takes}
-use Rattle.sc_core.specs.Tells.{FailsBy, FailsOrAborts, FollowsUp, IsGone, LooksAgain, Misses, MissesIf, Tells, TellsFailure, TellsFailureIf, TellsMap, TellsResult, after_failure, after_result, done_if, is_zombie_in, released, with_result_of}
+use Rattle.sc_core.specs.Tells.{FailsBy, FailsOrAborts, IsGone, Misses, MissesIf, Tells, TellsFailure, TellsFailureIf, TellsMap, TellsResult, after_failure, after_result, done_if, is_zombie_in, released, with_result_of}
 use Rattle.sc_core.specs.declared.answers.Abort.TheVariants as aborts
 use Rattle.sc_core.specs.declared.answers.Answer.{Answer}
 use Rattle.sc_core.specs.declared.answers.Answer.TheVariants as says
@@ -42,117 +32,11 @@ use Rattle.sc_core.specs.declared.events.Outcome.{Outcome}
 use Rattle.sc_core.specs.declared.events.Outcome.TheVariants as outcomes
 use Rattle.sc_core.specs.declared.running.Running.{Running}
 use Rattle.sc_rows.specs.Jobs.{room_of, words_shuffle}
+use Rattle.sc_rows.proofs.StageRoomLemmas.{KeepsRoom, fails_room, follows_room, map_room, result_tracker, room_then, same_room, seen_room}
 
--- there is room for as many outputs of each shuffle
-abbrev pub SameRoom : TrackerData → TrackerData → Type 0
-SameRoom t u = (shuffle : ShuffleId) → length (outputs_of u shuffle) ≡ length (outputs_of t shuffle)
-
-abbrev pub KeepsRoom : DagData → DagData → Type 0
-KeepsRoom d after = SameRoom d.tracker after.tracker
-
+-- a core has room for as many outputs of each shuffle
 abbrev pub LeavesRoom : CoreData → CoreData → Type 0
 LeavesRoom c after = KeepsRoom c.dag after.dag
-
-same_room : (t u : TrackerData) → u ≡ t → SameRoom t u
-same_room t u e shuffle = ap (λ x. length (outputs_of x shuffle)) e
-
-room_then : (t u v : TrackerData) → SameRoom t u → SameRoom u v → SameRoom t v
-room_then t u v h k shuffle = k shuffle ∙ h shuffle
-
--- ---- stages
-
-submitted_room : (d after : DagData) (submitted : ℕ → Bool) → IsSubmitted d submitted after
-    → KeepsRoom d after
-submitted_room d after submitted (looked, are, is) =
-    same_room d.tracker after.tracker (ap (λ (x : DagData). x.tracker) is)
-
-fails_room : (d after : DagData) (s number : ℕ) (verdict : Verdict)
-    → FailsStage d s number verdict after → KeepsRoom d after
-fails_room d after s number verdicts.Limit (often, is) =
-    same_room d.tracker after.tracker (ap (λ (x : DagData). x.tracker) is)
-fails_room d after s number verdicts.Again (often, h) =
-    submitted_room (with_state d s (with_failed number)) after (this_stage s) h
-
-looks_room : (x y : Bool) (d after : DagData) (s : ℕ) → LooksAgain x y d s after
-    → KeepsRoom d after
-looks_room true y d after s (looked, are, is) =
-    same_room d.tracker after.tracker (ap (λ (x : DagData). x.tracker) is)
-looks_room false true d after s (looked, are, is) =
-    same_room d.tracker after.tracker (ap (λ (x : DagData). x.tracker) is)
-looks_room false false d after s is =
-    same_room d.tracker after.tracker (ap (λ (x : DagData). x.tracker) is)
-
-follows_room : (success : Success) (d after : DagData) (s : ℕ) → FollowsUp success d s after
-    → KeepsRoom d after
-follows_room successes.Repeated d after s is =
-    same_room d.tracker after.tracker (ap (λ (x : DagData). x.tracker) is)
-follows_room successes.Registered d after s h =
-    looks_room (is_complete d s) (is_finished_short d s) d after s h
-follows_room successes.Bogus d after s h =
-    looks_room (is_complete d s) (is_finished_short d s) d after s h
-follows_room successes.Finished d after s h =
-    looks_room (is_complete d s) (is_finished_short d s) d after s h
-
-both_tracker : (d : DagData) (a : AttemptId) (now : ℕ)
-    → (succeeded_in_both d a now).tracker ≡ d.tracker
-both_tracker d a now = by (is_of_newest d a)
-  where
-    by : (b : Bool) → (if b then succeeded_in_own d a now
-        else with_state (succeeded_in_own d a now) a.stage
-        (changed_newest (λ set. after_success set a.partition None now))).tracker ≡ d.tracker
-    by true = refl
-    by false = refl
-
-output_room : (t : TrackerData) (block : Option BlockId) (loc : Loc)
-    → SameRoom t (registered_by t block loc)
-output_room t None loc shuffle = refl
-output_room t (Some block) loc shuffle = registered_room t block loc shuffle
-
-map_room : (d : DagData) (a : AttemptId) (loc : Loc) (epoch now : ℕ)
-    → KeepsRoom d (after_map_success d a loc epoch now)
-map_room d a loc epoch now = by (is_repeat d a) (is_bogus d.tracker loc epoch)
-  where
-    by : (x y : Bool) → KeepsRoom d (if x then ended_in_own d a
-        else if y then succeeded_in_own d a now
-        else succeeded_in_both (with_output d a loc) a now)
-    by true y = λ shuffle. refl
-    by false true = λ shuffle. refl
-    by false false =
-        room_then d.tracker (with_output d a loc).tracker
-        (succeeded_in_both (with_output d a loc) a now).tracker
-        (output_room d.tracker (block_by (stage_at d a.stage).target a.partition) loc)
-        (same_room (with_output d a loc).tracker
-        (succeeded_in_both (with_output d a loc) a now).tracker
-        (both_tracker (with_output d a loc) a now))
-
-result_tracker : (d : DagData) (a : AttemptId) (now : ℕ)
-    → (after_result_success d a now).tracker ≡ d.tracker
-result_tracker d a now = by (is_repeat d a)
-  where
-    won : DagData
-    won = with_state (succeeded_in_both d a now) a.stage (with_result a.partition)
-
-    done : (b : Bool) → (if b then with_state won a.stage completed else won).tracker ≡ d.tracker
-    done true = both_tracker d a now
-    done false = both_tracker d a now
-
-    by : (b : Bool) → (if b then ended_in_own d a else completed_if won a.stage).tracker
-        ≡ d.tracker
-    by true = refl
-    by false = done (is_complete won a.stage)
-
-seen_room : (d : DagData) (exec found : ℕ) → KeepsRoom d (after_seen d exec found)
-seen_room d exec found = by (is_newer (slice_get d.tracker.trust exec) found) refl
-  where
-    by : (b : Bool) → is_newer (slice_get d.tracker.trust exec) found ≡ b
-        → KeepsRoom d (after_seen d exec found)
-    by true e shuffle =
-        rw (
-          e,
-          under_mapped d.tracker.shuffles shuffle (forgotten_on exec),
-          length-map (outputs_of d.tracker shuffle) (forgotten_on exec),
-        ) refl
-    by false e shuffle = rw e refl
 
 -- ---- reports
 

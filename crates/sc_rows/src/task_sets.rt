@@ -252,6 +252,17 @@ fn an_attempt_that_ended_leaves_its_partition(rt: HostRuntime) -> Result<(), Fai
     Ok(())
 }
 
+// Each hand-out takes room for what may come of it, and for no more than that.
+#[test]
+fn many_hand_outs_take_little_room(rt: HostRuntime) -> Result<(), Fail> {
+    let mut set = set_of(rt.alloc(), true)?;
+    for nth in 0..100 {
+        assert_eq!(rt; numbers(set.next(1, 0)?), Some((0, nth)));
+        assert_eq!(rt; set.failed(0, nth, FailureCause::Denied), Verdict::Again);
+    }
+    Ok(())
+}
+
 // Room for three tasks, of which two are used. Readers say what the set was begun with.
 #[test]
 fn a_set_begins_in_its_room(rt: HostRuntime) -> Result<(), Fail> {
