@@ -1,13 +1,13 @@
 //! Values put together under their keys.
 #![tactic(auto)]
 
-ghost use Rattle.std.specs.Prelude.{◌≡◌, IfOk, [], length, map};
+ghost use Rattle.std.specs.Prelude.{◌≡◌, IfOk, IfSome, [], length, map, replicate};
 ghost use Rattle.sc_base.specs.Answers.{Answers};
 ghost use Rattle.sc_columns.specs.Columns.{zip_with};
 ghost use Rattle.sc_expr.specs.Heads.{first_of as first_part, second_of as second_part};
 ghost use Rattle.sc_expr.specs.Views.{expr_data_of};
 ghost use Rattle.sc_lineage.specs.Keyed.{combined as combined_of};
-ghost use Rattle.sc_value.specs.Datum.{pair};
+ghost use Rattle.sc_value.specs.Datum.{number, pair};
 ghost use Rattle.sc_value.specs.Views.{datum_of};
 ghost use Rattle.sc_combine.specs.Combining.{folded_by, put_at, step_of};
 ghost use Rattle.sc_combine.specs.declared.combining.Taken.TheVariants.{Values};
@@ -78,12 +78,33 @@ fn combined_values(
     ensures { Answers (λ r. r) (λ r. r) result
         (folded_by (step_of Values (expr_data_of expr.now)) [] numbers.now values.now) }
 {
-    match fold_as_ints(alloc, expr, numbers, values)? {
+    let values = written_out(alloc, values)?;
+    match fold_as_ints(alloc, expr, numbers, &values)? {
         Some(rows) => Ok(rows),
         None => {
-            let kept = kept_items(alloc, expr, Taken::Values, numbers, values)?;
+            let kept = kept_items(alloc, expr, Taken::Values, numbers, &values)?;
             Ok(rows_of(alloc, &kept)?)
         }
+    }
+}
+
+/// The same values, where a number that is held once for all rows is written out for each.
+fn written_out(alloc: Global, values: &Rows) -> Result<Rows, AllocError>
+    ensures { IfOk result (λ rows. rows ≡ values.now) }
+{
+    match repeated_number(values) {
+        Some(n) => Rows::of_ints(alloc, vec![in alloc; n; values.len()]?),
+        None => values.share(),
+    }
+}
+
+/// The number that all rows are, where they are held so. None is always a right answer.
+fn repeated_number(values: &Rows) -> Option<i64>
+    ensures { IfSome result (λ n. values.now ≡ replicate (length values.now) (number n)) }
+{
+    match values.as_repeated() {
+        Some(Value::Int(n)) => Some(*n),
+        Some(_) | None => None,
     }
 }
 
