@@ -8,8 +8,8 @@ use sc_combine::{
 };
 use sc_expr::{Expr, Head, Raise, Variable};
 use sc_lineage::{Meeting, Shuffling, Stream};
-use sc_value::{Text, Value, print};
 use sc_shuffle::MapOutput;
+use sc_value::{Text, Value, print};
 use std::process::Abort;
 
 /// In each line: a shuffle, the rows of its map partitions, and what it gives in one partition, by

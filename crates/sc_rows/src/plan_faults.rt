@@ -125,7 +125,10 @@ const NUMBERS: [(&str, &str); 26] = [
     ("evict 0 1\nevict 0 1", "line 2: Twice"),
     ("drop 0 1\ndrop 0 2\ndrop 1 1", "plan of 3"),
     ("drop 0 1\nlose 0 1 1\nevict 0 1", "plan of 3"),
-    ("fail 1 0 0\nfail 0 1 0\nfail 0 0 1\nlate 0 0 1 0\ntwice 0 0 1", "plan of 5"),
+    (
+        "fail 1 0 0\nfail 0 1 0\nfail 0 0 1\nlate 0 0 1 0\ntwice 0 0 1",
+        "plan of 5",
+    ),
 ];
 
 #[test]

@@ -159,7 +159,12 @@ fn assert_calls_of<W: Naming, R: Abort + AllocGlobal>(rt: &R, work: Work, calls:
 /// The same of a new store.
 fn assert_calls<R: Abort + AllocGlobal>(rt: &R, calls: &[(Call, Told)]) {
     let plan = Plan::empty(rt.alloc());
-    let work = Work::new(Script::new(rt.alloc()), Vec::new(rt.alloc()), plan, Limits::default());
+    let work = Work::new(
+        Script::new(rt.alloc()),
+        Vec::new(rt.alloc()),
+        plan,
+        Limits::default(),
+    );
     assert_calls_of::<Brand, R>(rt, work, calls);
 }
 
