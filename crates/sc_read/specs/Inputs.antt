@@ -4,7 +4,7 @@ use Rattle.std.specs.Str.{IsUtf8}
 use Rattle.sc_base.specs.Outside.{Files, SourceState, HasAsked, IsQuietSource}
 use Rattle.sc_base.specs.declared.refusals.OrMemory.{OrMemory}
 use Rattle.sc_base.specs.declared.refusals.OrMemory.TheVariants.{Fault, OutOfMemory}
-use Rattle.sc_ids.specs.LimitDefaults.{default_limits}
+use Rattle.sc_ids.specs.declared.limits.Limits.{Limits}
 use Rattle.sc_lineage.specs.ScriptData.{ScriptData, input_names, name_of_input, AreTexts}
 use Rattle.sc_lineage.specs.declared.inputs.Input.{Input}
 use Rattle.sc_lineage.specs.declared.works.Work.{Work}
@@ -75,16 +75,16 @@ TakesAsInput before after name reads reads' (Err OutOfMemory) =
     ((reads' ≡ reads) × (after ≡ before))
     ⊎ ((bytes : List ℕ) × TakesInput before after name reads reads' bytes)
 
--- what the reading of a script's inputs answers, by what it has then kept
+-- what the reading of a script's inputs under limits answers, by what it has then kept
 abbrev pub TakesAsWork :
-    ScriptData → SourceState → SourceState → List Read → List Read
+    ScriptData → Limits → SourceState → SourceState → List Read → List Read
     → Result Work (OrMemory InputStop) → Type 0
-TakesAsWork script before after reads reads' (Ok work) =
-    (work.script ≡ script) × (work.plan ≡ []) × (work.limits ≡ default_limits)
+TakesAsWork script limits before after reads reads' (Ok work) =
+    (work.script ≡ script) × (work.plan ≡ []) × (work.limits ≡ limits)
     × TakesInputs script before after reads reads' work.inputs
-TakesAsWork script before after reads reads' (Err (Fault (stops.Unreadable name why))) =
+TakesAsWork script limits before after reads reads' (Err (Fault (stops.Unreadable name why))) =
     StopsAtFile script before after reads reads' name why
-TakesAsWork script before after reads reads' (Err (Fault (stops.NotText name))) =
+TakesAsWork script limits before after reads reads' (Err (Fault (stops.NotText name))) =
     StopsAtText script before after reads reads' name
-TakesAsWork script before after reads reads' (Err OutOfMemory) =
+TakesAsWork script limits before after reads reads' (Err OutOfMemory) =
     (inputs : Files) × TakesInputs script before after reads reads' inputs

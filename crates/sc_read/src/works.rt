@@ -2,6 +2,7 @@
 #![tactic(auto)]
 
 ghost use Rattle.sc_base.specs.Outside.{IsLaterSource};
+ghost use Rattle.sc_ids.specs.LimitRanges.{AreLimits};
 ghost use Rattle.sc_read.specs.Inputs.{TakesAsWork};
 
 use crate::inputs::read_input;
@@ -16,8 +17,8 @@ use sc_plan::Plan;
 use std::alloc::Global;
 
 /// A script with its inputs, each of which is asked for once, in the order in which the script
-/// names them first. What was read is kept behind what was kept before. No fault is planned, and
-/// the limits are those of a run that sets none.
+/// names them first, under these limits. What was read is kept behind what was kept before. No
+/// fault is planned.
 ///
 /// # Errors
 ///
@@ -26,10 +27,12 @@ pub fn read_work<S: Source>(
     alloc: Global,
     source: &mut S,
     script: Script,
+    limits: Limits,
     reads: &mut Vec<Read>,
 ) -> Result<Work, OrMemory<InputStop>>
+    requires { AreLimits limits }
     ensures later { IsLaterSource (S.state source.old) (S.state source.new) }
-    ensures work { TakesAsWork script (S.state source.old) (S.state source.new)
+    ensures work { TakesAsWork script limits (S.state source.old) (S.state source.new)
         reads.old.items reads.new.items result }
 {
     let names = names_of(alloc, &script)?;
@@ -37,5 +40,5 @@ pub fn read_work<S: Source>(
     for name in &names {
         inputs.push(read_input(alloc, source, name, reads)?)?;
     }
-    Ok(Work::new(script, inputs, Plan::empty(alloc), Limits::default()))
+    Ok(Work::new(script, inputs, Plan::empty(alloc), limits))
 }

@@ -1,0 +1,55 @@
+-- The command line, as what `clap` reads of it: one subcommand with a script and options.
+use Rattle.std.specs.Prelude.{ℕ, true, false, List, [], ◌∷◌, ◌++◌, Some, codes, fold, pos}
+use Rattle.clap.specs.Words.{App, Rule, Text, new_app, new_rule, with_rule}
+use Rattle.clap.specs.declared.builder.value_parser.ValueParser.TheVariants as parsers
+
+-- the script's name, which has to be there
+abbrev pub script_rule : Rule
+script_rule = record (new_rule (codes "SCRIPT")) { required = true }
+
+-- an option that takes a whole number from 1 to this one
+abbrev pub number_rule : Text → ℕ → Rule
+number_rule name most = record (new_rule name) {
+  long = Some name;
+  parser = Some (parsers.Signed (pos 1) (pos most));
+}
+
+-- an option that takes a text
+abbrev pub text_rule : Text → Rule
+text_rule name = record (new_rule name) { long = Some name }
+
+-- the options of fault plans and of cached blocks
+abbrev pub later_rules : List Rule
+later_rules = text_rule (codes "plan") ∷ number_rule (codes "cache") 4096 ∷ []
+
+-- what `run` takes
+abbrev pub run_rules : List Rule
+run_rules = (
+  script_rule
+  ∷ number_rule (codes "executors") 64
+  ∷ number_rule (codes "task-failures") 16
+  ∷ number_rule (codes "stage-attempts") 16
+  ∷ []
+) ++ later_rules
+
+-- the subcommand `run`
+abbrev pub run_app : App
+run_app = record {
+  top = record (new_app (codes "run")).top { rules = run_rules };
+  subs = [];
+}
+
+-- a command that takes the later options too
+abbrev pub with_later : App → App
+with_later a = fold with_rule a later_rules
+
+-- the program's command: a subcommand has to be there, and the words come without its name
+abbrev pub program : App
+program = record {
+  top = record (new_app (codes "spark_run")).top {
+    is_leaf = false;
+    no_binary_name = true;
+    subcommand_required = true;
+  };
+  subs = run_app.top ∷ [];
+}

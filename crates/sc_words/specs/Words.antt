@@ -1,0 +1,81 @@
+-- What the words of the command line ask for.
+use Rattle.std.specs.Prelude.{ℕ, ◌≡◌, ◌≢◌, ◌&&◌, List, [], ◌∷◌, Option, Some, None, Result, Ok, Err, codes, nat_le, nat_lt, if◌then◌else◌, option_and_then, option_map, unwrap_or}
+use Rattle.std.specs.Str.Parse.{digits_value, without_leading_plus}
+use Rattle.clap.specs.ValueTests.{is_numeral}
+use Rattle.clap.specs.Words.{Row, Text, fault_of, first_of, one_of, subcommand_of, subcommand_rows_of}
+use Rattle.clap.specs.declared.error.ErrorKind.{ErrorKind}
+use Rattle.clap.specs.declared.error.ErrorKind.TheVariants as kinds
+use Rattle.clap.specs.declared.ArgMatches.{ArgMatches}
+use Rattle.sc_base.specs.declared.refusals.OrMemory.{OrMemory}
+use Rattle.sc_base.specs.declared.refusals.OrMemory.TheVariants.{Fault, OutOfMemory}
+use Rattle.sc_ids.specs.LimitDefaults.{default_limits}
+use Rattle.sc_ids.specs.declared.limits.Limits.{Limits}
+use Rattle.sc_words.specs.Program.{program}
+use Rattle.sc_words.specs.declared.commands.Command.{Command}
+use Rattle.sc_words.specs.declared.commands.Usage.{Usage}
+
+-- `clap` takes the words
+unfoldable pub AreTaken : List Text → Type 0
+AreTaken words = fault_of program words ≡ []
+
+-- the number of 32 bits that a text is in decimal digits
+abbrev pub number_of : Text → Option ℕ
+number_of text =
+    let digits = without_leading_plus text in
+    if is_numeral digits && nat_lt (digits_value 10 digits) 4294967296
+    then Some (digits_value 10 digits) else None
+
+-- a number where it is from 1 to `most`, or another
+abbrev pub up_to : ℕ → ℕ → ℕ → ℕ
+up_to most n other = if nat_le 1 n && nat_le n most then n else other
+
+-- the number that an option has, or another where it has none from 1 to `most`
+abbrev pub number_at : Text → ℕ → List Row → ℕ → ℕ
+number_at name most rows other =
+    up_to most (unwrap_or (option_and_then number_of (one_of name rows)) other) other
+
+-- the limits that the options set; the others are those of a run that sets none
+abbrev pub limits_at : List Row → Limits
+limits_at rows = record default_limits {
+  executors = number_at (codes "executors") 64 rows default_limits.executors;
+  task_failures = number_at (codes "task-failures") 16 rows default_limits.task_failures;
+  stage_attempts = number_at (codes "stage-attempts") 16 rows default_limits.stage_attempts;
+  cache = number_at (codes "cache") 4096 rows default_limits.cache;
+}
+
+-- the command of what `clap` found for `run`
+abbrev pub command_at : List Row → Command
+command_at rows = record {
+  script = unwrap_or (first_of (codes "SCRIPT") rows) [];
+  plan = first_of (codes "plan") rows;
+  limits = limits_at rows;
+}
+
+-- a command, unless something refuses it
+abbrev pub unless_refused : List ErrorKind → Option Command → Option Command
+unless_refused [] command = command
+unless_refused (kind ∷ kinds) command = None
+
+-- what the words ask for, where `clap` takes them
+unfoldable pub command_of : List Text → Option Command
+command_of words =
+    unless_refused (fault_of program words)
+    (option_map (λ p. command_at p.1) (subcommand_of program words))
+
+-- what a reading of words answers
+abbrev pub ReadsWords : List Text → Result Command (OrMemory Usage) → Type 0
+ReadsWords words (Ok command) = AreTaken words × (command_of words ≡ Some command)
+ReadsWords words (Err (Fault usage)) = (AreTaken words → ⊥) × (command_of words ≡ None)
+ReadsWords words (Err OutOfMemory) = Unit {0}
+
+-- what `clap` finds in the words, or how it refuses them
+abbrev pub FindsMatches : List Text → Result ArgMatches (OrMemory Usage) → Type 0
+FindsMatches words (Ok matches) =
+    AreTaken words × (subcommand_rows_of matches ≡ subcommand_of program words)
+FindsMatches words (Err (Fault usage)) = AreTaken words → ⊥
+FindsMatches words (Err OutOfMemory) = Unit {0}
+
+-- a refusal by a kind of error: it is want of memory where that ran out, and nowhere else
+abbrev pub RefusesFor : ErrorKind → OrMemory Usage → Type 0
+RefusesFor kind (Fault usage) = kind ≢ kinds.OutOfMemory
+RefusesFor kind OutOfMemory = kind ≡ kinds.OutOfMemory

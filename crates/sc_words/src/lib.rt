@@ -1,0 +1,13 @@
+//! The words of the command line.
+//!
+//! [`read_words`] gives the [`Command`] that the words ask for, or [`Usage`] exactly where `clap`
+//! refuses them, a call for help included. `specs/Program.antt` has the command line as what `clap`
+//! reads of it. What stands on this crate sees a command and knows nothing of `clap`.
+#![tactic(auto)]
+
+mod commands;
+mod program;
+mod words;
+
+pub use commands::{Command, Usage};
+pub use words::read_words;

@@ -1,0 +1,63 @@
+//! The command line, as `clap` is told of it.
+#![tactic(auto)]
+
+ghost use Rattle.std.specs.Prelude.{◌≡◌, IfOk, None, false};
+ghost use Rattle.clap.specs.Words.{app_of, rule_of};
+ghost use Rattle.clap.specs.declared.Command.TheViews.{out-Command as fields_of};
+ghost use Rattle.sc_words.specs.Program.{number_rule, program, run_app, text_rule, with_later};
+
+use clap::{Arg, Command, value_parser};
+use std::alloc::{AllocError, Global};
+
+/// The command line of the program.
+pub(crate) fn program<'a>(alloc: Global) -> Result<Command<'a>, AllocError>
+    ensures { IfOk result (λ c. app_of c ≡ program) }
+{
+    let run = run_command(alloc)?;
+    Command::new(alloc, "spark_run")
+        .no_binary_name(true)
+        .subcommand_required(true)
+        .subcommand(run)
+}
+
+/// The subcommand `run`.
+fn run_command<'a>(alloc: Global) -> Result<Command<'a>, AllocError>
+    ensures app { IfOk result (λ c. app_of c ≡ run_app) }
+    ensures local { IfOk result (λ c. (fields_of c).has_globals ≡ false) }
+{
+    let script = Arg::new(alloc, "SCRIPT").required(true);
+    let command = Command::new(alloc, "run")
+        .arg(script)?
+        .arg(number_option(alloc, "executors", 64))?
+        .arg(number_option(alloc, "task-failures", 16))?
+        .arg(number_option(alloc, "stage-attempts", 16))?;
+    later_options(alloc, command)
+}
+
+/// Adds the options of fault plans and of cached blocks.
+fn later_options<'a>(alloc: Global, command: Command<'a>) -> Result<Command<'a>, AllocError>
+    ensures app { IfOk result (λ c. app_of c ≡ with_later (app_of command.entry)) }
+    ensures local { IfOk result (λ c. (fields_of command.entry).has_globals ≡ false
+        → (fields_of c).has_globals ≡ false) }
+{
+    command
+        .arg(text_option(alloc, "plan"))?
+        .arg(number_option(alloc, "cache", 4096))
+}
+
+/// An option that takes a whole number from 1 to `most`.
+fn number_option<'a>(alloc: Global, name: &'a str, most: u32) -> Arg<'a>
+    ensures rule { rule_of result ≡ number_rule name.entry.now most }
+    ensures local { result.global ≡ false }
+{
+    text_option(alloc, name).value_parser(value_parser!(u32).range(1..=i64::from(most)))
+}
+
+/// An option that takes a text.
+fn text_option<'a>(alloc: Global, name: &'a str) -> Arg<'a>
+    ensures rule { rule_of result ≡ text_rule name.entry.now }
+    ensures local { result.global ≡ false }
+    ensures any { result.value_parser ≡ None }
+{
+    Arg::new(alloc, name).long(name)
+}
