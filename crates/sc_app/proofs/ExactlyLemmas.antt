@@ -195,13 +195,13 @@ faults_without : (work : WorkData) (a : ActionData) (f : DriverFault)
 faults_without work a f is text = let e = text.1 in cc
 
 module _ (law : HaveOneReading) (run : RunData) (work : WorkData) (k : ℕ) (action : ActionData)
-    (read : HasReadWork run.reads work) (first : IsFirstWithout work k action)
+    (read : HasReadWork run.words run.reads work) (first : IsFirstWithout work k action)
     (bare : HasText work action → ⊥) where
   -- not all actions have texts
-  not_all : (other : WorkData) → HasReadWork run.reads other
+  not_all : (other : WorkData) → HasReadWork run.words run.reads other
       → All (HasText other) (take (length other.script.actions) other.script.actions) → ⊥
   not_all other was texts =
-      let same : other ≡ work = one_work law run.reads other work was read in
+      let same : other ≡ work = one_work law run.words run.reads other work was read in
       let all : All (HasText work) (take (length work.script.actions) work.script.actions) =
       subst (λ (w : WorkData). All (HasText w) (take (length w.script.actions) w.script.actions))
       same texts in
@@ -216,20 +216,20 @@ module _ (law : HaveOneReading) (run : RunData) (work : WorkData) (k : ℕ) (act
   not_next : (name : List ℕ) → IsNextName run name → ⊥
   not_next name (inl empty) = let e = empty.0 in let is = read.read.is in cc
   not_next name (inr next) =
-      no_next law run.reads work next.0 next.1 name read next.2 next.3
+      no_next law run.words run.reads work next.0 next.1 name read next.2 next.3
 
   not_bad : (script : ScriptData) (inputs : Files) (name bytes : List ℕ)
       → HasRead run.reads script (inputs ++ (name, bytes) ∷ []) → (IsUtf8 bytes → ⊥) → ⊥
   not_bad script inputs name bytes was bad =
-      no_bad_text law run.reads work script inputs name bytes read was bad
+      no_bad_text law run.words run.reads work script inputs name bytes read was bad
 
   -- an action that stopped the run is this one
-  stopped : (other : WorkData) (i : ℕ) (a : ActionData) → HasReadWork run.reads other
+  stopped : (other : WorkData) (i : ℕ) (a : ActionData) → HasReadWork run.words run.reads other
       → All (HasText other) (take i other.script.actions)
       → slice_get other.script.actions i ≡ Some a → (HasText other a → ⊥)
       → (i ≡ k) × (other ≡ work) × (a ≡ action)
   stopped other i a was texts is none =
-      let same : other ≡ work = one_work law run.reads other work was read in
+      let same : other ≡ work = one_work law run.words run.reads other work was read in
       let number : i ≡ k = one_first work i k a action
       (subst (λ (w : WorkData). All (HasText w) (take i w.script.actions)) same texts)
       (subst (λ (w : WorkData). slice_get w.script.actions i ≡ Some a) same is)
@@ -242,7 +242,7 @@ module _ (law : HaveOneReading) (run : RunData) (work : WorkData) (k : ℕ) (act
       (number, same, cc)
 
 module _ (law : HaveOneReading) (run : RunData) (work : WorkData) (k : ℕ) (action : ActionData)
-    (read : HasReadWork run.reads work) (first : IsFirstWithout work k action)
+    (read : HasReadWork run.words run.reads work) (first : IsFirstWithout work k action)
     (is : action_outcome work action ≡ never) where
   no_text : HasText work action → ⊥
   no_text = never_without work action is
@@ -283,12 +283,13 @@ module _ (law : HaveOneReading) (run : RunData) (work : WorkData) (k : ℕ) (act
       ends.read ends.no_text)
 
 pub tells_never : HaveOneReading → (run : RunData) (status : Status) → Ends run status
-    → TellsNever run.reads status
+    → TellsNever run.words run.reads status
 tells_never law run status ends = λ work k action read first is.
     tells_never_here law run work k action read first is status ends
 
 module _ (law : HaveOneReading) (run : RunData) (work : WorkData) (k : ℕ) (action : ActionData)
-    (fault : DriverFault) (read : HasReadWork run.reads work) (first : IsFirstWithout work k action)
+    (fault : DriverFault) (read : HasReadWork run.words run.reads work)
+    (first : IsFirstWithout work k action)
     (is : action_outcome work action ≡ faults fault) where
   no_text_either : HasText work action → ⊥
   no_text_either = faults_without work action fault is
@@ -329,6 +330,6 @@ module _ (law : HaveOneReading) (run : RunData) (work : WorkData) (k : ℕ) (act
       ends.bytes ends.read ends.no_text)
 
 pub tells_driver_fault : HaveOneReading → (run : RunData) (status : Status) → Ends run status
-    → TellsDriverFault run.reads status
+    → TellsDriverFault run.words run.reads status
 tells_driver_fault law run status ends = λ work k action fault read first is.
     tells_driver_here law run work k action fault read first is status ends

@@ -5,6 +5,7 @@ use Rattle.std.specs.Str.{IsUtf8}
 use Rattle.std.proofs.lemmas.List.{length-map}
 use Rattle.std.proofs.lemmas.Option.{slice_get_within}
 use Rattle.sc_base.specs.Outside.{Files}
+use Rattle.sc_ids.specs.declared.limits.Limits.{Limits}
 use Rattle.sc_lineage.specs.ScriptData.{ScriptData, WorkData, AreTexts, input_names, name_of_input, work_data}
 use Rattle.sc_read.specs.declared.reads.Read.{Read}
 use Rattle.sc_read.specs.declared.reads.Role.TheVariants as roles
@@ -92,25 +93,30 @@ module _ (law : HaveOneReading) (rs : List Read) where
       → HasRead rs s is → HasRead rs s' is' → is ≡ is'
   one_inputs s s' is is' was was' = same_behind rs was.bytes was'.bytes is is' was.is was'.is
 
+-- two limits that are there as one are equal
+one_some : {a b : Limits} → Some a ≡ Some b → a ≡ b
+one_some e = cc
+
+module _ (law : HaveOneReading) (words : List (List ℕ)) (rs : List Read) where
   -- so it is one work
-  pub one_work : (w w' : WorkData) → HasReadWork rs w → HasReadWork rs w' → w ≡ w'
+  pub one_work : (w w' : WorkData) → HasReadWork words rs w → HasReadWork words rs w' → w ≡ w'
   one_work w w' was was' =
-      let scripts = one_script w.script w'.script w.inputs w'.inputs was.read was'.read in
-      let inputs = one_inputs w.script w'.script w.inputs w'.inputs was.read was'.read in
+      let scripts = one_script law rs w.script w'.script w.inputs w'.inputs was.read was'.read in
+      let inputs = one_inputs law rs w.script w'.script w.inputs w'.inputs was.read was'.read in
       let P : ScriptData → WorkData = λ s. work_data s w.inputs w.plan w.limits in
       let Q : Files → WorkData = λ is. work_data w'.script is w.plan w.limits in
       let plans : w.plan ≡ w'.plan = was.plan ∙ sym was'.plan in
-      let limits : w.limits ≡ w'.limits = was.limits ∙ sym was'.limits in
+      let limits : w.limits ≡ w'.limits = one_some (sym was.limits ∙ was'.limits) in
       ap P scripts ∙ ap Q inputs
       ∙ ap (λ p. work_data w'.script w'.inputs p w.limits) plans
       ∙ ap (λ l. work_data w'.script w'.inputs w'.plan l) limits
 
   -- where all inputs of a work were read, none is next
   pub no_next : (w : WorkData) (s : ScriptData) (is : Files) (name : List ℕ)
-      → HasReadWork rs w → HasRead rs s is → IsNextInput s is name → ⊥
+      → HasReadWork words rs w → HasRead rs s is → IsNextInput s is name → ⊥
   no_next w s is name was some next =
-      let scripts = one_script w.script s w.inputs is was.read some in
-      let inputs = one_inputs w.script s w.inputs is was.read some in
+      let scripts = one_script law rs w.script s w.inputs is was.read some in
+      let inputs = one_inputs law rs w.script s w.inputs is was.read some in
       let names : map name_of_input is ≡ input_names s =
       ap (map name_of_input) (sym inputs) ∙ was.sound.names ∙ ap input_names scripts in
       let within : length is < length (input_names s) =
@@ -119,7 +125,7 @@ module _ (law : HaveOneReading) (rs : List Read) where
 
   -- where a work was read, the input read last is text
   pub no_bad_text : (w : WorkData) (s : ScriptData) (is : Files) (name bytes : List ℕ)
-      → HasReadWork rs w → HasRead rs s (is ++ (name, bytes) ∷ []) → (IsUtf8 bytes → ⊥) → ⊥
+      → HasReadWork words rs w → HasRead rs s (is ++ (name, bytes) ∷ []) → (IsUtf8 bytes → ⊥) → ⊥
   no_bad_text w s is name bytes was some bad =
-      let inputs = one_inputs w.script s w.inputs (is ++ (name, bytes) ∷ []) was.read some in
+      let inputs = one_inputs law rs w.script s w.inputs (is ++ (name, bytes) ∷ []) was.read some in
       bad (AreTexts-last is name bytes (subst (λ all. AreTexts all) inputs was.sound.texts))

@@ -7,7 +7,7 @@ use Rattle.std.proofs.lemmas.List.{append-nil, length-map, take_all}
 use Rattle.sc_base.specs.Outside.{Files, SourceState, SinkState, HasAsked, IsLaterSource, IsQuietSource, outside_of}
 use Rattle.sc_base.specs.declared.refusals.OrMemory.{OrMemory}
 use Rattle.sc_base.specs.declared.refusals.OrMemory.TheVariants as refusals
-use Rattle.sc_ids.specs.LimitDefaults.{default_limits}
+use Rattle.sc_ids.specs.declared.limits.Limits.{Limits}
 use Rattle.sc_lineage.specs.ScriptData.{ScriptData, WorkData, IsSoundWork, AreTexts, input_names, name_of_input}
 use Rattle.sc_print.specs.declared.printing.PrintFault.{PrintFault}
 use Rattle.sc_print.specs.declared.printing.PrintFault.TheVariants as print_faults
@@ -27,10 +27,13 @@ use Rattle.sc_read.proofs.ReadLemmas.{asked-more, quiet-more, unreadable-since}
 use Rattle.sc_script.specs.Scripts.{ReadsScript}
 use Rattle.sc_app.specs.declared.ran.Status.{Status}
 use Rattle.sc_app.specs.declared.ran.Status.TheVariants as statuses
+use Rattle.sc_app.specs.Exactly.{TellsUsage}
 use Rattle.sc_app.specs.Ends.{Ends, IsRun, IsRunOf, PrintsMeaning, why_of}
 use Rattle.sc_app.specs.Runs.{RunData, AreReads, AsksOnce, HasRead, HasReadWork, ReadsInOrder, name_missed, run_of}
 use Rattle.sc_app.specs.Statuses.{is_missing, status_of_input, status_of_print, status_of_script}
-use Rattle.sc_app.specs.Words.{CommandData, command_of}
+use Rattle.sc_words.specs.Words.{AreTaken, command_of}
+use Rattle.sc_words.specs.declared.commands.Command.{Command}
+use Rattle.sc_words.proofs.TakenLemmas.{command_taken}
 use Rattle.sc_app.proofs.PieceLemmas.{text-printed}
 
 -- the cause of a name that gave no bytes, as its status tells it
@@ -47,26 +50,39 @@ names-inputs word [] = refl
 names-inputs word (input ∷ inputs) = ap (λ ns. input.0 ∷ ns) (names-inputs word inputs)
 
 -- nothing that is Usage
-usage-none : (status : Status) (words : List (List ℕ)) (command : CommandData)
+usage-none : (status : Status) (words : List (List ℕ)) (command : Command)
     → command_of words ≡ Some command → (status ≡ statuses.Usage → ⊥)
-    → (status ≡ statuses.Usage) ↔ (command_of words ≡ None)
-usage-none status words command is other = ((λ e. absurd (other e)), (λ none. absurd cc))
+    → TellsUsage words status
+usage-none status words command is other =
+    ((λ e. absurd (other e)), (λ refused. absurd (refused (command_taken words command is))))
 
-module _ (words : List (List ℕ)) (name : List ℕ)
-    (is_command : command_of words ≡ Some (record { script = name })) where
+-- nothing was asked for
+asked-none : (s : SourceState) → HasAsked s s []
+asked-none s = none s.asked
+  where
+    none : (shown : Option (List (List ℕ)))
+        → shown ≡ option_map (λ (before : List (List ℕ)). before ++ []) shown
+    none None = refl
+    none (Some ns) = ap Some (sym (append-nil ns))
+
+module _ (words : List (List ℕ)) (command : Command)
+    (is_command : command_of words ≡ Some command) where
+  abbrev name : List ℕ
+  name = command.script
+
   -- what was asked for, whatever the command is called
   asks : (run : RunData) (status : Status) (names : List (List ℕ)) → run.words ≡ words
       → HasAsked run.before.source run.after.source names
       → names ≡ names_of_reads name run.reads ++ name_missed status → AsksOnce run status
-  asks run status names same asked are command e =
-      let named : command.script ≡ name =
-      by_some command (record { script = name }) (sym e ∙ ap command_of same ∙ is_command) in
+  asks run status names same asked are other e =
+      let named : other.script ≡ name =
+      by_some other command (sym e ∙ ap command_of same ∙ is_command) in
       subst (λ n. HasAsked run.before.source run.after.source
       (names_of_reads n run.reads ++ name_missed status)) (sym named)
       (subst (λ ns. HasAsked run.before.source run.after.source ns) are asked)
     where
-      by_some : (a b : CommandData) → Some a ≡ Some b → a.script ≡ b.script
-      by_some a b e = let same : a ≡ b = cc in ap (λ (c : CommandData). c.script) same
+      by_some : (a b : Command) → Some a ≡ Some b → a.script ≡ b.script
+      by_some a b e = let same : a ≡ b = cc in ap (λ (c : Command). c.script) same
 
   -- the reading of the script stops the run
   pub script-stops : (before after : SourceState) (sink : SinkState) (reads : List Read)
@@ -77,7 +93,7 @@ module _ (words : List (List ℕ)) (name : List ℕ)
       let run = run_of words reads (outside_of before sink) (outside_of after sink) in
       record {
         reads = inr (record {
-          command = record { script = name };
+          command = command;
           taken = record { script = x.0; inputs = [] };
           is_command = is_command;
           is = x.1.kept;
@@ -93,7 +109,7 @@ module _ (words : List (List ℕ)) (name : List ℕ)
           quiet = x.1.file.quiet;
           nothing_written = refl;
         };
-        usage = usage-none (statuses.Script fault) words (record { script = name }) is_command
+        usage = usage-none (statuses.Script fault) words command is_command
             (λ e. cc);
       }
   script-stops before after sink reads (refusals.Fault (script_stops.Unreadable why)) x =
@@ -104,11 +120,11 @@ module _ (words : List (List ℕ)) (name : List ℕ)
         asked = asks run status (name ∷ []) refl x.1.asked
             (ap (λ rs. names_of_reads name rs ++ name ∷ []) (sym x.0));
         ends = record {
-          is_next = inl (x.0, (record { script = name }, is_command, refl));
+          is_next = inl (x.0, (command, is_command, refl));
           cause = told_cause before after name why x.1.cause;
           nothing_written = refl;
         };
-        usage = usage-none status words (record { script = name }) is_command (λ e. cc);
+        usage = usage-none status words command is_command (λ e. cc);
       }
   script-stops before after sink reads refusals.OutOfMemory (inl x) =
       let run = run_of words reads (outside_of before sink) (outside_of after sink) in
@@ -122,22 +138,14 @@ module _ (words : List (List ℕ)) (name : List ℕ)
               (record { faults = refl; misses = refl });
           stands = inl refl;
         };
-        usage = usage-none statuses.OutOfMemory words (record { script = name }) is_command
+        usage = usage-none statuses.OutOfMemory words command is_command
             (λ e. cc);
       }
-    where
-      asked-none : (s : SourceState) → HasAsked s s []
-      asked-none s = none s.asked
-        where
-          none : (shown : Option (List (List ℕ)))
-              → shown ≡ option_map (λ (before : List (List ℕ)). before ++ []) shown
-          none None = refl
-          none (Some ns) = ap Some (sym (append-nil ns))
   script-stops before after sink reads refusals.OutOfMemory (inr x) =
       let run = run_of words reads (outside_of before sink) (outside_of after sink) in
       record {
         reads = inr (record {
-          command = record { script = name };
+          command = command;
           taken = record { script = x.0; inputs = [] };
           is_command = is_command;
           is = x.1.kept;
@@ -147,7 +155,7 @@ module _ (words : List (List ℕ)) (name : List ℕ)
         asked = asks run statuses.OutOfMemory (name ∷ []) refl x.1.file.asked
             (ap (λ rs. names_of_reads name rs ++ []) (sym x.1.kept));
         ends = record { quiet = x.1.file.quiet; stands = inl refl };
-        usage = usage-none statuses.OutOfMemory words (record { script = name }) is_command
+        usage = usage-none statuses.OutOfMemory words command is_command
             (λ e. cc);
       }
 
@@ -170,7 +178,7 @@ module _ (words : List (List ℕ)) (name : List ℕ)
         → AreFirstInputs script before.shown inputs → AreReads run
     in_order run inputs same source e first =
         inr (record {
-          command = record { script = name };
+          command = command;
           taken = record { script = bytes; inputs = inputs };
           is_command = ap command_of same ∙ is_command;
           is = behind inputs run.reads e;
@@ -227,7 +235,7 @@ module _ (words : List (List ℕ)) (name : List ℕ)
                 x.cause);
             nothing_written = refl;
           };
-          usage = usage-none status words (record { script = name }) is_command (λ e. cc);
+          usage = usage-none status words command is_command (λ e. cc);
         }
     inputs-stop after sink more (refusals.Fault (inputs_stops.NotText n)) x =
         let run = run_of words more (outside_of start sink) (outside_of after sink) in
@@ -246,7 +254,7 @@ module _ (words : List (List ℕ)) (name : List ℕ)
             quiet = quiet-more start before after taken.file.quiet x.taken.quiet;
             nothing_written = refl;
           };
-          usage = usage-none (statuses.NotText n) words (record { script = name }) is_command
+          usage = usage-none (statuses.NotText n) words command is_command
               (λ e. cc);
         }
     inputs-stop after sink more refusals.OutOfMemory x =
@@ -258,23 +266,23 @@ module _ (words : List (List ℕ)) (name : List ℕ)
             quiet = quiet-more start before after taken.file.quiet x.1.quiet;
             stands = inl refl;
           };
-          usage = usage-none statuses.OutOfMemory words (record { script = name }) is_command
+          usage = usage-none statuses.OutOfMemory words command is_command
               (λ e. cc);
         }
 
     -- all inputs were read
     module _ (after : SourceState) (more : List Read) (work : WorkData)
         (same : work.script ≡ script) (plan : work.plan ≡ [])
-        (limits : work.limits ≡ default_limits)
+        (limits : work.limits ≡ command.limits)
         (inputs : TakesInputs script before after reads more work.inputs)
         (sound : IsSoundWork work) where
-      has_work : HasReadWork more work
+      has_work : HasReadWork words more work
       has_work = record {
         read = subst (λ s. HasRead more s work.inputs) (sym same)
             (has_read work.inputs more inputs.kept);
         sound = sound;
         plan = plan;
-        limits = limits;
+        limits = ap (option_map (λ (c : Command). c.limits)) is_command ∙ ap Some (sym limits);
       }
 
       quiet : IsQuietSource start after
@@ -291,7 +299,7 @@ module _ (words : List (List ℕ)) (name : List ℕ)
             reads = in_order run work.inputs refl refl inputs.kept inputs.first;
             asked = asked-all run status work.inputs refl refl inputs.kept inputs.asked none;
             ends = ends;
-            usage = usage-none status words (record { script = name }) is_command other;
+            usage = usage-none status words command is_command other;
           }
 
       -- all actions were printed
@@ -329,14 +337,31 @@ module _ (words : List (List ℕ)) (name : List ℕ)
           all_read sink sink' statuses.OutOfMemory refl (λ e. cc)
           (record { quiet = quiet; stands = inr (work, has_work, x.0, x.1) })
 
--- words that are no command
+-- words that are refused
 pub no-command : (words : List (List ℕ)) (source : SourceState) (sink : SinkState)
-    → command_of words ≡ None
+    → (AreTaken words → ⊥) → command_of words ≡ None
     → IsRun (run_of words [] (outside_of source sink) (outside_of source sink)) statuses.Usage
-no-command words source sink none =
+no-command words source sink refused none =
     record {
       reads = inl refl;
       asked = λ command e. absurd cc;
-      ends = record { no_command = none; nothing_read = refl; untouched = refl };
-      usage = ((λ e. none), (λ e. refl));
+      ends = record {
+        refused = refused;
+        no_command = none;
+        nothing_read = refl;
+        untouched = refl;
+      };
+      usage = ((λ e. refused), (λ r. inl refl));
+    }
+
+-- memory ran out before anything was read
+pub no-memory : (words : List (List ℕ)) (source : SourceState) (sink : SinkState)
+    → IsRun (run_of words [] (outside_of source sink) (outside_of source sink))
+    statuses.OutOfMemory
+no-memory words source sink =
+    record {
+      reads = inl refl;
+      asked = λ command e. asked-none source;
+      ends = record { quiet = record { faults = refl; misses = refl }; stands = inl refl };
+      usage = ((λ e. absurd cc), (λ r. inr refl));
     }

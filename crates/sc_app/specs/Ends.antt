@@ -16,8 +16,10 @@ use Rattle.sc_script.specs.Scripts.{FaultsScript}
 use Rattle.sc_script.specs.declared.faults.ScriptFault.{ScriptFault}
 use Rattle.sc_app.specs.declared.ran.Status.{Status}
 use Rattle.sc_app.specs.declared.ran.Status.TheVariants as statuses
+use Rattle.sc_app.specs.Exactly.{TellsUsage}
 use Rattle.sc_app.specs.Runs.{RunData, AreReads, AsksOnce, HasRead, HasReadWork, IsNextName, run_of}
-use Rattle.sc_app.specs.Words.{command_of}
+use Rattle.sc_words.specs.Words.{AreTaken, command_of}
+use Rattle.sc_words.specs.declared.commands.Command.{Command}
 
 -- the sink took nothing, and no count of it rose
 abbrev pub NothingWritten : RunData → Type 0
@@ -30,7 +32,7 @@ NothingMissed run = IsQuietSource run.before.source run.after.source
 -- a script and its inputs were read, and the sink got the text of its sequential meaning
 pub record PrintsMeaning (run : RunData) : Type 0 where
   pub work : WorkData
-  pub read : HasReadWork run.reads work
+  pub read : HasReadWork run.words run.reads work
   pub quiet : NothingMissed run
   -- action by action, by one write for each text that isn't empty
   pub prints : PrintsAll work run.before.sink run.after.sink
@@ -38,8 +40,9 @@ pub record PrintsMeaning (run : RunData) : Type 0 where
   pub text : bytes_taken run.after.sink
       ≡ with_more (bytes_taken run.before.sink) (printed_by work (length work.script.actions))
 
--- the words are no command, and nothing was touched
+-- the words are refused, so they are no command, and nothing was touched
 pub record EndsForUsage (run : RunData) : Type 0 where
+  pub refused : AreTaken run.words → ⊥
   pub no_command : command_of run.words ≡ None
   pub nothing_read : run.reads ≡ []
   pub untouched : run.after ≡ run.before
@@ -77,7 +80,7 @@ pub record EndsForText (run : RunData) (name : List ℕ) : Type 0 where
 -- all was read, and an action is never, since a partition raises
 pub record EndsForRaise (run : RunData) (k attempt partition : ℕ) : Type 0 where
   pub work : WorkData
-  pub read : HasReadWork run.reads work
+  pub read : HasReadWork run.words run.reads work
   pub quiet : NothingMissed run
   pub first_attempt : attempt ≡ 0
   pub stops : StopsAtRaise work run.before.sink run.after.sink k partition
@@ -85,14 +88,14 @@ pub record EndsForRaise (run : RunData) (k attempt partition : ℕ) : Type 0 whe
 -- all was read, and the results of an action have no value
 pub record EndsForDriver (run : RunData) (k : ℕ) (fault : DriverFault) : Type 0 where
   pub work : WorkData
-  pub read : HasReadWork run.reads work
+  pub read : HasReadWork run.words run.reads work
   pub quiet : NothingMissed run
   pub stops : StopsAtDriver work run.before.sink run.after.sink k fault
 
 -- all was read, and the sink failed
 pub record EndsForWrite (run : RunData) : Type 0 where
   pub work : WorkData
-  pub read : HasReadWork run.reads work
+  pub read : HasReadWork run.words run.reads work
   pub quiet : NothingMissed run
   pub stops : StopsAtWrite work run.before.sink run.after.sink
 
@@ -100,7 +103,7 @@ pub record EndsForWrite (run : RunData) : Type 0 where
 pub record EndsForMemory (run : RunData) : Type 0 where
   pub quiet : NothingMissed run
   pub stands : NothingWritten run
-      ⊎ ((work : WorkData) × HasReadWork run.reads work
+      ⊎ ((work : WorkData) × HasReadWork run.words run.reads work
       × (k : ℕ) × HasPrinted work run.before.sink run.after.sink k)
 
 -- the cause of a status, and what stands
@@ -120,10 +123,10 @@ pub record IsRun (run : RunData) (status : Status) : Type 0 where
   pub reads : AreReads run
   pub asked : AsksOnce run status
   pub ends : Ends run status
-  pub usage : (status ≡ statuses.Usage) ↔ (command_of run.words ≡ None)
+  pub usage : TellsUsage run.words status
 
--- a run of the script of this name, whatever the words that named it
-abbrev pub IsRunOf : List ℕ → List Read → Outside → Outside → Status → Type 0
-IsRunOf name reads before after status =
-    (words : List (List ℕ)) → command_of words ≡ Some (record { script = name })
+-- a run of this command, whatever the words that asked for it
+abbrev pub IsRunOf : Command → List Read → Outside → Outside → Status → Type 0
+IsRunOf command reads before after status =
+    (words : List (List ℕ)) → command_of words ≡ Some command
     → IsRun (run_of words reads before after) status

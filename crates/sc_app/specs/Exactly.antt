@@ -12,6 +12,7 @@ use Rattle.sc_script.specs.Scripts.{FaultsScript}
 use Rattle.sc_app.specs.declared.ran.Status.{Status}
 use Rattle.sc_app.specs.declared.ran.Status.TheVariants as statuses
 use Rattle.sc_app.specs.Runs.{HasReadWork}
+use Rattle.sc_words.specs.Words.{AreTaken}
 
 -- the status is this one, unless memory ran out
 abbrev pub IsUnlessMemory : Status → Status → Type 0
@@ -20,6 +21,11 @@ IsUnlessMemory told status = (status ≡ told) ⊎ (status ≡ statuses.OutOfMem
 -- the status is this one, unless memory ran out or the sink failed before
 abbrev pub IsUnlessEarlier : Status → Status → Type 0
 IsUnlessEarlier told status = IsUnlessMemory told status ⊎ (status ≡ statuses.WriteFault)
+
+-- the status is Usage only where `clap` refuses the words, and there always, unless memory ran out
+abbrev pub TellsUsage : List (List ℕ) → Status → Type 0
+TellsUsage words status = (status ≡ statuses.Usage → AreTaken words → ⊥)
+    × ((AreTaken words → ⊥) → IsUnlessMemory statuses.Usage status)
 
 -- if the bytes read as the script have a fault, the status is that fault
 abbrev pub TellsFault : List Read → Status → Type 0
@@ -39,15 +45,16 @@ pub record IsFirstWithout (work : WorkData) (k : ℕ) (action : ActionData) : Ty
   pub is_action : slice_get work.script.actions k ≡ Some action
 
 -- if the first action without a text is never, the status says so
-abbrev pub TellsNever : List Read → Status → Type 0
-TellsNever reads status = (work : WorkData) (k : ℕ) (action : ActionData)
-    → HasReadWork reads work → IsFirstWithout work k action → action_outcome work action ≡ never
+abbrev pub TellsNever : List (List ℕ) → List Read → Status → Type 0
+TellsNever words reads status = (work : WorkData) (k : ℕ) (action : ActionData)
+    → HasReadWork words reads work → IsFirstWithout work k action
+    → action_outcome work action ≡ never
     → (partition : ℕ) × IsUnlessEarlier (statuses.TaskLimit k 0 partition) status
 
 -- if the first action without a text has a fault of the driver, the status says so
-abbrev pub TellsDriverFault : List Read → Status → Type 0
-TellsDriverFault reads status =
+abbrev pub TellsDriverFault : List (List ℕ) → List Read → Status → Type 0
+TellsDriverFault words reads status =
     (work : WorkData) (k : ℕ) (action : ActionData) (fault : DriverFault)
-    → HasReadWork reads work → IsFirstWithout work k action
+    → HasReadWork words reads work → IsFirstWithout work k action
     → action_outcome work action ≡ faults fault
     → IsUnlessEarlier (statuses.DriverFault k fault) status

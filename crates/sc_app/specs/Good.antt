@@ -10,13 +10,14 @@ use Rattle.sc_script.specs.Scripts.{FaultsScript, ReadsScript}
 use Rattle.sc_app.specs.declared.ran.Status.{Status}
 use Rattle.sc_app.specs.declared.ran.Status.TheVariants as statuses
 use Rattle.sc_app.specs.Runs.{RunData}
-use Rattle.sc_app.specs.Words.{CommandData, command_of}
+use Rattle.sc_words.specs.Words.{command_of}
+use Rattle.sc_words.specs.declared.commands.Command.{Command}
 
 -- the source shows its files, and the script and each input that it names are among them
 pub record AreAllThere (run : RunData) : Type 0 where
   pub files : Files
   pub shown : run.before.source.shown ≡ Some files
-  pub script : (command : CommandData) → command_of run.words ≡ Some command
+  pub script : (command : Command) → command_of run.words ≡ Some command
       → content_of files command.script ≢ None
   pub inputs : (taken : Taken) (script : ScriptData) (name : List ℕ) → run.reads ≡ reads_of taken
       → ReadsScript taken.script script → Contains (input_names script) name

@@ -1,26 +1,25 @@
 //! The run.
 #![tactic(auto)]
 
-ghost use Rattle.std.specs.Prelude.{◌≡◌, ◌≤◌, ◌↔◌, [], None, map};
+ghost use Rattle.std.specs.Prelude.{◌≡◌, ◌≤◌, [], map};
 ghost use Rattle.std.specs.String.{string_bytes};
 ghost use Rattle.sc_base.specs.Outside.{IsLaterSource, outside_of};
 ghost use Rattle.sc_app.specs.Ends.{Ends, IsRun, PrintsMeaning};
-ghost use Rattle.sc_app.specs.Exactly.{TellsDriverFault, TellsFault, TellsNever, TellsNotText};
+ghost use Rattle.sc_app.specs.Exactly.{TellsDriverFault, TellsFault, TellsNever, TellsNotText, TellsUsage};
 ghost use Rattle.sc_app.specs.Good.{EndsWell, IsGood};
 ghost use Rattle.sc_app.specs.Runs.{AreReads, AsksOnce, run_of};
-ghost use Rattle.sc_app.specs.Words.{command_of};
 
 use crate::ran::{Ran, Status};
 use crate::scripts::run_script;
-use crate::words::find_command;
+use sc_base::OrMemory;
 use sc_input::Source;
 use sc_read::Read;
 use sc_script::scripts_have_one_reading;
 use sc_sink::Sink;
-use sc_value::Name;
+use sc_words::read_words;
 use std::alloc::Global;
 
-/// Runs the script that the words name: `run` and a name.
+/// Runs the script that the words name, as `run SCRIPT` and options.
 ///
 /// What is promised, of which the clauses below say what today's language has of it:
 ///
@@ -30,9 +29,9 @@ use std::alloc::Global;
 /// > from one attempt authorised alone; an abort is answered only where the returned history shows
 /// > its limit, loss, script fault or device fault.
 ///
-/// Today one thread evaluates the actions, there is no fault plan and no clock, and nothing is
-/// saved. `read` of the answer is the script and then its inputs, as they were read, which shows a
-/// script's fault.
+/// Today one thread evaluates the actions, a fault plan may be named and isn't read, there is no
+/// clock, and nothing is saved. `read` of the answer is the script and then its inputs, as they
+/// were read, which shows a script's fault.
 pub fn run<R, S: Source, K: Sink>(
     _rt: &R,
     alloc: Global,
@@ -65,9 +64,8 @@ pub fn run<R, S: Source, K: Sink>(
         (outside_of (S.state source.old) (K.state sink.old))
         (outside_of (S.state source.new) (K.state sink.new))) result.status }
 
-    // Usage comes exactly where the words are no command.
-    ensures usage { (result.status ≡ Status.Usage)
-        ↔ (command_of (map string_bytes words.now) ≡ None) }
+    // Usage comes only where `clap` refuses the words, and there unless memory runs out.
+    ensures usage { TellsUsage (map string_bytes words.now) result.status }
 
     // A fault of the bytes that were read as the script is told, unless memory runs out.
     ensures script_exactly { TellsFault result.read.items result.status }
@@ -77,8 +75,10 @@ pub fn run<R, S: Source, K: Sink>(
 
     // An action that is never, and one whose results have no value, are told, unless memory runs
     // out or the sink failed before.
-    ensures never_exactly { TellsNever result.read.items result.status }
-    ensures driver_exactly { TellsDriverFault result.read.items result.status }
+    ensures never_exactly { TellsNever (map string_bytes words.now) result.read.items
+        result.status }
+    ensures driver_exactly { TellsDriverFault (map string_bytes words.now) result.read.items
+        result.status }
 
     // With nothing to refuse the run is done, unless memory runs out or an action has no text.
     ensures good { IsGood (run_of (map string_bytes words.now) result.read.items
@@ -106,11 +106,11 @@ fn run_words<S: Source, K: Sink>(
         (outside_of (S.state source.old) (K.state sink.old))
         (outside_of (S.state source.new) (K.state sink.new))) result }
 {
-    match find_command(words) {
-        Some(word) => match Name::new(alloc, word) {
-            Ok(name) => run_script(alloc, name, source, sink, reads),
-            Err(_) => Status::OutOfMemory,
+    match read_words(alloc, words) {
+        Ok(command) => run_script(alloc, command, source, sink, reads),
+        Err(refusal) => match refusal {
+            OrMemory::Fault(_) => Status::Usage,
+            OrMemory::OutOfMemory => Status::OutOfMemory,
         },
-        None => Status::Usage,
     }
 }

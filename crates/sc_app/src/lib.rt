@@ -14,7 +14,6 @@ mod ran;
 mod scripts;
 mod stops;
 mod texts;
-mod words;
 
 pub use command::run;
 pub use ran::{Ran, Status};

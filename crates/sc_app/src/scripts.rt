@@ -3,6 +3,7 @@
 
 ghost use Rattle.std.specs.Prelude.{◌≡◌, ◌≤◌, []};
 ghost use Rattle.sc_base.specs.Outside.{IsLaterSource, outside_of};
+ghost use Rattle.sc_ids.specs.LimitRanges.{AreLimits};
 ghost use Rattle.sc_app.specs.Ends.{IsRunOf};
 
 use crate::ran::Status;
@@ -11,29 +12,30 @@ use sc_input::Source;
 use sc_print::print_work;
 use sc_read::{Read, read_script, read_work};
 use sc_sink::Sink;
-use sc_value::Name;
+use sc_words::Command;
 use std::alloc::Global;
 
-/// Reads the script of this name and its inputs, and prints its actions.
+/// Reads the script that a command names and its inputs, and prints its actions.
 pub(crate) fn run_script<S: Source, K: Sink>(
     alloc: Global,
-    name: Name,
+    command: Command,
     source: &mut S,
     sink: &mut K,
     reads: &mut Vec<Read>,
 ) -> Status
-    requires { reads.old.items ≡ [] }
+    requires empty { reads.old.items ≡ [] }
+    requires limits { AreLimits command.limits }
     ensures later { IsLaterSource (S.state source.old) (S.state source.new) }
     ensures sink_later { (K.state sink.old).faults ≤ (K.state sink.new).faults }
-    ensures run { IsRunOf name reads.new.items
+    ensures run { IsRunOf command reads.new.items
         (outside_of (S.state source.old) (K.state sink.old))
         (outside_of (S.state source.new) (K.state sink.new)) result }
 {
-    let script = match read_script(alloc, source, &name, reads) {
+    let script = match read_script(alloc, source, &command.script, reads) {
         Ok(script) => script,
-        Err(stop) => return status_of_script(name, stop),
+        Err(stop) => return status_of_script(command.script, stop),
     };
-    let work = match read_work(alloc, source, script, reads) {
+    let work = match read_work(alloc, source, script, command.limits, reads) {
         Ok(work) => work,
         Err(stop) => return status_of_input(stop),
     };

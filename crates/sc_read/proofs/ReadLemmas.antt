@@ -9,6 +9,7 @@ use Rattle.sc_base.specs.Counts.{Rose}
 use Rattle.sc_base.specs.declared.refusals.OrMemory.{OrMemory}
 use Rattle.sc_base.specs.declared.refusals.OrMemory.TheVariants.{Fault, OutOfMemory}
 use Rattle.sc_base.specs.Outside.{Files, SourceState, HasAsked, IsQuietSource, IsLaterSource, with_more}
+use Rattle.sc_ids.specs.declared.limits.Limits.{Limits}
 use Rattle.sc_lineage.specs.ScriptData.{ScriptData, input_names, name_of_input, AreTexts}
 use Rattle.sc_read.specs.declared.reads.Read.{Read}
 use Rattle.sc_read.specs.declared.stops.InputStop.{InputStop}
@@ -134,14 +135,14 @@ module _ (script : ScriptData) (start : SourceState) (before : List Read) where
       (subst (λ faults. Rose faults later.faults) quiet.faults why.0, why.1 ∙ quiet.misses)
 
   -- why the next input wasn't taken is why the inputs weren't
-  pub stops-taking : (source later : SourceState) (now after : List Read) (inputs : Files)
-      (name : List ℕ) (error : OrMemory InputStop)
+  pub stops-taking : (limits : Limits) (source later : SourceState) (now after : List Read)
+      (inputs : Files) (name : List ℕ) (error : OrMemory InputStop)
       → TakesInputs script start source before now inputs → IsLaterSource start source
       → AreTexts inputs → slice_get (input_names script) (length inputs) ≡ Some name
       → TakesAsInput source later name now after (Err error)
-      → TakesAsWork script start later before after (Err error)
-  stops-taking source later now after inputs name (Fault (stops.Unreadable n why)) so_far was texts
-      next x =
+      → TakesAsWork script limits start later before after (Err error)
+  stops-taking limits source later now after inputs name (Fault (stops.Unreadable n why)) so_far
+      was texts next x =
       subst (λ m. StopsAtFile script start later before after m why) (sym x.0) (record {
         inputs = inputs;
         first = so_far.first;
@@ -151,8 +152,8 @@ module _ (script : ScriptData) (start : SourceState) (before : List Read) where
             x.2.asked;
         cause = unreadable-since source later name why was so_far.quiet x.2.cause;
       })
-  stops-taking source later now after inputs name (Fault (stops.NotText n)) so_far was texts
-      next x =
+  stops-taking limits source later now after inputs name (Fault (stops.NotText n)) so_far was
+      texts next x =
       subst (λ m. StopsAtText script start later before after m) (sym x.0) (record {
         inputs = inputs;
         bytes = x.1.0;
@@ -160,12 +161,14 @@ module _ (script : ScriptData) (start : SourceState) (before : List Read) where
         taken = one-taken source later now after inputs name x.1.0 so_far was next x.1.1;
         no_text = x.1.2;
       })
-  stops-taking source later now after inputs name OutOfMemory so_far was texts next (inl x) = (
+  stops-taking limits source later now after inputs name OutOfMemory so_far was texts next
+      (inl x) = (
     inputs,
     subst (λ s. TakesInputs script start s before after inputs) (sym x.1)
         (subst (λ rs. TakesInputs script start source before rs inputs) (sym x.0) so_far),
   )
-  stops-taking source later now after inputs name OutOfMemory so_far was texts next (inr x) = (
+  stops-taking limits source later now after inputs name OutOfMemory so_far was texts next
+      (inr x) = (
     inputs ++ (name, x.0) ∷ [],
     one-taken source later now after inputs name x.0 so_far was next x.1,
   )

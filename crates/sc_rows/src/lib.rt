@@ -108,6 +108,8 @@ mod typing;
 #[cfg(test)]
 mod values;
 #[cfg(test)]
+mod words;
+#[cfg(test)]
 mod worked;
 #[cfg(test)]
 mod writers;

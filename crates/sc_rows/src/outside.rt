@@ -5,10 +5,9 @@ use crate::claims::assert_end;
 use crate::given::{Row, SCRIPT};
 
 /// Words that are no command.
-const NO_COMMANDS: [&[&str]; 9] = [
+const NO_COMMANDS: [&[&str]; 8] = [
     &[],
     &["run"],
-    &["run", ""],
     &["run", "-job.spark"],
     &["run", "--help"],
     &["walk", "job.spark"],
@@ -33,6 +32,9 @@ fn no_words_and_no_file(rt: HostRuntime) {
     assert_end(&rt, &seen, end, "");
     let seen = Row::of_words(&rt, &["run", "nofile"]).run(&rt);
     let end = "status 5, asked [nofile], 0 read, 0 written\ninput: nofile: missing\n";
+    assert_end(&rt, &seen, end, "");
+    let seen = Row::of_words(&rt, &["run", ""]).run(&rt);
+    let end = "status 5, asked [], 0 read, 0 written\ninput: : missing\n";
     assert_end(&rt, &seen, end, "");
 }
 

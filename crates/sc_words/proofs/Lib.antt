@@ -1,3 +1,4 @@
 pub mod ProgramLemmas
 pub mod GetterLemmas
 pub mod TakenLemmas
+pub mod PlainLemmas

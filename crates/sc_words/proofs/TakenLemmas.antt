@@ -10,7 +10,7 @@ use Rattle.clap.specs.declared.Error.{Error}
 use Rattle.sc_base.specs.declared.refusals.OrMemory.{OrMemory}
 use Rattle.sc_base.specs.declared.refusals.OrMemory.TheVariants.{Fault, OutOfMemory}
 use Rattle.sc_words.specs.Program.{program}
-use Rattle.sc_words.specs.Words.{AreTaken, FindsMatches, ReadsWords, RefusesFor, command_at, command_of}
+use Rattle.sc_words.specs.Words.{AreTaken, FindsMatches, ReadsWords, RefusesFor, command_at, command_of, unless_refused}
 use Rattle.sc_words.specs.declared.commands.Command.{Command}
 use Rattle.sc_words.specs.declared.commands.Usage.{Usage}
 
@@ -100,3 +100,16 @@ pub lacks_none : (words : List Text) (found : Option (Text × List Row)) → Are
 lacks_none words None taken is e =
     let some = ap is_some is ∙ names_one words taken in absurd cc
 lacks_none words (Some p) taken is e = absurd cc
+
+-- words that are a command are taken
+pub command_taken : (words : List Text) (command : Command) → command_of words ≡ Some command
+    → AreTaken words
+unfolding AreTaken command_of
+command_taken words command e =
+    by_kinds (fault_of program words)
+    (option_map (λ p. command_at p.1) (subcommand_of program words)) e
+  where
+    by_kinds : (ks : Kinds) (given : Option Command) → unless_refused ks given ≡ Some command
+        → ks ≡ []
+    by_kinds [] given e = refl
+    by_kinds (k ∷ ks) given e = absurd cc

@@ -8,9 +8,9 @@ pub returns-in-Err-clause-run : goal.returns-in-Err-clause-run
 returns-in-Err-clause-run g c =
     let before = g.S.Source.state c.args.source.now in
     let after = g.S.Source.state c.read_script.new.source in
-    let taken = subst (λ (rs : List Read). TakesAsScript before after c.args.name rs
-    c.read_script.new.reads.items (Err c.in-Err.stop)) c.requires c.in-Err.ensures.script in
-    rw c.status_of_script.ensures (λ words is. script-stops words c.args.name is before after
+    let taken = subst (λ (rs : List Read). TakesAsScript before after c.args.command.script rs
+    c.read_script.new.reads.items (Err c.in-Err.stop)) c.requires.empty c.in-Err.ensures.script in
+    rw c.status_of_script.ensures (λ words is. script-stops words c.args.command is before after
     (g.K.Sink.state c.args.sink.now) c.read_script.new.reads.items c.in-Err.stop taken)
 
 pub returns-in-Err-read_work-clause-run : goal.returns-in-Err-read_work-clause-run
@@ -18,9 +18,9 @@ returns-in-Err-read_work-clause-run g c =
     let start = g.S.Source.state c.args.source.now in
     let before = g.S.Source.state c.read_script.new.source in
     let after = g.S.Source.state c.read_work.new.source in
-    let taken = subst (λ (rs : List Read). TakesAsScript start before c.args.name rs
-    c.read_script.new.reads.items (Ok c.in-Ok.script)) c.requires c.in-Ok.ensures.script in
-    rw c.status_of_input.ensures (λ words is. inputs-stop words c.args.name is start before
+    let taken = subst (λ (rs : List Read). TakesAsScript start before c.args.command.script rs
+    c.read_script.new.reads.items (Ok c.in-Ok.script)) c.requires.empty c.in-Ok.ensures.script in
+    rw c.status_of_input.ensures (λ words is. inputs-stop words c.args.command is start before
     c.in-Ok.ensures.later c.read_script.new.reads.items taken.0 taken.1 c.in-Ok.script taken.2
     after (g.K.Sink.state c.args.sink.now) c.read_work.new.reads.items c.in-Err-read_work.stop
     c.in-Err-read_work.ensures.work)
@@ -30,9 +30,9 @@ returns-in-Ok-print_work-clause-run g c =
     let start = g.S.Source.state c.args.source.now in
     let before = g.S.Source.state c.read_script.new.source in
     let after = g.S.Source.state c.read_work.new.source in
-    let taken = subst (λ (rs : List Read). TakesAsScript start before c.args.name rs
-    c.read_script.new.reads.items (Ok c.in-Ok.script)) c.requires c.in-Ok.ensures.script in
-    λ words is. run-done words c.args.name is start before c.in-Ok.ensures.later
+    let taken = subst (λ (rs : List Read). TakesAsScript start before c.args.command.script rs
+    c.read_script.new.reads.items (Ok c.in-Ok.script)) c.requires.empty c.in-Ok.ensures.script in
+    λ words is. run-done words c.args.command is start before c.in-Ok.ensures.later
     c.read_script.new.reads.items taken.0 taken.1 c.in-Ok.script taken.2 after
     c.read_work.new.reads.items c.in-Ok-read_work.work c.in-Ok-read_work.ensures.work.0
     c.in-Ok-read_work.ensures.work.1 c.in-Ok-read_work.ensures.work.2
@@ -44,9 +44,9 @@ returns-clause-run g c =
     let start = g.S.Source.state c.args.source.now in
     let before = g.S.Source.state c.read_script.new.source in
     let after = g.S.Source.state c.read_work.new.source in
-    let taken = subst (λ (rs : List Read). TakesAsScript start before c.args.name rs
-    c.read_script.new.reads.items (Ok c.in-Ok.script)) c.requires c.in-Ok.ensures.script in
-    rw c.status_of_print.ensures (λ words is. printing-stops words c.args.name is start before
+    let taken = subst (λ (rs : List Read). TakesAsScript start before c.args.command.script rs
+    c.read_script.new.reads.items (Ok c.in-Ok.script)) c.requires.empty c.in-Ok.ensures.script in
+    rw c.status_of_print.ensures (λ words is. printing-stops words c.args.command is start before
     c.in-Ok.ensures.later c.read_script.new.reads.items taken.0 taken.1 c.in-Ok.script taken.2 after
     c.read_work.new.reads.items c.in-Ok-read_work.work c.in-Ok-read_work.ensures.work.0
     c.in-Ok-read_work.ensures.work.1 c.in-Ok-read_work.ensures.work.2

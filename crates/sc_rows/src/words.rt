@@ -1,0 +1,144 @@
+//! Words of the command line, and what they ask for.
+#![tactic(auto)]
+
+use crate::claims::assert_text;
+use crate::given::words_of;
+use sc_base::OrMemory;
+use sc_words::{Command, read_words};
+use std::process::Abort;
+
+/// What words ask for: the script, the plan or `-`, and how many executors, failures of a task,
+/// attempts of a stage and cached blocks there may be.
+fn asked<R: Abort + AllocGlobal>(rt: &R, words: &[&str]) -> String {
+    let alloc = rt.alloc();
+    let words = words_of(alloc, words).expect(rt, "memory");
+    match read_words(alloc, &words) {
+        Ok(command) => told(rt, &command),
+        Err(refusal) => match refusal {
+            OrMemory::Fault(_) => String::from_str(alloc, "usage").expect(rt, "memory"),
+            OrMemory::OutOfMemory => panic!(rt; "memory"),
+        },
+    }
+}
+
+/// A command in words.
+fn told<R: Abort + AllocGlobal>(rt: &R, command: &Command) -> String {
+    let script = command.script.as_str();
+    let plan = match &command.plan {
+        Some(plan) => plan.as_str(),
+        None => "-",
+    };
+    let executors = command.limits.executors;
+    let failures = command.limits.task_failures;
+    let attempts = command.limits.stage_attempts;
+    let cache = command.limits.cache;
+    format!(in rt.alloc(); "{script} {plan} {executors} {failures} {attempts} {cache}")
+        .expect(rt, "memory")
+}
+
+/// Words that are a command, and what they ask for.
+const COMMANDS: [(&[&str], &str); 22] = [
+    (&["run", "a.spark"], "a.spark - 2 4 4 64"),
+    (&["run", "--executors", "3", "a.spark"], "a.spark - 3 4 4 64"),
+    (&["run", "a.spark", "--executors", "3"], "a.spark - 3 4 4 64"),
+    (&["run", "a.spark", "--executors=3"], "a.spark - 3 4 4 64"),
+    (&["run", "a.spark", "--executors=1"], "a.spark - 1 4 4 64"),
+    (&["run", "a.spark", "--executors=64"], "a.spark - 64 4 4 64"),
+    (&["run", "a.spark", "--executors=064"], "a.spark - 64 4 4 64"),
+    (&["run", "a.spark", "--executors=+3"], "a.spark - 3 4 4 64"),
+    (&["run", "a.spark", "--task-failures", "16"], "a.spark - 2 16 4 64"),
+    (&["run", "a.spark", "--stage-attempts", "16"], "a.spark - 2 4 16 64"),
+    (&["run", "a.spark", "--cache", "4096"], "a.spark - 2 4 4 4096"),
+    (&["run", "a.spark", "--plan", "p.txt"], "a.spark p.txt 2 4 4 64"),
+    (
+        &[
+            "run",
+            "--executors",
+            "3",
+            "--task-failures=5",
+            "--stage-attempts",
+            "6",
+            "--cache=7",
+            "--plan",
+            "p.txt",
+            "a.spark",
+        ],
+        "a.spark p.txt 3 5 6 7",
+    ),
+    (
+        &[
+            "run",
+            "--plan=p.txt",
+            "--cache",
+            "7",
+            "a.spark",
+            "--stage-attempts=6",
+            "--task-failures",
+            "5",
+            "--executors=3",
+        ],
+        "a.spark p.txt 3 5 6 7",
+    ),
+    (&["run", ""], " - 2 4 4 64"),
+    (&["run", "-"], "- - 2 4 4 64"),
+    (&["run", "run"], "run - 2 4 4 64"),
+    (&["run", "help"], "help - 2 4 4 64"),
+    (&["run", "--", "-a.spark"], "-a.spark - 2 4 4 64"),
+    (&["run", "--", "--executors=3"], "--executors=3 - 2 4 4 64"),
+    (&["run", "--executors=3", "--", "a.spark"], "a.spark - 3 4 4 64"),
+    (&["run", "a.spark", "--plan="], "a.spark  2 4 4 64"),
+];
+
+/// Words that are no command.
+const REFUSED: [&[&str]; 36] = [
+    &[],
+    &["run"],
+    &["run", "--executors", "3"],
+    &["run", "--help"],
+    &["run", "a.spark", "-h"],
+    &["--help"],
+    &["-h"],
+    &["help"],
+    &["help", "run"],
+    &["walk", "a.spark"],
+    &["Run", "a.spark"],
+    &["a.spark"],
+    &["a.spark", "run"],
+    &["--executors", "3", "run", "a.spark"],
+    &["--", "run", "a.spark"],
+    &["run", "a.spark", "b.spark"],
+    &["run", "--", "a.spark", "--executors=3"],
+    &["run", "-a.spark"],
+    &["run", "a.spark", "--executors"],
+    &["run", "a.spark", "--executors="],
+    &["run", "a.spark", "--executors", "0"],
+    &["run", "a.spark", "--executors", "65"],
+    &["run", "a.spark", "--executors", "x"],
+    &["run", "a.spark", "--executors", "-1"],
+    &["run", "a.spark", "--executors=-1"],
+    &["run", "a.spark", "--executors=99999999999999999999"],
+    &["run", "a.spark", "--executors", "3", "--executors", "3"],
+    &["run", "a.spark", "--executor", "3"],
+    &["run", "a.spark", "-e", "3"],
+    &["run", "a.spark", "--task-failures", "0"],
+    &["run", "a.spark", "--task-failures", "17"],
+    &["run", "a.spark", "--stage-attempts", "17"],
+    &["run", "a.spark", "--cache", "4097"],
+    &["run", "a.spark", "--plan"],
+    &["run", "a.spark", "--plan=p", "--plan=q"],
+    &["run", "a.spark", "--speculation"],
+];
+
+#[test]
+fn words_ask_for_a_script_under_limits(rt: HostRuntime) {
+    for (words, want) in &COMMANDS {
+        assert_text(&rt, asked(&rt, *words).as_str(), *want, "");
+    }
+}
+
+#[test]
+fn other_words_are_no_command(rt: HostRuntime) {
+    for words in &REFUSED {
+        assert_text(&rt, asked(&rt, *words).as_str(), "usage", "");
+    }
+}
