@@ -219,7 +219,8 @@ module _ (words : List (List ℕ)) (command : Command)
 
     -- the reading of the inputs stops the run
     pub inputs-stop : (after : SourceState) (sink : SinkState) (more : List Read)
-        (stop : OrMemory InputStop) → TakesAsWork script before after reads more (Err stop)
+        (stop : OrMemory InputStop)
+        → TakesAsWork script command.limits before after reads more (Err stop)
         → IsRun (run_of words more (outside_of start sink) (outside_of after sink))
         (status_of_input stop)
     inputs-stop after sink more (refusals.Fault (inputs_stops.Unreadable n why)) x =

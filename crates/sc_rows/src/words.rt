@@ -32,24 +32,46 @@ fn told<R: Abort + AllocGlobal>(rt: &R, command: &Command) -> String {
     let failures = command.limits.task_failures;
     let attempts = command.limits.stage_attempts;
     let cache = command.limits.cache;
-    format!(in rt.alloc(); "{script} {plan} {executors} {failures} {attempts} {cache}")
-        .expect(rt, "memory")
+    format!(in rt.alloc(); "{script} {plan} {executors} {failures} {attempts} {cache}").expect(
+        rt, "memory",
+    )
 }
 
 /// Words that are a command, and what they ask for.
 const COMMANDS: [(&[&str], &str); 22] = [
     (&["run", "a.spark"], "a.spark - 2 4 4 64"),
-    (&["run", "--executors", "3", "a.spark"], "a.spark - 3 4 4 64"),
-    (&["run", "a.spark", "--executors", "3"], "a.spark - 3 4 4 64"),
+    (
+        &["run", "--executors", "3", "a.spark"],
+        "a.spark - 3 4 4 64",
+    ),
+    (
+        &["run", "a.spark", "--executors", "3"],
+        "a.spark - 3 4 4 64",
+    ),
     (&["run", "a.spark", "--executors=3"], "a.spark - 3 4 4 64"),
     (&["run", "a.spark", "--executors=1"], "a.spark - 1 4 4 64"),
     (&["run", "a.spark", "--executors=64"], "a.spark - 64 4 4 64"),
-    (&["run", "a.spark", "--executors=064"], "a.spark - 64 4 4 64"),
+    (
+        &["run", "a.spark", "--executors=064"],
+        "a.spark - 64 4 4 64",
+    ),
     (&["run", "a.spark", "--executors=+3"], "a.spark - 3 4 4 64"),
-    (&["run", "a.spark", "--task-failures", "16"], "a.spark - 2 16 4 64"),
-    (&["run", "a.spark", "--stage-attempts", "16"], "a.spark - 2 4 16 64"),
-    (&["run", "a.spark", "--cache", "4096"], "a.spark - 2 4 4 4096"),
-    (&["run", "a.spark", "--plan", "p.txt"], "a.spark p.txt 2 4 4 64"),
+    (
+        &["run", "a.spark", "--task-failures", "16"],
+        "a.spark - 2 16 4 64",
+    ),
+    (
+        &["run", "a.spark", "--stage-attempts", "16"],
+        "a.spark - 2 4 16 64",
+    ),
+    (
+        &["run", "a.spark", "--cache", "4096"],
+        "a.spark - 2 4 4 4096",
+    ),
+    (
+        &["run", "a.spark", "--plan", "p.txt"],
+        "a.spark p.txt 2 4 4 64",
+    ),
     (
         &[
             "run",
@@ -85,7 +107,10 @@ const COMMANDS: [(&[&str], &str); 22] = [
     (&["run", "help"], "help - 2 4 4 64"),
     (&["run", "--", "-a.spark"], "-a.spark - 2 4 4 64"),
     (&["run", "--", "--executors=3"], "--executors=3 - 2 4 4 64"),
-    (&["run", "--executors=3", "--", "a.spark"], "a.spark - 3 4 4 64"),
+    (
+        &["run", "--executors=3", "--", "a.spark"],
+        "a.spark - 3 4 4 64",
+    ),
     (&["run", "a.spark", "--plan="], "a.spark  2 4 4 64"),
 ];
 

@@ -34,8 +34,11 @@ parsed : {E : Type 0} (text : Text) (r : Result ℕ E) → ParsesUnsigned 32 10 
     → ok_of r ≡ number_of text
 parsed text (Ok n) h =
     let ds = without_leading_plus text in
-    rw (lt-ltb 0 (length ds) h.0.0.0, digits_pass ds h.0.0.1,
-    lt-ltb (digits_value 10 ds) 4294967296 h.0.1) (ap Some h.1)
+    rw (
+      lt-ltb 0 (length ds) h.0.0.0,
+      digits_pass ds h.0.0.1,
+      lt-ltb (digits_value 10 ds) 4294967296 h.0.1,
+    ) (ap Some h.1)
 parsed text (Err e) h = go (fits (without_leading_plus text)) refl
   where
     go : (b : Bool) → fits (without_leading_plus text) ≡ b → None ≡ number_of text
@@ -43,8 +46,10 @@ parsed text (Err e) h = go (fits (without_leading_plus text)) refl
     go true t =
         let outer = both _ _ t in
         let inner = both _ _ outer.0 in
-        absurd (h ((ltb-true _ _ inner.0, digits_from (without_leading_plus text) inner.1),
-        ltb-true _ _ outer.1))
+        absurd (h (
+          (ltb-true _ _ inner.0, digits_from (without_leading_plus text) inner.1),
+          ltb-true _ _ outer.1,
+        ))
 
 -- the number that a getter reads, by the text that it has
 pub number_read : {E : Type 0} (G : List ℕ → Result ℕ E → Type 0) (o : Option Text) (r : Option ℕ)

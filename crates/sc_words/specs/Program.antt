@@ -25,12 +25,12 @@ later_rules = text_rule (codes "plan") ∷ number_rule (codes "cache") 4096 ∷ 
 -- what `run` takes
 abbrev pub run_rules : List Rule
 run_rules = (
-  script_rule
-  ∷ number_rule (codes "executors") 64
-  ∷ number_rule (codes "task-failures") 16
-  ∷ number_rule (codes "stage-attempts") 16
-  ∷ []
-) ++ later_rules
+    script_rule
+    ∷ number_rule (codes "executors") 64
+    ∷ number_rule (codes "task-failures") 16
+    ∷ number_rule (codes "stage-attempts") 16
+    ∷ []
+    ) ++ later_rules
 
 -- the subcommand `run`
 abbrev pub run_app : App

@@ -79,3 +79,15 @@ FindsMatches words (Err OutOfMemory) = Unit {0}
 abbrev pub RefusesFor : ErrorKind → OrMemory Usage → Type 0
 RefusesFor kind (Fault usage) = kind ≢ kinds.OutOfMemory
 RefusesFor kind OutOfMemory = kind ≡ kinds.OutOfMemory
+
+-- a name doesn't begin with `-` (45)
+abbrev pub IsPlainName : Text → Type 0
+IsPlainName [] = Unit {0}
+IsPlainName (c ∷ cs) = c ≢ 45
+
+-- `run` and such a name are a command: the run of that script, with no option set
+abbrev pub NamesAreCommands : Type 0
+NamesAreCommands =
+    (name : Text) → IsPlainName name
+    → command_of (codes "run" ∷ name ∷ [])
+    ≡ Some (record { script = name; plan = None; limits = default_limits })

@@ -6,8 +6,10 @@
 #![tactic(auto)]
 
 mod commands;
+mod laws;
 mod program;
 mod words;
 
 pub use commands::{Command, Usage};
+pub use laws::names_are_commands;
 pub use words::read_words;

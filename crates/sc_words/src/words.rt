@@ -34,10 +34,7 @@ pub fn read_words(alloc: Global, words: &[String]) -> Result<Command, OrMemory<U
 }
 
 /// What `clap` finds in the words.
-fn find_matches<'a>(
-    alloc: Global,
-    words: &'a [String],
-) -> Result<ArgMatches<'a>, OrMemory<Usage>>
+fn find_matches<'a>(alloc: Global, words: &'a [String]) -> Result<ArgMatches<'a>, OrMemory<Usage>>
     ensures { FindsMatches (map string_bytes words.entry.now) result }
 {
     let command = program(alloc)?;
@@ -73,11 +70,7 @@ fn command_from(alloc: Global, run: &ArgMatches<'_>) -> Result<Command, AllocErr
 }
 
 /// The name that an option has, if it has one.
-fn name_from(
-    alloc: Global,
-    run: &ArgMatches<'_>,
-    option: &str,
-) -> Result<Option<Name>, AllocError>
+fn name_from(alloc: Global, run: &ArgMatches<'_>, option: &str) -> Result<Option<Name>, AllocError>
     ensures { IfOk result (λ n. n ≡ first_of option.now (rows_of (found_of run.now))) }
 {
     match run.get_str(option) {
