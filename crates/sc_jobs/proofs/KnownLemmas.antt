@@ -81,7 +81,8 @@ module _ (work : WorkData) (sound : IsSoundScript work.script) (carried : Carrie
           (either (is_sort (node_at work k)) refl within)
       at (inr past) =
           let len = length-numbers_below (length script) in
-          let all : length bounds ≤ k = omega (arith, past, len, length-map (numbers_below (length script)) (known_at script carried.bounds)) in
+          let same = length-map (numbers_below (length script)) (known_at script carried.bounds) in
+          let all : length bounds ≤ k = omega (arith, past, len, same) in
           subst (Right k) (sym (at_or-past bounds k None all)) tt
 
   -- a side that has a map stage in the job
@@ -138,7 +139,8 @@ holds named work read carried goal node graph told same read_is node_is was_soun
     let From : ℕ → Type 0 = λ n. IsCut named carried n graph in
     let cut = subst From at (subst Cut same was_cut) in
     let known = told_are
-    ∙ ap (λ (s : ScriptData). map (known_at s.nodes carried.bounds) (numbers_below (length s.nodes)))
+    ∙ ap (λ (s : ScriptData).
+    map (known_at s.nodes carried.bounds) (numbers_below (length s.nodes)))
     (read_is ∙ ap (λ (w : WorkData). w.script) same) in (
       (
         planned named sound carried is_carried goal is graph cut,

@@ -83,7 +83,8 @@ same_parent : (known : List PartitionerData) (d : Dependency)
 same_parent known (one_to_one parent) = refl
 same_parent known (range_behind parent others) = refl
 same_parent known (grouped parent n) = refl
-same_parent known (shuffled parent by) = either (is_parted_by by (at_or known parent no_partitioner))
+same_parent known (shuffled parent by) =
+    either (is_parted_by by (at_or known parent no_partitioner))
   where
     either : (b : Bool) → parent_of (if b then one_to_one parent else shuffled parent by) ≡ parent
     either true = refl
