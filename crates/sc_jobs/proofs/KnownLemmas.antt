@@ -1,12 +1,11 @@
 -- The bounds that a job knows are right, and those of its sorts are there.
 use Rattle.std.proofs.Common.{◌≡◌, ◌∙◌, ℕ, ◌+◌, ◌<◌, ◌≤◌, Bool, true, false, IfSome, List, [], ◌∷◌, ◌++◌, Option, Some, None, is_some, length, map, if◌then◌else◌, inl, inr, ◌⊎◌, ◌&&◌, suc, refl, ap, ap₂, sym, subst, arith}
-use Rattle.std.proofs.lemmas.Bool.{cases_Bool, cases_lt}
+use Rattle.std.proofs.lemmas.Bool.{cases_lt}
 use Rattle.std.proofs.lemmas.List.{length-map, map-append}
-use Rattle.std.specs.List.{slice_get}
 use Rattle.sc_base.specs.Lists.{at_or, numbers_below}
 use Rattle.sc_value.specs.Keys.{KeyData}
 use Rattle.sc_ids.specs.Graphs.{StageData}
-use Rattle.sc_lineage.specs.NodeData.{NodeData, cache_node, shuffle_node, sort_by_key}
+use Rattle.sc_lineage.specs.NodeData.{NodeData, cache_node}
 use Rattle.sc_lineage.specs.Meaning.{bounds_step, known_of, meanings_by}
 use Rattle.sc_lineage.specs.ScriptData.{ScriptData, WorkData, IsSoundScript, collect_action}
 use Rattle.sc_lineage.proofs.PlaceLemmas.{at_or-numbers_below, at_or-past, length-numbers_below, numbers_from-more, slice_get-at_or}
