@@ -1,6 +1,7 @@
 //! Laws of journals, as functions that do nothing.
 #![tactic(auto)]
 
+ghost use Rattle.sc_history.specs.Budgets.{BudgetsAreShown, HandOutsAreCounted, LimitsStay};
 ghost use Rattle.sc_history.specs.Openings.{OpeningsAgree, OpeningsMakeRoom};
 ghost use Rattle.sc_history.specs.Rooms.{ReplaysKeepRoom, StepsKeepRoom};
 
@@ -15,4 +16,12 @@ pub fn room_is_kept()
     ensures openings { OpeningsMakeRoom }
     ensures steps { StepsKeepRoom }
     ensures replays { ReplaysKeepRoom }
+{}
+
+/// A core counts the tasks that it hands out, and a job that is aborted by its budget shows as many
+/// as it may hand out. A call does nothing.
+pub fn hand_outs_are_counted()
+    ensures counted { HandOutsAreCounted }
+    ensures limits { LimitsStay }
+    ensures budget { BudgetsAreShown }
 {}
