@@ -5,3 +5,5 @@ pub mod MadeRoomLemmas
 pub mod Journals
 pub mod JobLemmas
 pub mod BudgetLemmas
+pub mod Growing
+pub mod GrowingCalls
