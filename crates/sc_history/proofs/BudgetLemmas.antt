@@ -167,3 +167,8 @@ budgets_are_shown graph limits saved last opening end entries o replays e =
   where
     begins : opening.job ≡ jobs.Aborted aborts.Budget → ⊥
     begins b = let j = o.job in search (rules, j, b)
+
+-- the limits after an event
+pub step_limits : (c after : CoreData) (event : Event) (answer : Answer)
+    → Steps c event answer after → after.dag.limits ≡ c.dag.limits
+step_limits c after event answer step = (steps_count c after event answer step).limits

@@ -349,6 +349,18 @@ own_failure_grows A New L calm fails d a cause =
     (with_set (λ s. set_after_failure s a.partition a.nth cause))
     (λ x. fails x a.partition a.nth cause))
 
+-- what every failure leaves
+pub failed_grows : (A : StageAttempt → StageAttempt → Type 0) (New : StageAttempt → Type 0)
+    (L : Limits) → IsCalm A New L
+    → ((x : StageAttempt) (p nth : ℕ) (cause : FailureCause)
+    → A x (with_set (λ s. set_after_failure s p nth cause) x))
+    → (c : CoreData) (a : AttemptId) (cause : FailureCause)
+    → Grows A New c.dag (after_failure c a cause).dag
+failed_grows A New L calm fails c a cause =
+    grows_then A New L calm c.dag (after_failed c.dag a cause) (after_failure c a cause).dag
+    (own_failure_grows A New L calm fails c.dag a cause)
+    (released_grows A New L calm (with_dag c (after_failed c.dag a cause)) a endings.Failed)
+
 tells_grow : (A : StageAttempt → StageAttempt → Type 0) (New : StageAttempt → Type 0)
     (L : Limits) → IsCalm A New L → ((x : StageAttempt) → A x (failed_attempt x))
     → ((x : StageAttempt) (p nth : ℕ) (cause : FailureCause)

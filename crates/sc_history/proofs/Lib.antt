@@ -7,3 +7,9 @@ pub mod JobLemmas
 pub mod BudgetLemmas
 pub mod Growing
 pub mod GrowingCalls
+pub mod Keeping
+pub mod Starting
+pub mod SetLimits
+pub mod ToldFailures
+pub mod TaskLimitLemmas
+pub mod Flags

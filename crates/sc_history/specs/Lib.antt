@@ -1,3 +1,5 @@
 pub mod Rooms
 pub mod Openings
 pub mod Budgets
+pub mod Evidence
+pub mod StageEvidence

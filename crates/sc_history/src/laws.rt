@@ -2,6 +2,7 @@
 #![tactic(auto)]
 
 ghost use Rattle.sc_history.specs.Budgets.{BudgetsAreShown, HandOutsAreCounted, LimitsStay};
+ghost use Rattle.sc_history.specs.Evidence.{TaskLimitsAreShown};
 ghost use Rattle.sc_history.specs.Openings.{OpeningsAgree, OpeningsMakeRoom};
 ghost use Rattle.sc_history.specs.Rooms.{ReplaysKeepRoom, StepsKeepRoom};
 
@@ -24,4 +25,9 @@ pub fn hand_outs_are_counted()
     ensures counted { HandOutsAreCounted }
     ensures limits { LimitsStay }
     ensures budget { BudgetsAreShown }
+{}
+
+/// A job that is aborted shows its cause in its entries. A call does nothing.
+pub fn aborts_are_shown()
+    ensures task_limit { TaskLimitsAreShown }
 {}
