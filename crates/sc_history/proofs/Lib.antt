@@ -13,3 +13,7 @@ pub mod SetLimits
 pub mod ToldFailures
 pub mod TaskLimitLemmas
 pub mod Flags
+pub mod Picking
+pub mod Closing
+pub mod StageLimitLemmas
+pub mod FreshLemmas

@@ -33,15 +33,16 @@ use Rattle.sc_core.specs.declared.running.Running.{Running}
 use Rattle.sc_core.proofs.LawLemmas.{steps_keep_sound, task_limits_are_reached}
 use Rattle.sc_core.proofs.LookupLemmas.{attempt, set_among}
 use Rattle.sc_core.proofs.StepLemmas.{posted}
-use Rattle.sc_history.specs.Evidence.{ShowsTaskLimit, TaskLimitsAreShown, nth_of}
+use Rattle.sc_history.specs.Evidence.{ShowsTaskLimit, TaskLimitsAreShown, is_failure_of, nth_of}
 use Rattle.sc_history.proofs.BudgetLemmas.{opening_limits, step_limits}
 use Rattle.sc_history.proofs.Growing.{attempt_among}
 use Rattle.sc_history.proofs.JobLemmas.{Aborts, EndsBy, tells_ends}
 use Rattle.sc_history.proofs.Journals.{replays_induct}
 use Rattle.sc_history.proofs.Keeping.{NoFailures, SameFailures, failures_among, failures_at, failures_calm, failures_in, failures_of, no_failures}
+use Rattle.sc_history.proofs.Picking.{all_picked}
 use Rattle.sc_history.proofs.SetLimits.{HaveLimits, limits_begin, limits_kept, limits_of_set}
 use Rattle.sc_history.proofs.Starting.{opening_slot}
-use Rattle.sc_history.proofs.ToldFailures.{AreTold, all_shown, entry_tells}
+use Rattle.sc_history.proofs.ToldFailures.{AreTold, entry_tells}
 
 -- what a failed set shows of its failures
 reached : (entries : List Entry) (end : CoreData) (a : AttemptId) (p : ℕ) (L : Limits)
@@ -77,16 +78,16 @@ reached entries end a p L told limits often = by (set_of end.dag a) refl often
         × AllPairs (λ m n. m ≢ n) t.failures = rw f at h in
         let is : failures_at end.dag a.stage a.stage_attempt p ≡ t.failures =
         among set e ∙ ap failures_among f in
-        let shown = all_shown entries a.stage a.stage_attempt p t.failures
+        let shown = all_picked (is_failure_of a.stage a.stage_attempt p) nth_of entries t.failures
         (λ n has. told a.stage a.stage_attempt p n (ap (λ ns. is_in ns n) is ∙ has)) in
         record {
-          failures = shown.failures;
+          failures = shown.picked;
           among = shown.among;
           are = shown.are;
-          apart = subst (λ ns. AllPairs (λ m n. m ≢ n) ns) (sym shown.nths_are) often.1;
+          apart = subst (λ ns. AllPairs (λ m n. m ≢ n) ns) (sym shown.views) often.1;
           many =
-              let as_many : length shown.failures ≡ length t.failures =
-              sym (length-map shown.failures nth_of) ∙ ap length shown.nths_are in
+              let as_many : length shown.picked ≡ length t.failures =
+              sym (length-map shown.picked nth_of) ∙ ap length shown.views in
               let same : set.limits.task_failures ≡ L.task_failures =
               ap (λ (l : Limits). l.task_failures) (limits set e) in
               let enough = often.0 in omega (arith, as_many, same, enough);

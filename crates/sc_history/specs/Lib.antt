@@ -3,3 +3,4 @@ pub mod Openings
 pub mod Budgets
 pub mod Evidence
 pub mod StageEvidence
+pub mod Fresh

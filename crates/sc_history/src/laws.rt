@@ -3,8 +3,10 @@
 
 ghost use Rattle.sc_history.specs.Budgets.{BudgetsAreShown, HandOutsAreCounted, LimitsStay};
 ghost use Rattle.sc_history.specs.Evidence.{TaskLimitsAreShown};
+ghost use Rattle.sc_history.specs.Fresh.{TakesAreFresh};
 ghost use Rattle.sc_history.specs.Openings.{OpeningsAgree, OpeningsMakeRoom};
 ghost use Rattle.sc_history.specs.Rooms.{ReplaysKeepRoom, StepsKeepRoom};
+ghost use Rattle.sc_history.specs.StageEvidence.{StageLimitsAreShown};
 
 /// A job begins in one way. A call does nothing.
 pub fn openings_agree()
@@ -30,4 +32,10 @@ pub fn hand_outs_are_counted()
 /// A job that is aborted shows its cause in its entries. A call does nothing.
 pub fn aborts_are_shown()
     ensures task_limit { TaskLimitsAreShown }
+    ensures stage_limit { StageLimitsAreShown }
+{}
+
+/// No attempt is handed out twice. A call does nothing.
+pub fn takes_are_fresh()
+    ensures { TakesAreFresh }
 {}

@@ -7,4 +7,4 @@
 
 mod laws;
 
-pub use laws::{aborts_are_shown, hand_outs_are_counted, openings_agree, room_is_kept};
+pub use laws::{aborts_are_shown, hand_outs_are_counted, openings_agree, room_is_kept, takes_are_fresh};
