@@ -1,5 +1,5 @@
 -- A core counts what it hands out, and never hands out more than it may.
-use Rattle.std.proofs.Common.{◌≡◌, ◌⊎◌, inl, inr, ℕ, ◌+◌, ◌<◌, ◌≤◌, Bool, true, false, cond, List, [], ◌∷◌, Option, Some, None, refl, ap, sym, subst, ◌∙◌, arith, rules, add_assoc}
+use Rattle.std.proofs.Common.{◌≡◌, inl, inr, ℕ, ◌+◌, ◌≤◌, Bool, true, false, cond, List, [], ◌∷◌, Option, Some, None, refl, ap, sym, subst, ◌∙◌, arith, rules}
 use Rattle.std.proofs.lemmas.List.Sums.{sum_by-cons}
 use Rattle.sc_ids.specs.Graphs.{StageData}
 use Rattle.sc_ids.specs.declared.attempts.AttemptId.{AttemptId}
@@ -11,7 +11,7 @@ use Rattle.sc_core.specs.Journals.{Replays}
 use Rattle.sc_core.specs.Openings.{IsOpening}
 use Rattle.sc_core.specs.Posts.{PostsIf, PostsOf}
 use Rattle.sc_core.specs.Steps.{Steps}
-use Rattle.sc_core.specs.Takes.{Takes, with_task}
+use Rattle.sc_core.specs.Takes.{Takes}
 use Rattle.sc_core.specs.declared.answers.Abort.TheVariants as aborts
 use Rattle.sc_core.specs.declared.answers.Answer.{Answer}
 use Rattle.sc_core.specs.declared.answers.Answer.TheVariants as says
@@ -22,8 +22,8 @@ use Rattle.sc_core.specs.declared.events.Event.TheVariants.{Post, Take}
 use Rattle.sc_core.specs.declared.events.Outcome.{Outcome}
 use Rattle.sc_core.specs.declared.running.Running.{Running}
 use Rattle.sc_core.proofs.LeftLemmas.{tells_left}
-use Rattle.sc_history.specs.Budgets.{BudgetsAreShown, HandOutsAreCounted, LimitsStay, gives_task, hand_outs_in, is_hand_out}
-use Rattle.sc_history.proofs.JobLemmas.{Aborts, EndsBy, tells_ends}
+use Rattle.sc_history.specs.Budgets.{BudgetsAreShown, HandOutsAreCounted, LimitsStay, gives_task, is_hand_out}
+use Rattle.sc_history.proofs.JobLemmas.{EndsBy, tells_ends}
 
 -- a job that was aborted by its budget has handed out all that it may
 abbrev IsSpent : CoreData → Type 0

@@ -1,5 +1,5 @@
 -- What a job that is aborted for the failed attempts of a stage leaves of it.
-use Rattle.std.proofs.Common.{◌≡◌, ◌⊎◌, inl, inr, ℕ, ◌&&◌, not, Bool, true, false, slice_get, Option, Some, None, refl, ap, sym, subst, ◌∙◌, rules}
+use Rattle.std.proofs.Common.{◌≡◌, ℕ, ◌&&◌, not, Bool, true, false, slice_get, Option, Some, None, refl, ap, sym, subst, ◌∙◌, rules}
 use Rattle.sc_ids.specs.declared.attempts.AttemptId.{AttemptId}
 use Rattle.sc_ids.specs.declared.failures.FailureCause.{FailureCause}
 use Rattle.sc_ids.specs.declared.failures.FailureCause.TheVariants as causes
@@ -15,7 +15,7 @@ use Rattle.sc_dag.specs.declared.reports.Success.TheVariants as successes
 use Rattle.sc_dag.proofs.Calm.{complete_with}
 use Rattle.sc_dag.proofs.Tests.{both_right, not_true}
 use Rattle.sc_commit.specs.declared.committers.Ending.TheVariants as endings
-use Rattle.sc_core.specs.CoreData.{CoreData, job_runs, running_of, taken_off, told_once, with_dag}
+use Rattle.sc_core.specs.CoreData.{CoreData, job_runs, running_of, taken_off, with_dag}
 use Rattle.sc_core.specs.Posts.{PostsIf, PostsOf}
 use Rattle.sc_core.specs.Steps.{Steps}
 use Rattle.sc_core.specs.Takes.{Takes}
@@ -70,11 +70,11 @@ misses_close c after a answer runs miss =
         runs_on c after runs (ap (λ (x : CoreData). x.job) is)
     verdict_closes verdicts.Limit d e (often, same) (told, is) =
         λ s j.
-            (let job = ap (λ (x : CoreData). x.job) is in
-            let at : s ≡ a.stage = search (rules, job, j) in
-            subst (λ (x : DagData). IsClosed x s)
-            (sym (ap (λ (x : CoreData). x.dag) is ∙ same))
-            (subst (λ (r : ℕ). IsClosed marked r) (sym at) (closed e often)))
+        (let job = ap (λ (x : CoreData). x.job) is in
+        let at : s ≡ a.stage = search (rules, job, j) in
+        subst (λ (x : DagData). IsClosed x s)
+        (sym (ap (λ (x : CoreData). x.dag) is ∙ same))
+        (subst (λ (r : ℕ). IsClosed marked r) (sym at) (closed e often)))
 
     by : (b : Bool) → (is_of_newest c.dag a && not (is_complete c.dag a.stage)) ≡ b
         → MissesIf b c a answer after → HasClosed after

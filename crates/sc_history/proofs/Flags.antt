@@ -1,5 +1,5 @@
 -- Each attempt of a stage that counts as failed was told to miss an input.
-use Rattle.std.proofs.Common.{◌≡◌, ◌⊎◌, inl, inr, ℕ, ◌-◌, ◌==◌, ◌&&◌, not, Bool, true, false, List, [], ◌∷◌, length, Option, Some, None, option_map, slice_get, refl, ap, sym, subst, ◌∙◌, arith, rules, true≢false}
+use Rattle.std.proofs.Common.{◌≡◌, ◌⊎◌, inl, inr, ℕ, ◌==◌, ◌&&◌, not, Bool, true, false, Option, Some, None, option_map, slice_get, refl, ap, sym, subst, ◌∙◌, arith, true≢false}
 use Rattle.std.proofs.lemmas.Bool.{cases_eq}
 use Rattle.std.proofs.lemmas.Bool.Decides.{nat_tests}
 use Rattle.sc_ids.specs.Changes.{change_at}
@@ -8,8 +8,6 @@ use Rattle.sc_ids.specs.declared.failures.FailureCause.{FailureCause}
 use Rattle.sc_ids.specs.declared.failures.FailureCause.TheVariants as causes
 use Rattle.sc_ids.specs.declared.limits.Limits.{Limits}
 use Rattle.sc_ids.proofs.ChangeLemmas.{slice_get_change_other, slice_get_change_same}
-use Rattle.sc_commit.specs.Committers.{committer_at}
-use Rattle.sc_commit.specs.Committing.{holds}
 use Rattle.sc_taskset.specs.Reports.{after_failure as after_failure_in}
 use Rattle.sc_taskset.specs.declared.tasks.Verdict.{Verdict}
 use Rattle.sc_taskset.specs.declared.tasks.Verdict.TheVariants as verdicts
@@ -17,7 +15,7 @@ use Rattle.sc_tracker.specs.Trust.{is_newer}
 use Rattle.sc_dag.specs.DagData.{DagData, StageState, with_set, with_state}
 use Rattle.sc_dag.specs.Losses.{after_seen}
 use Rattle.sc_dag.specs.Outputs.{is_complete}
-use Rattle.sc_dag.specs.Reports.{FailsStage, after_failed, after_hold, failed_attempt, is_of_newest, reaches_limit_in, set_of, with_failed}
+use Rattle.sc_dag.specs.Reports.{FailsStage, failed_attempt, is_of_newest, reaches_limit_in, set_of, with_failed}
 use Rattle.sc_dag.specs.Submission.{this_stage}
 use Rattle.sc_dag.specs.declared.attempts.StageAttempt.{StageAttempt}
 use Rattle.sc_dag.proofs.Tests.{clash}
@@ -28,7 +26,6 @@ use Rattle.sc_core.specs.Sound.{IsSoundCore}
 use Rattle.sc_core.specs.Steps.{Steps}
 use Rattle.sc_core.specs.Tells.{FailsBy, FailsOrAborts, IsGone, Misses, MissesIf, Tells, TellsFailureIf, after_failure, is_zombie_in}
 use Rattle.sc_core.specs.declared.answers.Answer.{Answer}
-use Rattle.sc_core.specs.declared.answers.Answer.TheVariants as says
 use Rattle.sc_core.specs.declared.events.Event.{Event}
 use Rattle.sc_core.specs.declared.events.Event.TheVariants.{Post, Take}
 use Rattle.sc_core.specs.declared.events.Outcome.{Outcome}
@@ -36,7 +33,7 @@ use Rattle.sc_core.specs.declared.events.Outcome.TheVariants as outcomes
 use Rattle.sc_core.specs.declared.running.Running.{Running}
 use Rattle.sc_core.proofs.StepLemmas.{posted}
 use Rattle.sc_history.specs.Evidence.{is_heard}
-use Rattle.sc_history.specs.StageEvidence.{fails_stage, misses, number_in}
+use Rattle.sc_history.specs.StageEvidence.{fails_stage, number_in}
 use Rattle.sc_history.proofs.Growing.{IsCalm, Slot, attempt_among, dag_submitted, numbered_slot}
 use Rattle.sc_history.proofs.GrowingCalls.{Grows, failed_grows, maps_grow, results_grow, takes_grow}
 use Rattle.sc_history.proofs.Keeping.{IsChanged, changed_among}
@@ -189,9 +186,9 @@ misses_tell c after a answer cause missing miss =
     by : (b : Bool) → MissesIf b c a answer after → Goal
     by true (verdict, d, f, or) =
         λ s k e. told (heard verdict d or) s k
-            (flags_marked c.dag a.stage a.stage_attempt s k
-            (fewer verdict d f s k (ap (λ (x : DagData). is_flagged x s k)
-            (sym (dag_is verdict d or)) ∙ e)))
+        (flags_marked c.dag a.stage a.stage_attempt s k
+        (fewer verdict d f s k (ap (λ (x : DagData). is_flagged x s k)
+        (sym (dag_is verdict d or)) ∙ e)))
     by false (told, is) =
         λ s k e. inl (ap (λ (x : CoreData). is_flagged x.dag s k) (sym is) ∙ e)
 
@@ -251,7 +248,7 @@ failures_tell b c after a cause answer h = by b h
         λ s k e. behind s k (inl (ap (λ (x : CoreData). is_flagged x.dag s k) (sym is) ∙ e))
     by false k =
         λ s j e. behind s j
-            (causes_tell failed after a answer cause (is_zombie_in (set_of c.dag a)) k s j e)
+        (causes_tell failed after a answer cause (is_zombie_in (set_of c.dag a)) k s j e)
 
 tells_flags : (c after : CoreData) (r : Running) (outcome : Outcome) (answer : Answer)
     → Tells c r outcome answer after

@@ -1,11 +1,10 @@
 -- No attempt is handed out twice.
-use Rattle.std.proofs.Common.{◌≡◌, ◌≢◌, ℕ, ◌+◌, ◌<◌, ◌≤◌, ◌==◌, Bool, true, false, cond, if◌then◌else◌, List, [], ◌∷◌, ◌++◌, All, get_or, find, length, Option, Some, None, option_map, refl, ap, sym, subst, ◌∙◌, append-nil, arith, rules, slice_get}
-use Rattle.std.specs.List.{AllPairs, flat_map}
+use Rattle.std.proofs.Common.{◌≡◌, ◌≢◌, ℕ, ◌<◌, ◌≤◌, ◌==◌, Bool, true, false, if◌then◌else◌, List, [], ◌∷◌, ◌++◌, All, get_or, Option, Some, None, option_map, refl, ap, sym, subst, ◌∙◌, append-nil, arith, rules, slice_get}
+use Rattle.std.specs.List.{AllPairs}
 use Rattle.std.proofs.lemmas.Bool.Decides.{nat_tests}
 use Rattle.std.proofs.lemmas.Grind.{flat_map-append}
 use Rattle.std.proofs.lemmas.List.Elements.{All-head, All-nil, All-push, All-tail, All-weaker}
 use Rattle.std.proofs.lemmas.List.Quantifiers.{all_pairs_push}
-use Rattle.sc_ids.specs.Graphs.{StageData}
 use Rattle.sc_ids.specs.declared.attempts.AttemptId.{AttemptId}
 use Rattle.sc_ids.specs.declared.failures.FailureCause.{FailureCause}
 use Rattle.sc_ids.specs.declared.limits.Limits.{Limits}
@@ -17,7 +16,7 @@ use Rattle.sc_taskset.specs.TaskSetData.{TaskData, TaskSetData}
 use Rattle.sc_taskset.specs.declared.tasks.Running.{Running as Copy}
 use Rattle.sc_taskset.proofs.FindLemmas.{found_is, found_passes}
 use Rattle.sc_taskset.proofs.LawLemmas.{task_changed, task_other}
-use Rattle.sc_dag.specs.DagData.{DagData, StageState, attempt_in, newest_at, set_in, stage_at, with_set}
+use Rattle.sc_dag.specs.DagData.{DagData, StageState, attempt_in, newest_at, set_in, with_set}
 use Rattle.sc_dag.specs.Offers.{IsOffer, OffersIn}
 use Rattle.sc_dag.specs.Offers as offers
 use Rattle.sc_dag.specs.Reports.{failed_attempt, set_of}
@@ -26,18 +25,14 @@ use Rattle.sc_dag.specs.declared.attempts.StageAttempt.{StageAttempt}
 use Rattle.sc_dag.proofs.Sets.{task_viewed}
 use Rattle.sc_core.specs.CoreData.{CoreData}
 use Rattle.sc_core.specs.HandOuts.{HandOutData}
-use Rattle.sc_core.specs.Journals.{Replays}
-use Rattle.sc_core.specs.Openings.{IsOpening}
 use Rattle.sc_core.specs.Sound.{IsSoundCore, RunsWell}
 use Rattle.sc_core.specs.Steps.{Steps}
 use Rattle.sc_core.specs.Takes.{Takes, running_on, with_task as with_hand_out}
-use Rattle.sc_core.specs.declared.answers.Abort.TheVariants as aborts
 use Rattle.sc_core.specs.declared.answers.Answer.{Answer}
 use Rattle.sc_core.specs.declared.answers.Answer.TheVariants as says
 use Rattle.sc_core.specs.declared.entries.Entry.{Entry}
 use Rattle.sc_core.specs.declared.events.Event.{Event}
 use Rattle.sc_core.specs.declared.events.Event.TheVariants.{Post, Take}
-use Rattle.sc_core.specs.declared.running.Running.{Running}
 use Rattle.sc_core.proofs.LawLemmas.{steps_keep_sound}
 use Rattle.sc_core.proofs.LookupLemmas.{set_among, set_holds, set_of_newest}
 use Rattle.sc_history.specs.Fresh.{TakesAreFresh, attempts_given, given_by}

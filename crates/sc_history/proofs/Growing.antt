@@ -1,18 +1,18 @@
 -- What calls do to each attempt of each stage, for any relation that their changes keep.
-use Rattle.std.proofs.Common.{◌≡◌, ◌⊎◌, inl, inr, ℕ, zero, suc, ◌+◌, ◌-◌, ◌≤◌, Bool, true, false, if◌then◌else◌, List, [], ◌∷◌, ◌++◌, map, length, nat_lt, Option, Some, None, option_map, slice_get, refl, ap, sym, subst, ◌∙◌, arith}
+use Rattle.std.proofs.Common.{◌≡◌, ◌⊎◌, inl, inr, ℕ, zero, suc, ◌-◌, Bool, true, false, if◌then◌else◌, List, [], ◌∷◌, ◌++◌, map, length, nat_lt, Option, Some, None, option_map, slice_get, refl, sym, subst, ◌∙◌, arith}
 use Rattle.std.proofs.lemmas.Option.{slice_get_past}
 use Rattle.std.proofs.lemmas.Bool.{cases_eq}
 use Rattle.sc_ids.specs.Changes.{change_at}
 use Rattle.sc_ids.specs.Graphs.{StageData}
 use Rattle.sc_ids.specs.declared.limits.Limits.{Limits}
-use Rattle.sc_ids.proofs.ChangeLemmas.{length_change_at, slice_get_change_other, slice_get_change_same}
+use Rattle.sc_ids.proofs.ChangeLemmas.{slice_get_change_other, slice_get_change_same}
 use Rattle.sc_taskset.specs.Offers.{handed}
 use Rattle.sc_taskset.specs.Reports.{after_end, after_held, after_success, as_zombie}
 use Rattle.sc_tracker.specs.TrackerData.{TrackerData}
-use Rattle.sc_dag.specs.DagData.{DagData, StageState, attempt_in, place_of_attempt, stage_at, stage_attempt, with_attempts, with_set, with_state, with_states}
+use Rattle.sc_dag.specs.DagData.{DagData, StageState, attempt_in, stage_at, stage_attempt, with_attempts, with_set}
 use Rattle.sc_dag.specs.Outputs.{has_inputs}
 use Rattle.sc_dag.specs.Reports.{forgiven}
-use Rattle.sc_dag.specs.Submission.{IsSubmitted, as_waiting, by_number, moved_if, new_set, started}
+use Rattle.sc_dag.specs.Submission.{IsSubmitted, as_waiting, moved_if, new_set, started}
 use Rattle.sc_dag.specs.declared.attempts.StageAttempt.{StageAttempt}
 use Rattle.sc_dag.proofs.Items.{by_number_at}
 

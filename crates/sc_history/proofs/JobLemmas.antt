@@ -1,5 +1,5 @@
 -- How a job ends by a report.
-use Rattle.std.proofs.Common.{◌≡◌, ◌⊎◌, inl, inr, ◌&&◌, not, Bool, true, false, if◌then◌else◌, slice_get, refl, ap, ◌∙◌}
+use Rattle.std.proofs.Common.{◌≡◌, ◌⊎◌, inl, inr, ◌&&◌, not, Bool, true, false, slice_get, ap}
 use Rattle.sc_ids.specs.declared.attempts.AttemptId.{AttemptId}
 use Rattle.sc_ids.specs.declared.failures.FailureCause.{FailureCause}
 use Rattle.sc_ids.specs.declared.failures.FailureCause.TheVariants as causes

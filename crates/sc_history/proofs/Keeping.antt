@@ -1,6 +1,5 @@
 -- What calls keep of each task of each attempt.
-use Rattle.std.proofs.Common.{◌≡◌, ◌⊎◌, inl, inr, ℕ, ◌+◌, ◌-◌, ◌==◌, ◌<◌, ◌≤◌, ◌&&◌, ◌||◌, Bool, true, false, if◌then◌else◌, List, [], ◌∷◌, ◌++◌, map, find, length, nat_lt, Option, Some, None, option_map, slice_get, refl, ap, sym, subst, ◌∙◌, arith, rules, true≢false}
-use Rattle.std.specs.List.{list_any}
+use Rattle.std.proofs.Common.{◌≡◌, ◌⊎◌, inl, inr, ℕ, ◌+◌, ◌-◌, ◌==◌, ◌<◌, ◌≤◌, ◌||◌, Bool, true, false, if◌then◌else◌, List, [], ◌∷◌, ◌++◌, map, length, nat_lt, Option, Some, None, option_map, slice_get, refl, ap, sym, subst, ◌∙◌, arith, true≢false}
 use Rattle.std.proofs.lemmas.Bool.{cases_eq}
 use Rattle.std.proofs.lemmas.Bool.Decides.{nat_tests}
 use Rattle.std.proofs.lemmas.Option.{slice_get_within}
@@ -11,8 +10,8 @@ use Rattle.sc_ids.specs.declared.attempts.AttemptId.{AttemptId}
 use Rattle.sc_ids.specs.declared.failures.FailureCause.{FailureCause}
 use Rattle.sc_ids.specs.declared.limits.Limits.{Limits}
 use Rattle.sc_ids.proofs.ChangeLemmas.{length_change_at, slice_get_change_other, slice_get_change_same}
-use Rattle.sc_taskset.specs.Lookups.{is_task_of, task_at, with_task}
-use Rattle.sc_taskset.specs.Offers.{given_in, given_of, handed_task}
+use Rattle.sc_taskset.specs.Lookups.{task_at, with_task}
+use Rattle.sc_taskset.specs.Offers.{handed_task}
 use Rattle.sc_taskset.specs.Reports.{after_failure, ended_task, failed_task, held_task, is_counted_in, is_failure, noted_task, succeeded_task}
 use Rattle.sc_taskset.specs.TaskSetData.{TaskData, TaskSetData, fresh_task}
 use Rattle.sc_taskset.proofs.LawLemmas.{task_changed, task_other}
@@ -20,7 +19,7 @@ use Rattle.sc_dag.specs.DagData.{DagData, StageState, changed_set, place_of_atte
 use Rattle.sc_dag.specs.Reports.{after_failed, failed_attempt}
 use Rattle.sc_dag.specs.declared.attempts.StageAttempt.{StageAttempt}
 use Rattle.sc_dag.proofs.Sets.{task_viewed}
-use Rattle.sc_dag.proofs.Tests.{both_left, both_right, is_in}
+use Rattle.sc_dag.proofs.Tests.{both_left, is_in}
 use Rattle.sc_history.proofs.Growing.{IsCalm, Slot, attempt_among, numbered_slot}
 use Rattle.sc_history.proofs.GrowingCalls.{Grows}
 

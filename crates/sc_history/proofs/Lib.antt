@@ -17,3 +17,5 @@ pub mod Picking
 pub mod Closing
 pub mod StageLimitLemmas
 pub mod FreshLemmas
+pub mod ResultCalls
+pub mod ResultLemmas

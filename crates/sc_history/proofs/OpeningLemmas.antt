@@ -9,7 +9,7 @@ use Rattle.sc_tracker.specs.TrackerData.{TrackerData}
 use Rattle.sc_tracker.specs.TrackerFacts.{HasMarkBelow, IsSoundTracker}
 use Rattle.sc_tracker.specs.Trust.{untold}
 use Rattle.sc_dag.specs.DagData.{DagData, dag_data, no_stage}
-use Rattle.sc_dag.specs.Openings.{AreNumbered, FitsJob, Opens, blank_states}
+use Rattle.sc_dag.specs.Openings.{AreNumbered, Opens, blank_states}
 use Rattle.sc_dag.specs.Sound.{IsSoundDag}
 use Rattle.sc_dag.specs.Submission.{IsSubmitted, this_stage}
 use Rattle.sc_dag.proofs.Looking.{submissions_agree}

@@ -1,11 +1,11 @@
 -- The task sets of a job have its limits.
-use Rattle.std.proofs.Common.{◌≡◌, ℕ, List, Option, Some, None, IfSome, slice_get, refl, ap, sym, subst, ◌∙◌, rules}
+use Rattle.std.proofs.Common.{◌≡◌, ℕ, List, Option, Some, None, IfSome, slice_get, refl, ap, sym, ◌∙◌, rules}
 use Rattle.sc_ids.specs.Graphs.{StageData}
 use Rattle.sc_ids.specs.declared.attempts.AttemptId.{AttemptId}
 use Rattle.sc_ids.specs.declared.limits.Limits.{Limits}
 use Rattle.sc_taskset.specs.TaskSetData.{TaskSetData}
 use Rattle.sc_dag.specs.DagData.{DagData, StageState, attempt_in, set_in}
-use Rattle.sc_dag.specs.Reports.{failed_attempt, set_of}
+use Rattle.sc_dag.specs.Reports.{set_of}
 use Rattle.sc_dag.specs.declared.attempts.StageAttempt.{StageAttempt}
 use Rattle.sc_core.specs.CoreData.{CoreData}
 use Rattle.sc_core.specs.Openings.{IsOpening}

@@ -1,5 +1,5 @@
 -- A job that is aborted for the failed attempts of a stage shows them.
-use Rattle.std.proofs.Common.{◌≡◌, ◌≢◌, ◌⊎◌, inl, inr, ℕ, zero, suc, ◌+◌, ◌-◌, ◌<◌, ◌≤◌, ◌==◌, ◌&&◌, ◌||◌, Bool, true, false, cond, if◌then◌else◌, List, [], ◌∷◌, ◌++◌, All, count_by, length, map, nat_lt, Option, Some, None, refl, ap, sym, subst, ◌∙◌, append-nil, append_assoc, arith, rules, true≢false, slice_get}
+use Rattle.std.proofs.Common.{◌≡◌, ◌≢◌, ◌⊎◌, inl, inr, ℕ, zero, suc, ◌-◌, ◌<◌, ◌≤◌, ◌==◌, ◌&&◌, ◌||◌, Bool, true, false, cond, if◌then◌else◌, List, [], ◌∷◌, ◌++◌, All, count_by, length, nat_lt, Option, Some, None, refl, ap, sym, subst, ◌∙◌, append-nil, append_assoc, arith, rules, true≢false, slice_get}
 use Rattle.std.specs.List.{AllPairs, list_any}
 use Rattle.std.proofs.lemmas.Bool.{or_right}
 use Rattle.std.proofs.lemmas.Bool.Decides.{nat_tests}
@@ -10,7 +10,7 @@ use Rattle.std.proofs.lemmas.List.Kept.{AllPairs-cons}
 use Rattle.std.proofs.lemmas.List.Sums.{sum_by-cons}
 use Rattle.sc_ids.specs.Graphs.{StageData}
 use Rattle.sc_ids.specs.declared.limits.Limits.{Limits}
-use Rattle.sc_dag.specs.DagData.{DagData, StageState, place_of_attempt}
+use Rattle.sc_dag.specs.DagData.{StageState, place_of_attempt}
 use Rattle.sc_dag.specs.Outputs.{is_complete}
 use Rattle.sc_dag.specs.Reports.{failed_count}
 use Rattle.sc_dag.specs.Sound.{attempts_in, attempts_of}
@@ -22,10 +22,8 @@ use Rattle.sc_core.specs.Openings.{IsOpening}
 use Rattle.sc_core.specs.Sound.{IsSoundCore}
 use Rattle.sc_core.specs.Steps.{Steps}
 use Rattle.sc_core.specs.declared.answers.Abort.TheVariants.{StageLimit}
-use Rattle.sc_core.specs.declared.answers.Answer.{Answer}
 use Rattle.sc_core.specs.declared.answers.Job.TheVariants as jobs
 use Rattle.sc_core.specs.declared.entries.Entry.{Entry}
-use Rattle.sc_core.specs.declared.events.Event.{Event}
 use Rattle.sc_core.proofs.LawLemmas.{steps_keep_sound}
 use Rattle.sc_history.specs.StageEvidence.{ShowsStageLimit, StageLimitsAreShown, StaysOpen, is_miss_of, number_of}
 use Rattle.sc_history.proofs.BudgetLemmas.{opening_limits, step_limits}

@@ -1,5 +1,5 @@
 -- A job that is aborted for the failures of a partition shows them.
-use Rattle.std.proofs.Common.{◌≡◌, ◌≢◌, ◌⊎◌, inl, inr, ℕ, ◌≤◌, Bool, true, false, List, [], ◌∷◌, ◌++◌, length, map, Option, Some, None, refl, ap, sym, subst, ◌∙◌, arith, rules, true≢false, slice_get}
+use Rattle.std.proofs.Common.{◌≡◌, ◌≢◌, inl, inr, ℕ, ◌≤◌, Bool, true, false, List, [], ◌∷◌, ◌++◌, length, Option, Some, None, refl, ap, sym, subst, ◌∙◌, arith, rules, true≢false, slice_get}
 use Rattle.std.specs.List.{AllPairs}
 use Rattle.std.proofs.lemmas.List.{length-map}
 use Rattle.sc_ids.specs.Graphs.{StageData}
@@ -7,12 +7,11 @@ use Rattle.sc_ids.specs.declared.attempts.AttemptId.{AttemptId}
 use Rattle.sc_ids.specs.declared.limits.Limits.{Limits}
 use Rattle.sc_taskset.specs.Lookups.{task_at}
 use Rattle.sc_taskset.specs.TaskSetData.{TaskData, TaskSetData}
-use Rattle.sc_dag.specs.DagData.{DagData, StageState, attempt_in, set_in}
+use Rattle.sc_dag.specs.DagData.{StageState, attempt_in, set_in}
 use Rattle.sc_dag.specs.Reports.{set_of}
 use Rattle.sc_dag.specs.declared.attempts.StageAttempt.{StageAttempt}
 use Rattle.sc_dag.proofs.Tests.{is_in}
 use Rattle.sc_core.specs.CoreData.{CoreData, job_runs, running_of, taken_off}
-use Rattle.sc_core.specs.Journals.{Replays}
 use Rattle.sc_core.specs.Laws.{HasFailedOften}
 use Rattle.sc_core.specs.Openings.{IsOpening}
 use Rattle.sc_core.specs.Posts.{PostsIf, PostsOf}
@@ -118,7 +117,7 @@ takes_count c after exec answer h counted = by answer h
     by : (answer : Answer) → Takes c exec answer after → HasCounted after
     by (says.Task h) (asking, out, below, is) =
         λ s k p e.
-            absurd (not_running c s k p asking.runs (ap (λ (x : CoreData). x.job) (sym is) ∙ e))
+        absurd (not_running c s k p asking.runs (ap (λ (x : CoreData). x.job) (sym is) ∙ e))
     by (says.Wait out) (asking, none, way, is) = same is
     by (says.Busy held) (runs, stays, live, has, is) = same is
     by says.Lost (runs, stays, lost, is) = same is

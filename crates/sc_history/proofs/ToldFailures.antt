@@ -1,29 +1,23 @@
 -- Each failure that counts stands in an entry of the journal.
-use Rattle.std.proofs.Common.{◌≡◌, ◌≢◌, ◌⊎◌, inl, inr, ℕ, ◌==◌, ◌≤◌, ◌&&◌, ◌||◌, Bool, true, false, List, [], ◌∷◌, ◌++◌, All, Contains, length, map, Option, Some, None, refl, ap, sym, subst, ◌∙◌, arith, rules, true≢false, slice_get}
-use Rattle.std.specs.List.{Any, list_any}
-use Rattle.std.specs.Option.{option_map}
+use Rattle.std.proofs.Common.{◌≡◌, ◌⊎◌, inl, inr, ℕ, ◌==◌, ◌&&◌, ◌||◌, Bool, true, false, List, [], ◌∷◌, ◌++◌, Option, Some, None, refl, ap, sym, subst, ◌∙◌, arith, true≢false}
+use Rattle.std.specs.List.{list_any}
 use Rattle.std.proofs.lemmas.Bool.Decides.{nat_tests}
 use Rattle.std.proofs.lemmas.Bool.{or_right}
-use Rattle.std.proofs.lemmas.List.Elements.{All-cons, All-head, All-nil, All-tail}
-use Rattle.std.proofs.lemmas.List.Folds.{Any-from_list_any, list_any-append}
+use Rattle.std.proofs.lemmas.List.Folds.{list_any-append}
 use Rattle.sc_ids.specs.Failures.{is_counted}
 use Rattle.sc_ids.specs.declared.attempts.AttemptId.{AttemptId}
 use Rattle.sc_ids.specs.declared.failures.FailureCause.{FailureCause}
 use Rattle.sc_ids.specs.declared.failures.FailureCause.TheVariants as causes
 use Rattle.sc_ids.specs.declared.limits.Limits.{Limits}
-use Rattle.sc_taskset.specs.Lookups.{task_at}
-use Rattle.sc_taskset.specs.TaskSetData.{TaskData, TaskSetData}
-use Rattle.sc_tracker.specs.Trust.{is_newer}
-use Rattle.sc_dag.specs.DagData.{DagData, StageState}
+use Rattle.sc_dag.specs.DagData.{DagData}
 use Rattle.sc_dag.specs.Reports.{after_failed, reaches_limit_in, set_of}
-use Rattle.sc_dag.proofs.Tests.{both_left, both_right, clash, is_in}
+use Rattle.sc_dag.proofs.Tests.{is_in}
 use Rattle.sc_core.specs.CoreData.{CoreData, job_runs, running_of, taken_off, told_once}
 use Rattle.sc_core.specs.Posts.{PostsIf, PostsOf}
 use Rattle.sc_core.specs.Sound.{IsSoundCore}
 use Rattle.sc_core.specs.Steps.{Steps}
-use Rattle.sc_core.specs.Tells.{FailsBy, Tells, TellsFailureIf, after_failure, is_zombie_in, limit_of}
+use Rattle.sc_core.specs.Tells.{FailsBy, Tells, TellsFailureIf, after_failure, is_zombie_in}
 use Rattle.sc_core.specs.declared.answers.Answer.{Answer}
-use Rattle.sc_core.specs.declared.answers.Answer.TheVariants as says
 use Rattle.sc_core.specs.declared.entries.Entry.{Entry}
 use Rattle.sc_core.specs.declared.events.Event.{Event}
 use Rattle.sc_core.specs.declared.events.Event.TheVariants.{Post, Take}
@@ -31,7 +25,7 @@ use Rattle.sc_core.specs.declared.events.Outcome.{Outcome}
 use Rattle.sc_core.specs.declared.events.Outcome.TheVariants as outcomes
 use Rattle.sc_core.specs.declared.running.Running.{Running}
 use Rattle.sc_core.proofs.StepLemmas.{posted}
-use Rattle.sc_history.specs.Evidence.{counts, fails_task, is_failure_of, is_heard, is_of_task, nth_in, nth_of}
+use Rattle.sc_history.specs.Evidence.{fails_task, is_heard, nth_in}
 use Rattle.sc_history.proofs.GrowingCalls.{Grows, failures_grow, maps_grow, results_grow, takes_grow}
 use Rattle.sc_history.proofs.Keeping.{IsNew, NoFailures, SameFailures, failed_in, failures_at, failures_calm, failures_marked, failures_same}
 

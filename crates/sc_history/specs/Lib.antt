@@ -4,3 +4,4 @@ pub mod Budgets
 pub mod Evidence
 pub mod StageEvidence
 pub mod Fresh
+pub mod Results

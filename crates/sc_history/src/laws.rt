@@ -5,6 +5,7 @@ ghost use Rattle.sc_history.specs.Budgets.{BudgetsAreShown, HandOutsAreCounted, 
 ghost use Rattle.sc_history.specs.Evidence.{TaskLimitsAreShown};
 ghost use Rattle.sc_history.specs.Fresh.{TakesAreFresh};
 ghost use Rattle.sc_history.specs.Openings.{OpeningsAgree, OpeningsMakeRoom};
+ghost use Rattle.sc_history.specs.Results.{ResultsAreOnce};
 ghost use Rattle.sc_history.specs.Rooms.{ReplaysKeepRoom, StepsKeepRoom};
 ghost use Rattle.sc_history.specs.StageEvidence.{StageLimitsAreShown};
 
@@ -38,4 +39,10 @@ pub fn aborts_are_shown()
 /// No attempt is handed out twice. A call does nothing.
 pub fn takes_are_fresh()
     ensures { TakesAreFresh }
+{}
+
+/// No partition gets its result twice, and in a job that is done each one of the result stage has
+/// it. A call does nothing.
+pub fn results_are_once()
+    ensures { ResultsAreOnce }
 {}

@@ -7,4 +7,7 @@
 
 mod laws;
 
-pub use laws::{aborts_are_shown, hand_outs_are_counted, openings_agree, room_is_kept, takes_are_fresh};
+pub use laws::{
+    aborts_are_shown, hand_outs_are_counted, openings_agree, results_are_once, room_is_kept,
+    takes_are_fresh,
+};
