@@ -1,0 +1,7 @@
+pub mod Rooms
+pub mod Openings
+pub mod Budgets
+pub mod Evidence
+pub mod StageEvidence
+pub mod Fresh
+pub mod Results

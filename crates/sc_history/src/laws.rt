@@ -1,0 +1,48 @@
+//! Laws of journals, as functions that do nothing.
+#![tactic(auto)]
+
+ghost use Rattle.sc_history.specs.Budgets.{BudgetsAreShown, HandOutsAreCounted, LimitsStay};
+ghost use Rattle.sc_history.specs.Evidence.{TaskLimitsAreShown};
+ghost use Rattle.sc_history.specs.Fresh.{TakesAreFresh};
+ghost use Rattle.sc_history.specs.Openings.{OpeningsAgree, OpeningsMakeRoom};
+ghost use Rattle.sc_history.specs.Results.{ResultsAreOnce};
+ghost use Rattle.sc_history.specs.Rooms.{ReplaysKeepRoom, StepsKeepRoom};
+ghost use Rattle.sc_history.specs.StageEvidence.{StageLimitsAreShown};
+
+/// A job begins in one way. A call does nothing.
+pub fn openings_agree()
+    ensures { OpeningsAgree }
+{}
+
+/// Room for outputs of shuffles is made where a job begins, and stays as it is. A call does
+/// nothing.
+pub fn room_is_kept()
+    ensures openings { OpeningsMakeRoom }
+    ensures steps { StepsKeepRoom }
+    ensures replays { ReplaysKeepRoom }
+{}
+
+/// A core counts the tasks that it hands out, and a job that is aborted by its budget shows as many
+/// as it may hand out. A call does nothing.
+pub fn hand_outs_are_counted()
+    ensures counted { HandOutsAreCounted }
+    ensures limits { LimitsStay }
+    ensures budget { BudgetsAreShown }
+{}
+
+/// A job that is aborted shows its cause in its entries. A call does nothing.
+pub fn aborts_are_shown()
+    ensures task_limit { TaskLimitsAreShown }
+    ensures stage_limit { StageLimitsAreShown }
+{}
+
+/// No attempt is handed out twice. A call does nothing.
+pub fn takes_are_fresh()
+    ensures { TakesAreFresh }
+{}
+
+/// No partition gets its result twice, and in a job that is done each one of the result stage has
+/// it. A call does nothing.
+pub fn results_are_once()
+    ensures { ResultsAreOnce }
+{}

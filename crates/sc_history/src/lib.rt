@@ -1,0 +1,13 @@
+//! Laws of journals: what the entries of a job show of how it went and how it ended.
+//!
+//! A journal is read here as `Replays opening entries end` of `sc_core`: from its opening these
+//! entries may be what happened, and they leave its end. Each law stands under a function that
+//! does nothing, for a caller to cite.
+#![tactic(auto)]
+
+mod laws;
+
+pub use laws::{
+    aborts_are_shown, hand_outs_are_counted, openings_agree, results_are_once, room_is_kept,
+    takes_are_fresh,
+};
