@@ -11,3 +11,4 @@ pub mod NodeLemmas
 pub mod MakingLemmas
 pub mod HandedLemmas
 pub mod LeftLemmas
+pub mod SettleLemmas

@@ -28,10 +28,12 @@ mod nodes;
 mod parents;
 mod partitions;
 mod readers;
+mod settling;
 mod shuffles;
 mod stages;
 mod targets;
 
 pub use evaluation::{Evaluated, evaluate};
+pub use settling::{bounds_of_results, settle};
 pub use stages::Stages;
-pub use targets::{Computed, Target, compute};
+pub use targets::{Computed, Target, compute, node_of};

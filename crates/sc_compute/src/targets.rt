@@ -95,7 +95,7 @@ pub(crate) fn action_result(
 }
 
 /// The node of an action.
-pub(crate) fn node_of(action: &Action) -> NodeId
+pub fn node_of(action: &Action) -> NodeId
     ensures { result ≡ node_of_action (action_data_of action.now) }
 {
     match action {
