@@ -16,6 +16,7 @@
 //! `sc_combine`. Another kind of task is a further variant of [`Target`].
 #![tactic(auto)]
 
+mod caching;
 mod counting;
 mod directs;
 mod evaluation;
@@ -33,7 +34,8 @@ mod shuffles;
 mod stages;
 mod targets;
 
+pub use caching::CachedPart;
 pub use evaluation::{Evaluated, evaluate};
 pub use settling::{bounds_of_results, settle};
 pub use stages::Stages;
-pub use targets::{Computed, Target, compute, node_of};
+pub use targets::{Computed, Target, compute, compute_cached, node_of};
