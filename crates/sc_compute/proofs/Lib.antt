@@ -12,3 +12,4 @@ pub mod MakingLemmas
 pub mod HandedLemmas
 pub mod LeftLemmas
 pub mod SettleLemmas
+pub mod AskingLemmas

@@ -5,3 +5,4 @@ pub mod Evaluations
 pub mod Gathering
 pub mod Tasks
 pub mod Caching
+pub mod Asking

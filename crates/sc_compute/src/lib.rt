@@ -16,6 +16,7 @@
 //! `sc_combine`. Another kind of task is a further variant of [`Target`].
 #![tactic(auto)]
 
+mod asking;
 mod caching;
 mod counting;
 mod directs;
@@ -34,6 +35,7 @@ mod shuffles;
 mod stages;
 mod targets;
 
+pub use asking::Asking;
 pub use caching::CachedPart;
 pub use evaluation::{Evaluated, evaluate};
 pub use settling::{bounds_of_results, settle};
