@@ -11,3 +11,5 @@ pub mod NodeLemmas
 pub mod MakingLemmas
 pub mod HandedLemmas
 pub mod LeftLemmas
+pub mod SettleLemmas
+pub mod AskingLemmas

@@ -4,3 +4,5 @@ pub mod Reading
 pub mod Evaluations
 pub mod Gathering
 pub mod Tasks
+pub mod Caching
+pub mod Asking

@@ -2,7 +2,7 @@
 #![tactic(auto)]
 
 ghost use Rattle.std.specs.Fmt.{decimal};
-ghost use Rattle.std.specs.Prelude.{◌≡◌, ◌^◌, ◌+◌, ◌<◌, ◌≤◌, ◌++◌, [], ◌∷◌, List, IfOk, OnOk};
+ghost use Rattle.std.specs.Prelude.{◌≡◌, ◌^◌, ◌+◌, ◌-◌, ◌<◌, ◌++◌, [], ◌∷◌, List, IfOk, OnOk};
 ghost use Rattle.sc_value.specs.Datum.{Datum};
 ghost use Rattle.sc_value.specs.Printing.{printed_line};
 ghost use Rattle.sc_value.specs.Views.{datum_of};
@@ -48,11 +48,11 @@ impl<'a> Gathered<'a> {
 
     /// Adds the rows of a result, which is the first of so many that are left.
     pub fn add(&mut self, alloc: Global, rows: &Rows, left: u32) -> Result<(), AllocError>
-        requires { rows_counted self.old < 2 ^ 127 }
+        requires { rows_counted self.old < 2 ^ 128 - 2 ^ 64 }
         ensures gathered { (action : ActionData) (before : List Datum)
             → IsGathered action self.old before
             → OnOk result (IsGathered action self.new (before ++ rows.now)) }
-        ensures count { OnOk result (rows_counted self.new ≤ rows_counted self.old + 2 ^ 64) }
+        ensures count { OnOk result (rows_counted self.new < rows_counted self.old + 2 ^ 64) }
     {
         match self {
             Gathered::Lines(bytes) => {

@@ -1,11 +1,13 @@
 //! Streams that several dependencies read.
 #![tactic(auto)]
 
-ghost use Rattle.std.specs.Prelude.{◌≡◌, IfOk, IfSome};
+ghost use Rattle.std.specs.Prelude.{◌≡◌, All, IfOk, IfSome};
 ghost use Rattle.sc_lineage.specs.Meaning.{local_stream};
 ghost use Rattle.sc_lineage.specs.ScriptData.{WorkData};
+ghost use Rattle.sc_compute.specs.Caching.{IsOwnPart};
 ghost use Rattle.sc_compute.specs.Keeping.{KeepsRight};
 
+use crate::caching::CachedPart;
 use crate::readers::readers;
 use sc_lineage::{NodeId, Place, Stream, Work};
 use sc_ops::share_stream;
@@ -73,6 +75,21 @@ impl KeptStreams {
         let stream = share_stream(stream)?;
         let left = readers - 1;
         self.insert(at, Kept { stream, left })
+    }
+
+    /// Keeps the streams of partitions that are known, however often they are read.
+    pub fn keep_known(&mut self, work: &Work, known: &[CachedPart]) -> Result<(), AllocError>
+        requires known { All (IsOwnPart work.now) known.now }
+        requires right { KeepsRight work.now self.old }
+        ensures right { KeepsRight work.now self.new }
+    {
+        for part in known {
+            let rows = part.rows.share()?;
+            let stream = Stream { rows, raise: None };
+            let left = u32::MAX;
+            self.insert(part.at, Kept { stream, left })?;
+        }
+        Ok(())
     }
 
     /// How many dependencies read a node.

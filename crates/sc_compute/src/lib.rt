@@ -16,6 +16,8 @@
 //! `sc_combine`. Another kind of task is a further variant of [`Target`].
 #![tactic(auto)]
 
+mod asking;
+mod caching;
 mod counting;
 mod directs;
 mod evaluation;
@@ -28,10 +30,14 @@ mod nodes;
 mod parents;
 mod partitions;
 mod readers;
+mod settling;
 mod shuffles;
 mod stages;
 mod targets;
 
+pub use asking::Asking;
+pub use caching::CachedPart;
 pub use evaluation::{Evaluated, evaluate};
+pub use settling::{bounds_of_results, settle};
 pub use stages::Stages;
-pub use targets::{Computed, Target, compute};
+pub use targets::{Computed, Target, compute, compute_cached, node_of};

@@ -210,7 +210,7 @@ fn bounds_of(alloc: Global, kind: &Shuffling, sides: &[Rows], n: u32) -> Result<
 }
 
 /// Rows as streams that don't raise.
-fn whole_streams(alloc: Global, sides: &[Rows]) -> Result<Vec<Stream>, AllocError>
+pub fn whole_streams(alloc: Global, sides: &[Rows]) -> Result<Vec<Stream>, AllocError>
     ensures { IfOk result (λ v. v.items ≡ map whole_stream sides.now) }
 {
     let mut streams = Vec::with_capacity(alloc, sides.len())?;

@@ -9,19 +9,21 @@ ghost use Rattle.sc_lineage.specs.Shuffles.{dealing_of, map_side as map_side_of,
 ghost use Rattle.sc_lineage.specs.Targets.{map_target, own_value};
 ghost use Rattle.sc_lineage.specs.Views.{partitioner_data_of, shuffling_data_of};
 ghost use Rattle.sc_combine.specs.Outputs.{dealing_of_node};
+ghost use Rattle.sc_compute.specs.Caching.{AreOwn};
 ghost use Rattle.sc_compute.specs.Stages.{AreRight, HasBounds, HasMade, local_count, mapped_in, node_at};
 ghost use Rattle.sc_compute.specs.Tasks.{IsSideOf, LeavesSide};
 
+use crate::caching::Caching;
 use crate::handing::SideId;
 use crate::nodes::node_in;
-use crate::partitions::partition_stream;
+use crate::partitions::{cached_stream, partition_stream};
 use crate::stages::Stages;
 use crate::targets::Computed;
 use sc_base::OrMemory;
 use sc_columns::Rows;
 use sc_combine::{dealt_by_hash, dealt_by_range, dealt_in_turn, map_side};
 use sc_expr::Raise;
-use sc_lineage::{Node, NodeId, Partitioner, Place, Shuffling, Work};
+use sc_lineage::{Node, NodeId, Partitioner, Place, Shuffling, Stream, Work};
 use sc_part::Bounds;
 use sc_shuffle::MapOutput;
 use std::alloc::{AllocError, Global};
@@ -31,6 +33,7 @@ pub fn map_output(
     alloc: Global,
     work: &Work,
     stages: &Stages,
+    caching: &mut Caching<'_>,
     at: SideId,
     map: u32,
 ) -> Result<Computed, AllocError>
@@ -40,7 +43,9 @@ pub fn map_output(
     requires right { AreRight work.now stages.now }
     requires made { HasMade stages.now (mapped_in (node_at work.now at.node) at.side) }
     requires told { HasBounds stages.now at.node (node_at work.now at.node) }
-    ensures { IfOk result (LeavesSide (dealing_of_node work.now (node_at work.now at.node)) map
+    requires own { AreOwn work.now caching.old }
+    ensures own { AreOwn work.now caching.new }
+    ensures leaves { IfOk result (LeavesSide (dealing_of_node work.now (node_at work.now at.node)) map
         (own_value work.now (map_target at.node at.side map))) }
 {
     work.is_sound();
@@ -55,7 +60,8 @@ pub fn map_output(
                 node: *parent,
                 partition: map,
             };
-            output_of(alloc, work, stages, kind, *partitions, &bounds, from)
+            let stream = cached_stream(alloc, work, stages, caching, from)?;
+            output_of(alloc, kind, *partitions, &bounds, &stream, map)
         }
         Node::Meet {
             left,
@@ -69,34 +75,29 @@ pub fn map_output(
                 node: if at.side == 0 { *left } else { *right },
                 partition: map,
             };
-            output_of(alloc, work, stages, &passed, *partitions, &bounds, from)
+            let stream = cached_stream(alloc, work, stages, caching, from)?;
+            output_of(alloc, &passed, *partitions, &bounds, &stream, map)
         }
         _ => unreachable!(),
     }
 }
 
-/// What goes into a shuffle from one map partition, by bucket, or its raise.
+/// What goes into a shuffle from the stream of map partition `m`, by bucket, or its raise.
 fn output_of(
     alloc: Global,
-    work: &Work,
-    stages: &Stages,
     kind: &Shuffling,
     n: u32,
     bounds: &Bounds,
-    from: Place,
+    stream: &Stream,
+    m: u32,
 ) -> Result<Computed, AllocError>
-    requires node { from.node < length work.now.script.nodes }
-    requires partition { from.partition < local_count work.now from.node }
-    requires right { AreRight work.now stages.now }
-    requires made { HasMade stages.now from.node }
     requires some_partitions { 0 < n }
-    ensures { IfOk result (LeavesSide (dealing_of (shuffling_data_of kind.now) n bounds.now)
-        from.partition (stream_of_side (map_side_of (shuffling_data_of kind.now)
-        (local_stream work.now from.node from.partition)))) }
+    ensures { IfOk result (LeavesSide (dealing_of (shuffling_data_of kind.now) n bounds.now) m
+        (stream_of_side (map_side_of (shuffling_data_of kind.now) stream.now))) }
 {
-    match mapped_rows(alloc, work, stages, kind, from) {
+    match map_side(alloc, kind, stream) {
         Ok(rows) => {
-            let dealt = deal_one(alloc, kind, n, bounds, &rows, from.partition as usize)?;
+            let dealt = deal_one(alloc, kind, n, bounds, &rows, m as usize)?;
             Ok(Computed::Output(dealt))
         }
         Err(OrMemory::Fault(raise)) => Ok(Computed::Raised(raise)),

@@ -4,10 +4,12 @@
 ghost use Rattle.std.specs.Prelude.{◌≡◌, ◌<◌, All, IfOk, length, map};
 ghost use Rattle.sc_lineage.specs.Meaning.{local_stream};
 ghost use Rattle.sc_lineage.specs.Views.{place_data_of};
+ghost use Rattle.sc_compute.specs.Caching.{AreOwn};
 ghost use Rattle.sc_compute.specs.Keeping.{KeepsRight};
 ghost use Rattle.sc_compute.specs.Reading.{direct_reads};
 ghost use Rattle.sc_compute.specs.Stages.{AreRight, HasMade, local_count};
 
+use crate::caching::Caching;
 use crate::directs::{places_read, stream_of};
 use crate::kept::KeptStreams;
 use crate::stages::Stages;
@@ -28,8 +30,30 @@ pub fn partition_stream(
     requires made { HasMade stages.now at.node }
     ensures { IfOk result (λ s. s ≡ local_stream work.now at.node at.partition) }
 {
+    let none = Vec::new(alloc);
+    let mut caching = Caching::unnoted(alloc, &none);
+    cached_stream(alloc, work, stages, &mut caching, at)
+}
+
+/// The same, where some partitions are known that needn't be computed.
+pub fn cached_stream(
+    alloc: Global,
+    work: &Work,
+    stages: &Stages,
+    caching: &mut Caching<'_>,
+    at: Place,
+) -> Result<Stream, AllocError>
+    requires node { at.node < length work.now.script.nodes }
+    requires partition { at.partition < local_count work.now at.node }
+    requires right { AreRight work.now stages.now }
+    requires made { HasMade stages.now at.node }
+    requires own { AreOwn work.now caching.old }
+    ensures own { AreOwn work.now caching.new }
+    ensures stream { IfOk result (λ s. s ≡ local_stream work.now at.node at.partition) }
+{
     let mut kept = KeptStreams::new(alloc, work, at.node)?;
-    stream_at(alloc, work, stages, &mut kept, at)
+    kept.keep_known(work, caching.known())?;
+    stream_at(alloc, work, stages, &mut kept, caching, at)
 }
 
 /// The stream of a partition, where some streams are kept that were computed before.
@@ -38,6 +62,7 @@ fn stream_at(
     work: &Work,
     stages: &Stages,
     kept: &mut KeptStreams,
+    caching: &mut Caching<'_>,
     at: Place,
 ) -> Result<Stream, AllocError>
     requires node { at.node < length work.now.script.nodes }
@@ -45,7 +70,9 @@ fn stream_at(
     requires right { AreRight work.now stages.now }
     requires made { HasMade stages.now at.node }
     requires kept { KeepsRight work.now kept.old }
+    requires own { AreOwn work.now caching.old }
     ensures kept { KeepsRight work.now kept.new }
+    ensures own { AreOwn work.now caching.new }
     ensures stream { IfOk result (λ s. s ≡ local_stream work.now at.node at.partition) }
 {
     if let Some(stream) = kept.take(at)? {
@@ -54,9 +81,10 @@ fn stream_at(
     let places = places_read(alloc, work, stages, at)?;
     let mut inputs = Vec::with_capacity(alloc, places.len())?;
     for place in &places {
-        inputs.push(stream_at(alloc, work, stages, kept, *place)?)?;
+        inputs.push(stream_at(alloc, work, stages, kept, caching, *place)?)?;
     }
     let stream = stream_of(alloc, work, stages, at, &inputs)?;
     kept.keep(at, &stream)?;
+    caching.note(work, at, &stream)?;
     Ok(stream)
 }

@@ -1,17 +1,19 @@
 //! What is computed as one task, and what a task leaves.
 #![tactic(auto)]
 
-ghost use Rattle.std.specs.Prelude.{◌≡◌, IfOk};
+ghost use Rattle.std.specs.Prelude.{◌≡◌, All, IfOk};
 ghost use Rattle.sc_lineage.specs.Actions.{result_of};
 ghost use Rattle.sc_lineage.specs.ScriptData.{node_of_action};
 ghost use Rattle.sc_lineage.specs.Targets.{own_value, result_target};
 ghost use Rattle.sc_lineage.specs.Views.{action_data_of};
+ghost use Rattle.sc_compute.specs.Caching.{AreOwn, IsCachedPart, IsOwnPart};
 ghost use Rattle.sc_compute.specs.Stages.{AreRight, HasMade};
 ghost use Rattle.sc_compute.specs.Tasks.{HasAll, IsTargetOf, Leaves, target_data_of};
 
+use crate::caching::{CachedPart, Caching};
 use crate::handing::SideId;
 use crate::mapping::map_output;
-use crate::partitions::partition_stream;
+use crate::partitions::{cached_stream, partition_stream};
 use crate::stages::Stages;
 use sc_expr::Raise;
 use sc_lineage::{Action, NodeId, Place, Stream, Work};
@@ -64,13 +66,56 @@ pub fn compute(
     requires made { HasAll work.now stages.now (target_data_of target) }
     ensures { IfOk result (Leaves work.now (target_data_of target.entry)) }
 {
+    let none = Vec::new(alloc);
+    let mut caching = Caching::unnoted(alloc, &none);
+    left_by(alloc, work, stages, &mut caching, target)
+}
+
+/// The same, where some partitions are known that are then not computed again, and beside it the
+/// partitions of cache nodes that were computed on the way, of which none raises.
+pub fn compute_cached(
+    alloc: Global,
+    work: &Work,
+    stages: &Stages,
+    known: &[CachedPart],
+    target: Target<'_>,
+) -> Result<(Computed, Vec<CachedPart>), AllocError>
+    requires target { IsTargetOf work.now (target_data_of target) }
+    requires right { AreRight work.now stages.now }
+    requires made { HasAll work.now stages.now (target_data_of target) }
+    requires known { All (IsOwnPart work.now) known.now }
+    ensures leaves { IfOk result (λ both. Leaves work.now (target_data_of target.entry) both.0) }
+    ensures fresh { IfOk result (λ both. All (IsCachedPart work.now) both.1.items) }
+{
+    let mut caching = Caching::noted(alloc, known);
+    let computed = left_by(alloc, work, stages, &mut caching, target)?;
+    Ok((computed, caching.fresh()))
+}
+
+/// What a task leaves, where some partitions are known.
+fn left_by(
+    alloc: Global,
+    work: &Work,
+    stages: &Stages,
+    caching: &mut Caching<'_>,
+    target: Target<'_>,
+) -> Result<Computed, AllocError>
+    requires target { IsTargetOf work.now (target_data_of target) }
+    requires right { AreRight work.now stages.now }
+    requires made { HasAll work.now stages.now (target_data_of target) }
+    requires own { AreOwn work.now caching.old }
+    ensures own { AreOwn work.now caching.new }
+    ensures leaves { IfOk result (Leaves work.now (target_data_of target.entry)) }
+{
     match target {
         Target::Map { node, side, map } => {
-            map_output(alloc, work, stages, SideId { node, side }, map)
+            map_output(alloc, work, stages, caching, SideId { node, side }, map)
         }
         Target::Result { action, partition } => {
-            let result = action_result(alloc, work, stages, action, partition)?;
-            Ok(Computed::Result(result))
+            let node = node_of(action);
+            let at = Place { node, partition };
+            let stream = cached_stream(alloc, work, stages, caching, at)?;
+            Ok(Computed::Result(result(alloc, action, stream)?))
         }
     }
 }
@@ -95,7 +140,7 @@ pub(crate) fn action_result(
 }
 
 /// The node of an action.
-pub(crate) fn node_of(action: &Action) -> NodeId
+pub fn node_of(action: &Action) -> NodeId
     ensures { result ≡ node_of_action (action_data_of action.now) }
 {
     match action {

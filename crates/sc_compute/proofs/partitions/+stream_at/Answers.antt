@@ -15,6 +15,7 @@ pub loop-place-preserved : goal.loop-place-preserved
 loop-place-preserved t c =
     record {
       right = c.stream_at.ensures.kept;
+      own = c.stream_at.ensures.own;
       streams = one_more c.args.work.now c.deref-place-items.result.now c.loop-place.place-index
           _ c.loop-place.inputs.items c.push.new.self.items c.in_ok-stream_at.field-0 (omega arith)
           c.loop-place.invariant.streams c.in_ok-push.ensures.items

@@ -1,0 +1,42 @@
+-- What an action gives by rows alone, where no partition raises.
+use Rattle.std.proofs.Common.{◌≡◌, ◌∙◌, ◌+◌, ℕ, List, [], ◌∷◌, ◌++◌, None, map, flat_map, refl, ap, sym}
+use Rattle.std.specs.List.{position_from}
+use Rattle.sc_value.specs.Datum.{Datum}
+use Rattle.sc_lineage.specs.Actions.{all_rows, first_raise, local_results, outcome_of_rows}
+use Rattle.sc_lineage.specs.Meaning.{bounds_between, bounds_step, known_of, local_streams, meanings_by}
+use Rattle.sc_lineage.specs.NodeData.{shuffle_node, sort_by_key}
+use Rattle.sc_lineage.specs.ScriptData.{ActionData, WorkData}
+use Rattle.sc_lineage.specs.Streams.{raises, whole_stream}
+use Rattle.sc_compute.specs.Evaluations.{Gives, Settles}
+use Rattle.sc_compute.specs.Stages.{bounds_at, node_at}
+use Rattle.sc_compute.specs.declared.evaluation.Evaluated.{Evaluated}
+use Rattle.sc_compute.proofs.OutcomeLemmas.{gives-settled}
+
+-- rows alone don't raise
+none_raises : (k : ℕ) (results : List (List Datum))
+    → position_from raises k (map whole_stream results) ≡ None
+none_raises k [] = refl
+none_raises k (rows ∷ results) = none_raises (k + 1) results
+
+rows_of_whole : (results : List (List Datum))
+    → all_rows (map whole_stream results) ≡ flat_map (λ rows. rows) results
+rows_of_whole [] = refl
+rows_of_whole (rows ∷ results) = ap (λ more. rows ++ more) (rows_of_whole results)
+
+-- what settles the rows of all results is what the action gives
+pub gives-rows : (work : WorkData) (action : ActionData) (results : List (List Datum))
+    (e : Evaluated) → local_results work action ≡ map whole_stream results
+    → Settles (outcome_of_rows action (flat_map (λ rows. rows) results)) e → Gives work action e
+gives-rows work action results e are settles =
+    gives-settled work action (flat_map (λ rows. rows) results) e
+    (ap first_raise are ∙ none_raises 0 results)
+    (sym (ap all_rows are ∙ rows_of_whole results)) settles
+
+-- the bounds of a sort are those between the rows of its parent
+pub bounds_of_sort : (work : WorkData) (node parent n : ℕ) (results : List (List Datum))
+    → node_at work node ≡ shuffle_node sort_by_key parent n
+    → local_streams work parent ≡ map whole_stream results
+    → bounds_between (map whole_stream results) n ≡ bounds_at work node
+bounds_of_sort work node parent n results sort are =
+    ap (λ streams. bounds_between streams n) (sym are)
+    ∙ ap (bounds_step (meanings_by (known_of work) work)) (sym sort)

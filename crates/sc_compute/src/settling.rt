@@ -1,0 +1,66 @@
+//! What the driver makes of the results of all partitions.
+#![tactic(auto)]
+
+ghost use Rattle.std.specs.Prelude.{◌≡◌, IfOk, ℕ, map};
+ghost use Rattle.std.specs.List.{flat_map};
+ghost use Rattle.sc_lineage.specs.Actions.{local_results, outcome_of_rows};
+ghost use Rattle.sc_lineage.specs.Meaning.{bounds_between as bounds_of_streams, local_streams};
+ghost use Rattle.sc_lineage.specs.NodeData.{shuffle_node, sort_by_key};
+ghost use Rattle.sc_lineage.specs.ScriptData.{WorkData};
+ghost use Rattle.sc_lineage.specs.Streams.{whole_stream};
+ghost use Rattle.sc_lineage.specs.Views.{action_data_of};
+ghost use Rattle.sc_compute.specs.Evaluations.{Gives, Settles};
+ghost use Rattle.sc_compute.specs.Gathering.{IsGathered};
+ghost use Rattle.sc_compute.specs.Stages.{bounds_at, node_at};
+
+use crate::evaluation::Evaluated;
+use crate::gathered::Gathered;
+use crate::making::whole_streams;
+use sc_columns::Rows;
+use sc_combine::bounds_between;
+use sc_lineage::Action;
+use sc_part::Bounds;
+use std::alloc::{AllocError, Global};
+
+/// What an action gives, by the rows of the results of all its partitions in order, of which none
+/// raises.
+pub fn settle(alloc: Global, action: &Action, results: &[Rows]) -> Result<Evaluated, AllocError>
+    ensures settles { IfOk result (Settles (outcome_of_rows (action_data_of action.now)
+        (flat_map (λ rows. rows) results.now))) }
+    ensures gives { (work : WorkData)
+        → local_results work (action_data_of action.now) ≡ map whole_stream results.now
+        → IfOk result (Gives work (action_data_of action.now)) }
+{
+    let gathered = all_gathered(alloc, action, results)?;
+    gathered.outcome(alloc)
+}
+
+/// The rows of all results together.
+fn all_gathered<'a>(
+    alloc: Global,
+    action: &'a Action,
+    results: &[Rows],
+) -> Result<Gathered<'a>, AllocError>
+    ensures { IfOk result (λ g. IsGathered (action_data_of action.now) g
+        (flat_map (λ rows. rows) results.now)) }
+{
+    let mut gathered = Gathered::new(alloc, action);
+    for i in 0..results.len() {
+        let left = u32::try_from(results.len() - i).unwrap_or(u32::MAX);
+        gathered.add(alloc, &results[i], left)?;
+    }
+    Ok(gathered)
+}
+
+/// The bounds of a sort into at most `n` partitions, by the rows of all partitions of its parent in
+/// order, of which none raises.
+pub fn bounds_of_results(alloc: Global, n: u32, results: &[Rows]) -> Result<Bounds, AllocError>
+    ensures between { IfOk result (λ b. b ≡ bounds_of_streams (map whole_stream results.now) n) }
+    ensures of_sort { (work : WorkData) (node parent : ℕ)
+        → node_at work node ≡ shuffle_node sort_by_key parent n
+        → local_streams work parent ≡ map whole_stream results.now
+        → IfOk result (λ b. b ≡ bounds_at work node) }
+{
+    let streams = whole_streams(alloc, results)?;
+    bounds_between(alloc, &streams, n)
+}
