@@ -24,17 +24,10 @@ fn asked<R: Abort + AllocGlobal>(rt: &R, words: &[&str]) -> String {
 /// A command in words.
 fn told<R: Abort + AllocGlobal>(rt: &R, command: &Command) -> String {
     let script = command.script.as_str();
-    let plan = match &command.plan {
-        Some(plan) => plan.as_str(),
-        None => "-",
-    };
     let executors = command.limits.executors;
     let failures = command.limits.task_failures;
     let attempts = command.limits.stage_attempts;
-    let cache = command.limits.cache;
-    format!(in rt.alloc(); "{script} {plan} {executors} {failures} {attempts} {cache}").expect(
-        rt, "memory",
-    )
+    format!(in rt.alloc(); "{script} {executors} {failures} {attempts}").expect(rt, "memory")
 }
 
 /// Words that are a command, and what they ask for.

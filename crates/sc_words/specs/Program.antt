@@ -18,19 +18,14 @@ number_rule name most = record (new_rule name) {
 abbrev pub text_rule : Text → Rule
 text_rule name = record (new_rule name) { long = Some name }
 
--- the options of fault plans and of cached blocks
-abbrev pub later_rules : List Rule
-later_rules = text_rule (codes "plan") ∷ number_rule (codes "cache") 4096 ∷ []
-
 -- what `run` takes
 abbrev pub run_rules : List Rule
-run_rules = (
+run_rules =
     script_rule
     ∷ number_rule (codes "executors") 64
     ∷ number_rule (codes "task-failures") 16
     ∷ number_rule (codes "stage-attempts") 16
     ∷ []
-    ) ++ later_rules
 
 -- the subcommand `run`
 abbrev pub run_app : App
@@ -38,10 +33,6 @@ run_app = record {
   top = record (new_app (codes "run")).top { rules = run_rules };
   subs = [];
 }
-
--- a command that takes the later options too
-abbrev pub with_later : App → App
-with_later a = fold with_rule a later_rules
 
 -- the program's command: a subcommand has to be there, and the words come without its name
 abbrev pub program : App

@@ -4,7 +4,7 @@
 ghost use Rattle.std.specs.Prelude.{◌≡◌, IfOk, None, false};
 ghost use Rattle.clap.specs.Words.{app_of, rule_of};
 ghost use Rattle.clap.specs.declared.Command.TheViews.{out-Command as fields_of};
-ghost use Rattle.sc_words.specs.Program.{number_rule, program, run_app, text_rule, with_later};
+ghost use Rattle.sc_words.specs.Program.{number_rule, program, run_app, text_rule};
 
 use clap::{Arg, Command, value_parser};
 use std::alloc::{AllocError, Global};
@@ -26,23 +26,11 @@ fn run_command<'a>(alloc: Global) -> Result<Command<'a>, AllocError>
     ensures local { IfOk result (λ c. (fields_of c).has_globals ≡ false) }
 {
     let script = Arg::new(alloc, "SCRIPT").required(true);
-    let command = Command::new(alloc, "run")
+    Command::new(alloc, "run")
         .arg(script)?
         .arg(number_option(alloc, "executors", 64))?
         .arg(number_option(alloc, "task-failures", 16))?
-        .arg(number_option(alloc, "stage-attempts", 16))?;
-    later_options(alloc, command)
-}
-
-/// Adds the options of fault plans and of cached blocks.
-fn later_options<'a>(alloc: Global, command: Command<'a>) -> Result<Command<'a>, AllocError>
-    ensures app { IfOk result (λ c. app_of c ≡ with_later (app_of command.entry)) }
-    ensures local { IfOk result (λ c. (fields_of command.entry).has_globals ≡ false
-        → (fields_of c).has_globals ≡ false) }
-{
-    command
-        .arg(text_option(alloc, "plan"))?
-        .arg(number_option(alloc, "cache", 4096))
+        .arg(number_option(alloc, "stage-attempts", 16))
 }
 
 /// An option that takes a whole number from 1 to `most`.

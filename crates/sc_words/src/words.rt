@@ -3,7 +3,7 @@
 
 ghost use Rattle.std.specs.Prelude.{◌≡◌, IfOk, map};
 ghost use Rattle.std.specs.String.{string_bytes};
-ghost use Rattle.clap.specs.Words.{first_of, found_of, kind_of, rows_of};
+ghost use Rattle.clap.specs.Words.{found_of, kind_of, rows_of};
 ghost use Rattle.sc_ids.specs.LimitRanges.{AreLimits};
 ghost use Rattle.sc_words.specs.Words.{FindsMatches, ReadsWords, RefusesFor, command_at, limits_at, number_at, up_to};
 
@@ -60,23 +60,8 @@ fn command_from(alloc: Global, run: &ArgMatches<'_>) -> Result<Command, AllocErr
     ensures limits { IfOk result (λ c. AreLimits c.limits) }
 {
     let script = Name::new(alloc, run.get_str("SCRIPT").unwrap_or(""))?;
-    let plan = name_from(alloc, run, "plan")?;
     let limits = limits_from(run);
-    Ok(Command {
-        script,
-        plan,
-        limits,
-    })
-}
-
-/// The name that an option has, if it has one.
-fn name_from(alloc: Global, run: &ArgMatches<'_>, option: &str) -> Result<Option<Name>, AllocError>
-    ensures { IfOk result (λ n. n ≡ first_of option.now (rows_of (found_of run.now))) }
-{
-    match run.get_str(option) {
-        Some(text) => Ok(Some(Name::new(alloc, text)?)),
-        None => Ok(None),
-    }
+    Ok(Command { script, limits })
 }
 
 /// The limits that the options set.
@@ -89,7 +74,6 @@ fn limits_from(run: &ArgMatches<'_>) -> Limits
         executors: number_from(run, "executors", 64, limits.executors),
         task_failures: number_from(run, "task-failures", 16, limits.task_failures),
         stage_attempts: number_from(run, "stage-attempts", 16, limits.stage_attempts),
-        cache: number_from(run, "cache", 4096, limits.cache),
         ..limits
     }
 }

@@ -1,7 +1,7 @@
-use Rattle.std.proofs.Common.{◌≡◌, ◌∙◌, ap, rules, false}
+use Rattle.std.proofs.Common.{◌≡◌, rules, false}
 use Rattle.std.proofs.lemmas.Result.{IfOk-weaker}
 use Rattle.clap.specs.Words.{rule_of}
-use Rattle.sc_words.specs.Program.{script_rule, with_later}
+use Rattle.sc_words.specs.Program.{script_rule}
 use Rattle.sc_words.proofs.ProgramLemmas.{adds_rule, stays_local}
 use Rattle.sc_words.proofs.program.run_command.Goals as goal
 
@@ -14,10 +14,9 @@ returns-clause-app c =
     c.number_option.ensures.rule in
     let three = adds_rule _ _ _ _ _ c.in_ok-arg-3.ensures c.number_option-2.ensures.local two
     c.number_option-2.ensures.rule in
-    let four = adds_rule _ _ _ _ _ c.in_ok-command.ensures c.number_option-3.ensures.local three
-    c.number_option-3.ensures.rule in
-    IfOk-weaker c.later_options.result _ _ (λ m is. is ∙ ap with_later four)
-    c.later_options.ensures.app
+    IfOk-weaker c.arg-4.result _ _
+    (λ m added. adds_rule _ _ _ _ _ added c.number_option-3.ensures.local three
+    c.number_option-3.ensures.rule) c.arg-4.ensures
 
 pub returns-clause-local : goal.returns-clause-local
 returns-clause-local c =
@@ -25,5 +24,5 @@ returns-clause-local c =
     let one = stays_local _ _ _ c.in_ok-arg.ensures local c.new-2.ensures.local in
     let two = stays_local _ _ _ c.in_ok-arg-2.ensures c.number_option.ensures.local one in
     let three = stays_local _ _ _ c.in_ok-arg-3.ensures c.number_option-2.ensures.local two in
-    let four = stays_local _ _ _ c.in_ok-command.ensures c.number_option-3.ensures.local three in
-    IfOk-weaker c.later_options.result _ _ (λ m stays. stays four) c.later_options.ensures.local
+    IfOk-weaker c.arg-4.result _ _
+    (λ m added. stays_local _ _ _ added c.number_option-3.ensures.local three) c.arg-4.ensures

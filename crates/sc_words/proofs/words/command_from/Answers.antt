@@ -17,6 +17,5 @@ returns-clause-command c =
     (c.get_str.ensures ∙ first_value-rows found (codes "SCRIPT")) in
     λ i. record {
       script = script i;
-      plan = c.in_ok-plan.ensures i;
       limits = c.limits_from-limits.ensures.limits i;
     }
