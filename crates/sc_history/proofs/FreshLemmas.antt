@@ -145,7 +145,8 @@ given_kept c after event answer a step =
     slots (Some x) (Some y) h = h a.partition
 
     states : (o x : Option StageState)
-        → Slot MoreGiven Anything (attempt_among o a.stage_attempt) (attempt_among x a.stage_attempt)
+        → Slot MoreGiven Anything (attempt_among o a.stage_attempt)
+        (attempt_among x a.stage_attempt)
         → given_among (set_among o a.stage_attempt) a.partition
         ≤ given_among (set_among x a.stage_attempt) a.partition
     states None None h = omega arith

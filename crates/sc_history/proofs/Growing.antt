@@ -51,7 +51,8 @@ grown_same A New L calm [] = tt
 grown_same A New L calm (x ∷ xs) = (calm.same x, grown_same A New L calm xs)
 
 grown_then : (A : StageAttempt → StageAttempt → Type 0) (New : StageAttempt → Type 0)
-    (L : Limits) → IsCalm A New L → (xs ys zs : List StageAttempt) → Grown A New xs ys → Grown A New ys zs
+    (L : Limits) → IsCalm A New L → (xs ys zs : List StageAttempt)
+    → Grown A New xs ys → Grown A New ys zs
     → Grown A New xs zs
 unfolding Grown
 grown_then A New L calm [] [] zs h k = k
@@ -64,7 +65,8 @@ grown_then A New L calm (x ∷ xs) (y ∷ ys) (z ∷ zs) h k =
     (calm.chain x y z h.0 k.0, grown_then A New L calm xs ys zs h.1 k.1)
 
 grown_change : (A : StageAttempt → StageAttempt → Type 0) (New : StageAttempt → Type 0)
-    (L : Limits) → IsCalm A New L → (xs : List StageAttempt) (i : ℕ) (f : StageAttempt → StageAttempt)
+    (L : Limits) → IsCalm A New L → (xs : List StageAttempt) (i : ℕ)
+    (f : StageAttempt → StageAttempt)
     → ((x : StageAttempt) → A x (f x)) → Grown A New xs (change_at xs i f)
 unfolding Grown
 grown_change A New L calm [] i f h = tt
@@ -132,7 +134,8 @@ state_same A New L calm (Some state) =
     record { before = refl; attempts = grown_same A New L calm state.attempts }
 
 state_then : (A : StageAttempt → StageAttempt → Type 0) (New : StageAttempt → Type 0)
-    (L : Limits) → IsCalm A New L → (o x y : Option StageState) → GrownIn A New o x → GrownIn A New x y
+    (L : Limits) → IsCalm A New L → (o x y : Option StageState)
+    → GrownIn A New o x → GrownIn A New x y
     → GrownIn A New o y
 state_then A New L calm None None y h k = k
 state_then A New L calm None (Some b) y h k = absurd h
@@ -149,13 +152,15 @@ pub dag_same : (A : StageAttempt → StageAttempt → Type 0) (New : StageAttemp
 dag_same A New L calm states s = state_same A New L calm (slice_get states s)
 
 pub dag_is : (A : StageAttempt → StageAttempt → Type 0) (New : StageAttempt → Type 0)
-    (L : Limits) → IsCalm A New L → (d after : DagData) → after ≡ d → GrownDag A New d.states after.states
+    (L : Limits) → IsCalm A New L → (d after : DagData) → after ≡ d
+    → GrownDag A New d.states after.states
 dag_is A New L calm d after is =
     subst (λ (x : DagData). GrownDag A New d.states x.states) (sym is)
     (dag_same A New L calm d.states)
 
 pub dag_then : (A : StageAttempt → StageAttempt → Type 0) (New : StageAttempt → Type 0)
-    (L : Limits) → IsCalm A New L → (a b c : List StageState) → GrownDag A New a b → GrownDag A New b c
+    (L : Limits) → IsCalm A New L → (a b c : List StageState)
+    → GrownDag A New a b → GrownDag A New b c
     → GrownDag A New a c
 dag_then A New L calm a b c h k s =
     state_then A New L calm (slice_get a s) (slice_get b s) (slice_get c s) (h s) (k s)

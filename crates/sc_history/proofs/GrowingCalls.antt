@@ -46,7 +46,8 @@ abbrev pub Grows : (StageAttempt → StageAttempt → Type 0) → (StageAttempt 
 Grows A New d after = GrownDag A New d.states after.states
 
 pub grows_then : (A : StageAttempt → StageAttempt → Type 0) (New : StageAttempt → Type 0)
-    (L : Limits) → IsCalm A New L → (a b c : DagData) → Grows A New a b → Grows A New b c → Grows A New a c
+    (L : Limits) → IsCalm A New L → (a b c : DagData) → Grows A New a b
+    → Grows A New b c → Grows A New a c
 grows_then A New L calm a b c h k = dag_then A New L calm a.states b.states c.states h k
 
 -- ---- tasks
@@ -243,7 +244,8 @@ failing_grows A New L calm marks d after s number verdict same h = by verdict h
     marked : Grows A New d (with_state d s (with_failed number))
     marked =
         dag_with A New L calm d.states s (with_failed number)
-        (λ state. state_with A New L calm state (place_of_attempt state number) failed_attempt marks)
+        (λ state. state_with A New L calm state (place_of_attempt state number) failed_attempt
+        marks)
 
     by : (verdict : Verdict) → FailsStage d s number verdict after → Grows A New d after
     by verdicts.Limit (often, is) =
@@ -290,7 +292,8 @@ causes_grow A New L calm marks c after a cause zombie answer limits h = by cause
     gone : (exec found : ℕ) (x y : Bool) → IsGone x y c a exec found answer after
         → Grows A New c.dag after.dag
     gone exec found true y k =
-        misses_grow A New L calm marks (with_dag c (after_seen c.dag exec found)) after a answer limits
+        misses_grow A New L calm marks (with_dag c (after_seen c.dag exec found)) after a answer
+        limits
         k
     gone exec found false true (told, is) = same is
     gone exec found false false k = misses_grow A New L calm marks c after a answer limits k

@@ -54,7 +54,8 @@ pub fresh_view :
     → ((q : ℕ) → view (Some (fresh_task q)) ≡ none) → (p : ℕ) (partitions : List ℕ)
     → view (task_at p (map fresh_task partitions)) ≡ none
 fresh_view view none nothing fresh p [] = nothing
-fresh_view view none nothing fresh p (q ∷ qs) = by (q == p) refl (fresh_view view none nothing fresh p qs)
+fresh_view view none nothing fresh p (q ∷ qs) =
+    by (q == p) refl (fresh_view view none nothing fresh p qs)
   where
     by : (b : Bool) → (q == p) ≡ b → view (task_at p (map fresh_task qs)) ≡ none
         → view (task_at p (map fresh_task (q ∷ qs))) ≡ none

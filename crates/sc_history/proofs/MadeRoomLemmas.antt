@@ -82,7 +82,8 @@ any_other p (x ∷ xs) y e = ap (λ b. p x || b) (any_other p xs y e)
 -- two shuffles that differ
 differ : (made shuffle : ShuffleId) (tasks : ℕ) → (made ≡ shuffle → ⊥)
     → is_of shuffle (shuffle_data made (replicate tasks never)) ≡ false
-differ made shuffle tasks ne = check (is_of shuffle (shuffle_data made (replicate tasks never))) refl
+differ made shuffle tasks ne =
+    check (is_of shuffle (shuffle_data made (replicate tasks never))) refl
   where
     check : (b : Bool) → is_of shuffle (shuffle_data made (replicate tasks never)) ≡ b → b ≡ false
     check false e = refl

@@ -105,7 +105,8 @@ misses_room c after a answer miss =
     by : (b : Bool) → MissesIf b c a answer after → KeepsRoom c after
     by true (verdict, d, f, or) =
         verdict_room verdict d (fails_room c.dag d a.stage a.stage_attempt verdict f) or
-    by false (says, is) = left_room c after c.dag (room_itself c.dag.tracker) (ap (λ (z : CoreData). z.dag) is)
+    by false (says, is) =
+        left_room c after c.dag (room_itself c.dag.tracker) (ap (λ (z : CoreData). z.dag) is)
 
 cause_room :
     (c after : CoreData) (a : AttemptId) (cause : FailureCause) (zombie : Bool) (answer : Answer)

@@ -206,7 +206,8 @@ begins_quiet graph limits saved last c o s k p n h =
   where
     none : failures_at c.dag s k p ≡ []
     none = no_failures (attempt_among (slice_get c.dag.states s) k) p
-        (opening_slot SameFailures NoFailures graph limits saved last c (failures_calm limits) o s k)
+        (opening_slot SameFailures NoFailures graph limits saved last c (failures_calm limits) o s
+        k)
 
 pub task_limits_are_shown : TaskLimitsAreShown
 task_limits_are_shown graph limits saved last opening end entries s k p o sound replays e =
