@@ -163,15 +163,15 @@ module _ (script : ScriptData) (start : SourceState) (before : List Read) where
       })
   stops-taking limits source later now after inputs name OutOfMemory so_far was texts next
       (inl x) = (
-    inputs,
-    subst (λ s. TakesInputs script start s before after inputs) (sym x.1)
-        (subst (λ rs. TakesInputs script start source before rs inputs) (sym x.0) so_far),
-  )
+        inputs,
+        subst (λ s. TakesInputs script start s before after inputs) (sym x.1)
+            (subst (λ rs. TakesInputs script start source before rs inputs) (sym x.0) so_far),
+      )
   stops-taking limits source later now after inputs name OutOfMemory so_far was texts next
       (inr x) = (
-    inputs ++ (name, x.0) ∷ [],
-    one-taken source later now after inputs name x.0 so_far was next x.1,
-  )
+        inputs ++ (name, x.0) ∷ [],
+        one-taken source later now after inputs name x.0 so_far was next x.1,
+      )
 
   -- an input that is text was taken
   pub input-taken : (source later : SourceState) (now after : List Read) (inputs : Files)
