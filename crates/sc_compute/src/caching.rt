@@ -92,7 +92,8 @@ impl<'a> Caching<'a> {
 
     /// The partitions of cache nodes that were computed.
     pub fn fresh(self) -> Vec<CachedPart>
-        ensures { (work : WorkData) → AreOwn work self.entry → All (IsCachedPart work) result.items }
+        ensures { (work : WorkData) → AreOwn work self.entry
+            → All (IsCachedPart work) result.items }
     {
         self.fresh
     }

@@ -45,7 +45,8 @@ pub fn map_output(
     requires told { HasBounds stages.now at.node (node_at work.now at.node) }
     requires own { AreOwn work.now caching.old }
     ensures own { AreOwn work.now caching.new }
-    ensures leaves { IfOk result (LeavesSide (dealing_of_node work.now (node_at work.now at.node)) map
+    ensures leaves { IfOk result (LeavesSide
+        (dealing_of_node work.now (node_at work.now at.node)) map
         (own_value work.now (map_target at.node at.side map))) }
 {
     work.is_sound();
