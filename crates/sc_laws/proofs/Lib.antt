@@ -1,4 +1,4 @@
-mod StreamLemmas
+pub mod StreamLemmas
 mod NarrowLemmas
 mod CoalesceLemmas
 mod SideLemmas
@@ -11,3 +11,5 @@ mod QuietLemmas
 mod SameLemmas
 mod AgreeLemmas
 mod OutcomeLemmas
+pub mod SpreadLemmas
+pub mod NeverLemmas

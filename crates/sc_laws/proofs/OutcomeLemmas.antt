@@ -58,12 +58,15 @@ never_from (s ∷ results) i outcome is =
     never_by (raises s) (list_any raises results) i (position_from raises (i + 1) results) outcome
     (never_from results (i + 1) outcome) is
 
-raised_never : (action : ActionData) (streams : List Stream) → list_any raises streams ≡ true
+pub results_never : (action : ActionData) (results : List Stream) → list_any raises results ≡ true
+    → outcome_of_results action results ≡ never
+results_never action results is =
+    never_from results 0 (outcome_of_rows action (all_rows results)) is
+
+pub raised_never : (action : ActionData) (streams : List Stream) → list_any raises streams ≡ true
     → outcome_of_results action (map (result_of action) streams) ≡ never
 raised_never action streams is =
-    let results = map (result_of action) streams in
-    never_from results 0 (outcome_of_rows action (all_rows results))
-    (results_raise action streams is)
+    results_never action (map (result_of action) streams) (results_raise action streams is)
 
 -- two meanings that agree give one outcome
 pub outcomes_agree : (action : ActionData) (sequential local : List Stream)

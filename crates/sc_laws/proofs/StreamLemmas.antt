@@ -79,6 +79,17 @@ silent_by (s ∷ streams) each =
     none_holds (raises s) (list_any raises streams) (each 0 (omega arith))
     (silent_by streams (λ i below. each (suc i) (omega arith)))
 
+-- one of some streams raises
+pub raises_by : (streams : List Stream) (i : ℕ)
+    → raises (at_or streams i (ended_stream None)) ≡ true → list_any raises streams ≡ true
+raises_by [] i is = absurd (true≢false (sym is))
+raises_by (s ∷ streams) zero is = ap (λ b. b || list_any raises streams) is
+raises_by (s ∷ streams) (suc i) is = behind (raises s) (raises_by streams i is)
+  where
+    behind : (b : Bool) {c : Bool} → c ≡ true → (b || c) ≡ true
+    behind true is = refl
+    behind false is = is
+
 -- the streams of runs of places, run by run
 module _ {P : Type 0} (f : P → Stream) (g : ℕ → List P) where
   pub silent_runs : (first count : ℕ)

@@ -3,6 +3,7 @@
 
 ghost use Rattle.sc_laws.specs.Coalesces.{CoalesceLaw};
 ghost use Rattle.sc_laws.specs.Skips.{OutcomeLaw, SkipLaw};
+ghost use Rattle.sc_laws.specs.Spreads.{NeversAreByRaises, OwnRaisesSpread, RaisesSpread, RaisesSpreadAlong};
 
 /// Where a shuffle is skipped: the sequential and the local meaning of each node raise in some
 /// partition both or neither, and where neither does they are equal.
@@ -20,4 +21,28 @@ pub fn outcome_law()
 /// right's, where nothing raises.
 pub fn coalesce_law()
     ensures { CoalesceLaw }
+{}
+
+/// A raise spreads: where a partition of a node raises that another node reads, by a shuffle or
+/// without, some partition of the other raises.
+pub fn raises_spread()
+    ensures { RaisesSpread }
+{}
+
+/// A raise spreads along a path: where a node raises that another reads directly or by way of
+/// others, the other raises.
+pub fn raises_spread_along()
+    ensures { RaisesSpreadAlong }
+{}
+
+/// A raise of the map side of a partition, its own or one of `reduceByKey`'s values put together,
+/// is a raise of the node that shuffles it.
+pub fn own_raises_spread()
+    ensures { OwnRaisesSpread }
+{}
+
+/// An action has no outcome exactly where the result of some partition of its node raises; and so
+/// wherever its node raises.
+pub fn nevers_are_by_raises()
+    ensures { NeversAreByRaises }
 {}

@@ -5,9 +5,15 @@
 //! Spark's `cogroup` and `combineByKey`, which depend one to one on a parent with an equal
 //! partitioner.
 //!
+//! [`raises_spread`]: a raise anywhere that a node reads is a raise of the node, so nothing that is
+//! read can raise while what reads it gives an outcome.
+//!
 //! Each law stands under a function that does nothing, for a caller to cite.
 #![tactic(auto)]
 
 mod laws;
 
-pub use laws::{coalesce_law, outcome_law, skip_law};
+pub use laws::{
+    coalesce_law, nevers_are_by_raises, outcome_law, own_raises_spread, raises_spread,
+    raises_spread_along, skip_law,
+};
