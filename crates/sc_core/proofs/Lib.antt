@@ -15,13 +15,14 @@ pub mod StageCallLemmas
 pub mod TaskCallLemmas
 pub mod OfferLemmas
 pub mod RunningLemmas
+pub mod LeftLemmas
+pub mod ShelfLemmas
 pub mod ToldLemmas
 pub mod TakeLemmas
 pub mod MapLemmas
 pub mod ResultLemmas
 pub mod FailureLemmas
 pub mod StepLemmas
-pub mod LeftLemmas
 pub mod SpendLemmas
 pub mod LimitLemmas
 pub mod AbortLemmas

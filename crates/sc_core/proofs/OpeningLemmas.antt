@@ -1,5 +1,5 @@
 -- The core of a job that begins is sound.
-use Rattle.std.proofs.Common.{◌≡◌, ◌≢◌, ◌⊎◌, inl, inr, ℕ, zero, suc, ◌+◌, ◌-◌, All, Bool, true, false, List, [], ◌∷◌, ◌++◌, length, Option, Some, None, IfSome, option_map, slice_get, refl, ap, sym, subst, ◌∙◌, arith, rules, true≢false, length-append}
+use Rattle.std.proofs.Common.{◌≡◌, ◌≢◌, ◌⊎◌, inl, inr, ℕ, zero, suc, ◌+◌, ◌-◌, ◌<◌, All, Bool, true, false, List, [], ◌∷◌, ◌++◌, length, Option, Some, None, IfSome, option_map, slice_get, refl, ap, sym, subst, ◌∙◌, arith, rules, true≢false, length-append}
 use Rattle.std.proofs.Math.Seq.{get_or-append_seam}
 use Rattle.std.specs.List.{AllPairs, Contains, list_any}
 use Rattle.std.proofs.lemmas.Bool.Decides.{nat_tests}
@@ -24,7 +24,7 @@ use Rattle.sc_dag.proofs.Tests.{any_mono}
 use Rattle.sc_core.specs.CoreData.{CoreData, result_stage}
 use Rattle.sc_core.specs.Laws.{OpeningsAreSound}
 use Rattle.sc_core.specs.Openings.{tracker_behind}
-use Rattle.sc_core.specs.Sound.{AreTwo, IsSoundCore, IsUnheld, RunsWell}
+use Rattle.sc_core.specs.Sound.{AreTwo, IsShelvedWell, IsSoundCore, IsSoundJob, IsSoundShelf, IsUnheld, RunsWell, is_shelved}
 use Rattle.sc_core.proofs.StageCallLemmas.{submitted_calm}
 use Rattle.sc_core.proofs.MoveLemmas.{Calm}
 use Rattle.sc_core.proofs.StateLemmas.{runs_in}
@@ -134,7 +134,7 @@ behind_sound None limits sound =
       marks = All-replicate (HasMarkBelow 0) limits.executors untold tt;
       events = omega arith;
     }
-behind_sound (Some last) limits sound = sound.dag.tracker
+behind_sound (Some last) limits sound = sound.job.dag.tracker
 
 -- ---- the core
 
@@ -161,27 +161,8 @@ settled_by d submitted settled =
 
 pub openings_by :
     CallsKeepSound → dag.OpeningsAreSound → SubmissionsSettle → OpeningsAreSound
-openings_by calls opening settles graph limits saved last c job fits sound o =
-    record {
-      dag = (calls d first.0).0 (this_stage (result_stage d)) c.dag o.submits;
-      result = rw (calm.stages, begin.at) job.is_result;
-      maps = rw calm.stages begin.maps;
-      running = subst (λ rs. All (RunsWell c) rs) (sym o.running)
-          (λ i r l. absurd (omega (arith, l)));
-      known = λ a exec r. absurd (search (rules, r, runs a));
-      apart = subst (λ rs. AllPairs AreTwo rs) (sym o.running)
-          (λ i j r lt l. absurd (omega (arith, l)));
-      shelf = o.shelf;
-      unheld = calm.unheld unheld;
-      budget = rw o.handed (omega arith);
-      goes_on = λ r. record {
-        settled = on.0.0;
-        result = subst (λ (s : ℕ). IsUnderWay c.dag s)
-            (ap (λ (all : List StageData). length all - 1) (sym calm.stages))
-            (on.1 (result_stage d) itself lacks);
-      };
-      done = λ e. absurd (search (rules, e, o.job));
-    }
+openings_by calls opening settles graph limits saved plan last c job fits sound o =
+    record { job = sound_job; shelf = λ r. sound_shelf }
   where
     d : DagData
     d = o.dag
@@ -233,3 +214,37 @@ openings_by calls opening settles graph limits saved last c job fits sound o =
     on =
         settles o.dag (this_stage (result_stage o.dag)) c.dag first.0
         (settled_by o.dag (this_stage (result_stage o.dag)) first.1) dead o.submits
+
+    sound_job : IsSoundJob c
+    sound_job =
+        record {
+          dag = (calls d first.0).0 (this_stage (result_stage d)) c.dag o.submits;
+          result = rw (calm.stages, begin.at) job.is_result;
+          maps = rw calm.stages begin.maps;
+          running = subst (λ rs. All (RunsWell c) rs) (sym o.running)
+              (λ i r l. absurd (omega (arith, l)));
+          known = λ a exec r. absurd (search (rules, r, runs a));
+          apart = subst (λ rs. AllPairs AreTwo rs) (sym o.running)
+              (λ i j r lt l. absurd (omega (arith, l)));
+          unheld = calm.unheld unheld;
+          budget = rw o.handed (omega arith);
+          goes_on = λ r. record {
+            settled = on.0.0;
+            result = subst (λ (s : ℕ). IsUnderWay c.dag s)
+                (ap (λ (all : List StageData). length all - 1) (sym calm.stages))
+                (on.1 (result_stage d) itself lacks);
+          };
+          done = λ e. absurd (search (rules, e, o.job));
+        }
+
+    sound_shelf : IsSoundShelf c
+    sound_shelf =
+        record {
+          out = subst (λ rs. All (λ r. r.is_out ≡ false
+              → is_shelved c.shelf r.hand_out.attempt ≡ true) rs) (sym o.running)
+              (λ i r l. absurd (omega (arith, l)));
+          each = subst (λ ss. All (IsShelvedWell c) ss) (sym o.shelf)
+              (λ i s l. absurd (omega (arith, l)));
+          rising = subst (λ ss. AllPairs (λ s t. s.key < t.key) ss) (sym o.shelf)
+              (λ i j s lt l. absurd (omega (arith, l)));
+        }

@@ -70,6 +70,8 @@ pub enum Answer {
     Aborted(Abort),
     /// The report was of no running attempt, or came after the job's end.
     Ignored,
+    /// The report is to be told later.
+    Shelved,
     /// The success changes nothing but that its attempt has ended.
     Repeated,
     /// The map output is registered.
@@ -84,7 +86,8 @@ pub enum Answer {
     Resubmitted,
 }
 
-/// The answer to an event that isn't enabled: a report that doesn't fit its running attempt.
+/// The answer to an event that isn't enabled: a report that doesn't fit its running attempt, or a
+/// release where no report of the key is to be told later.
 #[derive(Clone, Copy, Debug, PartialEq, Eq)]
 pub struct NotEnabled;
 
@@ -114,6 +117,7 @@ fn copied(answer: &Answer) -> Answer
         Answer::Ended => Answer::Ended,
         Answer::Aborted(why) => Answer::Aborted(*why),
         Answer::Ignored => Answer::Ignored,
+        Answer::Shelved => Answer::Shelved,
         Answer::Repeated => Answer::Repeated,
         Answer::Registered => Answer::Registered,
         Answer::Bogus => Answer::Bogus,

@@ -29,4 +29,9 @@ pub enum Event {
         /// What it reports.
         outcome: Outcome,
     },
+    /// A report that was to be told later is told.
+    Release {
+        /// Its key.
+        key: u32,
+    },
 }

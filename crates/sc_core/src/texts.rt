@@ -71,6 +71,7 @@ impl fmt::Display for Event {
         match *self {
             Event::Take { .. } => write!(f, "take"),
             Event::Post { attempt, outcome } => write!(f, "post {attempt} {outcome}"),
+            Event::Release { key } => write!(f, "release {key}"),
         }
     }
 }
@@ -118,6 +119,7 @@ impl fmt::Display for Answer {
             Answer::Ended => write!(f, "ended"),
             Answer::Aborted(why) => write!(f, "aborted: {why}"),
             Answer::Ignored => write!(f, "ignored"),
+            Answer::Shelved => write!(f, "shelved"),
             Answer::Repeated => write!(f, "repeated"),
             Answer::Registered => write!(f, "registered"),
             Answer::Bogus => write!(f, "bogus"),
