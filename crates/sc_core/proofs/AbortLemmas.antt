@@ -24,12 +24,14 @@ use Rattle.sc_dag.specs.declared.reports.Success.TheVariants as successes
 use Rattle.sc_core.specs.CoreData.{CoreData, job_runs, running_of, shelved_if, shelved_of, taken_off, with_dag, without_shelved}
 use Rattle.sc_core.specs.Laws.{HasFailedAt, HasFailedOften, StepsKeepSound, TaskLimitsAreReached}
 use Rattle.sc_core.specs.Posts.{PostsBy, PostsIf, PostsOf, comes_twice, delay_for}
+use Rattle.sc_tracker.specs.Trust.{are_lost}
+use Rattle.sc_core.specs.Losses.{LosesOrAborts, without_executor}
 use Rattle.sc_core.specs.Releases.{ReleasesIf, ReleasesOf}
 use Rattle.sc_core.specs.Sound.{IsSoundCore, IsSoundJob}
 use Rattle.sc_core.specs.Tells.{FailsBy, FailsOrAborts, IsGone, Misses, MissesIf, Tells, TellsFailureIf, TellsTo, after_failure, is_zombie_in, success_answer}
 use Rattle.sc_core.specs.declared.answers.Abort.TheVariants.{TaskLimit}
 use Rattle.sc_core.specs.declared.answers.Answer.TheVariants as says
-use Rattle.sc_core.specs.declared.events.Event.TheVariants.{Post, Release, Take}
+use Rattle.sc_core.specs.declared.events.Event.TheVariants.{Post, Release, Take, TellLost}
 use Rattle.sc_core.specs.declared.events.Outcome.{Outcome}
 use Rattle.sc_core.specs.declared.events.Outcome.TheVariants as outcomes
 use Rattle.sc_core.specs.declared.running.Running.{Running}
@@ -223,3 +225,11 @@ task_limits_by steps c after (Release key) stage number p sound step = by (job_r
         → HasFailedAt after.dag stage number p
     by false (told, is) = absurd (search (rules, told))
     by true h = of (shelved_of c key) h
+task_limits_by steps c after (TellLost exec) stage number p sound (may, step) =
+    by (are_lost (without_executor c exec).dag.tracker.trust) step
+  where
+    by : (b : Bool)
+        → LosesOrAborts b (without_executor c exec) (says.Aborted (TaskLimit stage number p)) after
+        → HasFailedAt after.dag stage number p
+    by true (told, is) = absurd (search (rules, told))
+    by false (told, is) = absurd (search (rules, told))

@@ -24,11 +24,13 @@ use Rattle.sc_core.specs.CoreData.{CoreData, has_key, job_runs, running_of, shel
 use Rattle.sc_core.specs.Journals.{Replays}
 use Rattle.sc_core.specs.Laws.{ReplaysAgree, StepsAgree, StepsKeepSound}
 use Rattle.sc_core.specs.Posts.{PostsBy, PostsIf, PostsOf, TellsNow, comes_twice, delay_for, fits}
+use Rattle.sc_tracker.specs.Trust.{are_lost}
+use Rattle.sc_core.specs.Losses.{LosesOrAborts, without_executor}
 use Rattle.sc_core.specs.Releases.{ReleasesIf, ReleasesOf}
 use Rattle.sc_core.specs.Sound.{IsShelvedWell, IsSoundJob}
 use Rattle.sc_core.specs.Tells.{FailsBy, FailsOrAborts, FollowsUp, IsGone, LooksAgain, Misses, MissesIf, Tells, TellsFailure, TellsFailureIf, TellsMap, TellsTo, after_failure, is_zombie_in}
 use Rattle.sc_core.specs.declared.answers.Answer.{Answer}
-use Rattle.sc_core.specs.declared.events.Event.TheVariants.{Post, Release, Take}
+use Rattle.sc_core.specs.declared.events.Event.TheVariants.{Post, Release, Take, TellLost}
 use Rattle.sc_core.specs.declared.events.Outcome.{Outcome}
 use Rattle.sc_core.specs.declared.events.Outcome.TheVariants as outcomes
 use Rattle.sc_core.specs.declared.running.Running.{Running}
@@ -251,6 +253,16 @@ steps_agree_by calls others one c (Release key) a b x y sound s t = by (job_runs
         → Same a b x y
     by false e (u, is) (v, is') = (u ∙ sym v, is ∙ sym is')
     by true e u v = of (shelved_of c key) refl e u v
+
+steps_agree_by calls others one c (TellLost exec) a b x y sound (may, s) (may', t) =
+    by (are_lost (without_executor c exec).dag.tracker.trust) s t
+  where
+    next : CoreData
+    next = without_executor c exec
+
+    by : (z : Bool) → LosesOrAborts z next a x → LosesOrAborts z next b y → Same a b x y
+    by true (u, is) (v, is') = (u ∙ sym v, is ∙ sym is')
+    by false (u, is) (v, is') = (u ∙ sym v, is ∙ sym is')
 
 pub replays_agree_by : StepsKeepSound → StepsAgree → ReplaysAgree
 replays_agree_by keep agree opening x y [] sound e f = e ∙ sym f

@@ -21,6 +21,8 @@ use Rattle.sc_dag.proofs.Tests.{both_left, both_right}
 use Rattle.sc_core.specs.CoreData.{CoreData, ended, has_key, job_runs, running_of, shelved, shelved_if, shelved_of, taken_off, told_once, with_dag, without_shelved}
 use Rattle.sc_core.specs.Laws.{EventsAreAnswered, WaitsHaveCause}
 use Rattle.sc_core.specs.Posts.{Posts, PostsBy, PostsIf, PostsOf, TellsNow, comes_twice, delay_for, fits, misfits}
+use Rattle.sc_tracker.specs.Trust.{are_lost}
+use Rattle.sc_core.specs.Losses.{Loses, without_executor}
 use Rattle.sc_core.specs.Releases.{Releases, ReleasesIf, ReleasesOf, has_no_shelved}
 use Rattle.sc_core.specs.Sound.{IsShelvedWell, IsSoundCore, IsSoundJob}
 use Rattle.sc_core.specs.Tells.{FailsBy, FailsOrAborts, FollowsUp, IsGone, LooksAgain, Misses, MissesIf, Tells, TellsFailureIf, TellsTo, after_failure, after_result, is_zombie_in, limit_of, success_answer}
@@ -28,7 +30,7 @@ use Rattle.sc_core.specs.declared.answers.Abort.TheVariants as aborts
 use Rattle.sc_core.specs.declared.answers.Answer.{Answer}
 use Rattle.sc_core.specs.declared.answers.Answer.TheVariants as says
 use Rattle.sc_core.specs.declared.answers.Job.TheVariants as jobs
-use Rattle.sc_core.specs.declared.events.Event.TheVariants.{Post, Release, Take}
+use Rattle.sc_core.specs.declared.events.Event.TheVariants.{Post, Release, Take, TellLost}
 use Rattle.sc_core.specs.declared.events.Outcome.{Outcome}
 use Rattle.sc_core.specs.declared.events.Outcome.TheVariants as outcomes
 use Rattle.sc_core.specs.declared.running.Running.{Running}
@@ -227,3 +229,17 @@ answered_by calls others waits c (Post a outcome) sound enabled =
     posts_there calls others c a outcome sound enabled
 answered_by calls others waits c (Release key) sound enabled =
     releases_there calls others c key sound enabled
+answered_by calls others waits c (TellLost exec) sound enabled =
+    by (are_lost (without_executor c exec).dag.tracker.trust) refl
+  where
+    next : CoreData
+    next = without_executor c exec
+
+    by : (b : Bool) → are_lost next.dag.tracker.trust ≡ b
+        → (answer : Answer) × (after : CoreData) × Loses c exec answer after
+    by true e = (
+      says.Aborted aborts.NoExecutor,
+      ended next (jobs.Aborted aborts.NoExecutor),
+      (enabled, rw e (refl, refl)),
+    )
+    by false e = (says.Told, next, (enabled, rw e (refl, refl)))

@@ -14,6 +14,7 @@ use Rattle.sc_commit.specs.declared.committers.Ending.TheVariants as endings
 use Rattle.sc_taskset.specs.declared.tasks.Verdict.{Verdict}
 use Rattle.sc_taskset.specs.declared.tasks.Verdict.TheVariants as verdicts
 use Rattle.sc_tracker.specs.Trust.{is_newer}
+use Rattle.sc_tracker.specs.TrackerData.{trust_of}
 use Rattle.sc_dag.specs.DagData.{DagData}
 use Rattle.sc_dag.specs.Losses.{after_seen}
 use Rattle.sc_dag.specs.Outputs.{is_complete}
@@ -50,10 +51,13 @@ pub record Left (c after : CoreData) : Type 0 where
   pub saves : is_save after.committers ≡ is_save c.committers
   -- what was handed out stays so
   pub given : (b : AttemptId) → was_given c.dag b ≡ true → was_given after.dag b ≡ true
+  pub plan : after.plan ≡ c.plan
+  -- nobody is told lost
+  pub lost : (e : ℕ) → (trust_of after.dag.tracker e).lost ≡ (trust_of c.dag.tracker e).lost
   -- a job that has ended doesn't run again
   pub runs : job_runs after ≡ true → job_runs c ≡ true
 
-left_then : (a b c : CoreData) → Left a b → Left b c → Left a c
+pub left_then : (a b c : CoreData) → Left a b → Left b c → Left a c
 left_then a b c h k =
     record {
       limits = k.limits ∙ h.limits;
@@ -64,6 +68,8 @@ left_then a b c h k =
       stages = k.stages ∙ h.stages;
       saves = k.saves ∙ h.saves;
       given = λ d g. k.given d (h.given d g);
+      plan = k.plan ∙ h.plan;
+      lost = λ e. k.lost e ∙ h.lost e;
       runs = λ r. h.runs (k.runs r);
     }
 
@@ -81,11 +87,13 @@ left_dag test new c d moves =
       stages = moves.stages;
       saves = refl;
       given = moves.given;
+      plan = refl;
+      lost = moves.lost;
       runs = λ r. r;
     }
 
 -- the same core
-left_same : (c : CoreData) → Left c c
+pub left_same : (c : CoreData) → Left c c
 left_same c =
     record {
       limits = refl;
@@ -96,6 +104,8 @@ left_same c =
       stages = refl;
       saves = refl;
       given = λ b g. g;
+      plan = refl;
+      lost = λ e. refl;
       runs = λ r. r;
     }
 
@@ -111,6 +121,8 @@ left_ended c job over =
       stages = refl;
       saves = refl;
       given = λ b g. g;
+      plan = refl;
+      lost = λ e. refl;
       runs = λ r. absurd (clash r over);
     }
 
@@ -121,7 +133,7 @@ same_saves [] i f = refl
 same_saves (x ∷ xs) zero f = refl
 same_saves (x ∷ xs) (suc i) f = refl
 
-released_left : (c : CoreData) (a : AttemptId) (how : Ending) → Left c (released c a how)
+pub released_left : (c : CoreData) (a : AttemptId) (how : Ending) → Left c (released c a how)
 released_left c a how =
     record {
       limits = (by (holds a (committer_at c.committers a.partition))).limits;
@@ -132,6 +144,8 @@ released_left c a how =
       stages = (by (holds a (committer_at c.committers a.partition))).stages;
       saves = same_saves c.committers a.partition (commit.ended a how);
       given = (by (holds a (committer_at c.committers a.partition))).given;
+      plan = refl;
+      lost = (by (holds a (committer_at c.committers a.partition))).lost;
       runs = λ r. r;
     }
   where

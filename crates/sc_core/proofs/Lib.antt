@@ -21,11 +21,14 @@ pub mod ToldLemmas
 pub mod TakeLemmas
 pub mod MapLemmas
 pub mod ResultLemmas
+pub mod LossLemmas
+pub mod LoseLemmas
 pub mod FailureLemmas
 pub mod StepLemmas
 pub mod SpendLemmas
 pub mod LimitLemmas
 pub mod AbortLemmas
+pub mod EndLemmas
 pub mod TakeAgreeLemmas
 pub mod AgreeLemmas
 pub mod OpeningLemmas

@@ -175,7 +175,7 @@ shelved_beside (x ∷ xs) key one b rising found other h =
 -- ---- attempts that aren't out any more
 
 -- what keeps a test is found changed
-find_mapped :
+pub find_mapped :
     {A : Type 0} (p : A → Bool) (f : A → A) → ((x : A) → p (f x) ≡ p x) → (xs : List A)
     → find p (map f xs) ≡ option_map f (find p xs)
 find_mapped p f same [] = refl
@@ -224,7 +224,7 @@ fits_in c a r outcome = by (is_of a r) outcome
 -- ---- what is kept where all else is
 
 -- what holds of those that don't pass a test holds of what is left without the others
-all_left :
+pub all_left :
     {A : Type 0} (P : A → Type 0) (q : A → Bool) (xs : List A)
     → All (λ x. q x ≡ false → P x) xs → All P (filter (λ x. not (q x)) xs)
 all_left P q [] all = λ i d l. absurd (omega (arith, l))

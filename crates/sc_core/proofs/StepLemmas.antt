@@ -8,10 +8,13 @@ use Rattle.sc_dag.specs.Laws.{CallsKeepSound, FailuresGoOn, MapSuccessesGoOn, Ot
 use Rattle.sc_core.specs.CoreData.{CoreData, as_in, has_key, is_of, job_runs, running_of, shelved, shelved_if, shelved_of, taken_off, told_once, without_shelved}
 use Rattle.sc_core.specs.Laws.{ReplaysKeepSound, StepsKeepSound}
 use Rattle.sc_core.specs.Posts.{PostsBy, PostsIf, PostsOf, TellsNow, comes_twice, delay_for, fits}
+use Rattle.sc_tracker.specs.Trust.{are_lost}
+use Rattle.sc_core.specs.declared.answers.Abort.TheVariants.{NoExecutor}
+use Rattle.sc_core.specs.Losses.{LosesOrAborts, without_executor}
 use Rattle.sc_core.specs.Releases.{ReleasesIf, ReleasesOf}
 use Rattle.sc_core.specs.Sound.{IsShelvedWell, IsSoundCore, IsSoundJob, RunsWell, is_shelved}
 use Rattle.sc_core.specs.Tells.{Tells, TellsTo}
-use Rattle.sc_core.specs.declared.events.Event.TheVariants.{Post, Release, Take}
+use Rattle.sc_core.specs.declared.events.Event.TheVariants.{Post, Release, Take, TellLost}
 use Rattle.sc_core.specs.declared.events.Outcome.{Outcome}
 use Rattle.sc_core.specs.declared.events.Outcome.TheVariants as outcomes
 use Rattle.sc_core.specs.declared.answers.Answer.{Answer}
@@ -20,7 +23,8 @@ use Rattle.sc_core.specs.declared.running.Shelved.{Shelved}
 use Rattle.sc_core.proofs.LookupLemmas.{same_is}
 use Rattle.sc_core.proofs.LeftLemmas.{tells_left}
 use Rattle.sc_core.proofs.ShelfLemmas.{Unshelved, alike_shelf, awaits_it, find_in, fits_in, fits_still, shelved_job, shelved_shelf, told_shelf, unshelved, unshelved_told}
-use Rattle.sc_core.proofs.TakeLemmas.{calm_sound, takes_keep}
+use Rattle.sc_core.proofs.LoseLemmas.{lose_sound}
+use Rattle.sc_core.proofs.TakeLemmas.{aborted_sound, calm_sound, takes_keep}
 use Rattle.sc_core.proofs.FailureLemmas.{failure_keeps}
 use Rattle.sc_core.proofs.MapLemmas.{map_keeps}
 use Rattle.sc_core.proofs.ResultLemmas.{result_keeps}
@@ -200,6 +204,19 @@ steps_keep_by calls maps results failures others c after (Release key) answer so
     by : (b : Bool) → job_runs c ≡ b → ReleasesIf b c key answer after → IsSoundCore after
     by false e (says, is) = subst IsSoundCore (sym is) sound
     by true e h = of (shelved_of c key) refl e h
+
+steps_keep_by calls maps results failures others c after (TellLost exec) answer sound (may, step) =
+    by (are_lost (without_executor c exec).dag.tracker.trust) step
+  where
+    next : CoreData
+    next = without_executor c exec
+
+    left : IsSoundCore (without_executor c exec)
+    left = lose_sound calls others c exec sound may
+
+    by : (b : Bool) → LosesOrAborts b next answer after → IsSoundCore after
+    by true (says, is) = subst IsSoundCore (sym is) (aborted_sound next NoExecutor left)
+    by false (says, is) = subst IsSoundCore (sym is) left
 
 pub replays_keep_by : StepsKeepSound → ReplaysKeepSound
 replays_keep_by steps opening end [] sound is = subst IsSoundCore (sym is) sound

@@ -232,6 +232,7 @@ takes_keep calls others c after exec (says.Aborted (aborts.StageLimit s)) sound 
 takes_keep calls others c after exec (says.Aborted aborts.NoExecutor) sound bad = absurd bad
 takes_keep calls others c after exec says.Ignored sound bad = absurd bad
 takes_keep calls others c after exec says.Shelved sound bad = absurd bad
+takes_keep calls others c after exec says.Told sound bad = absurd bad
 takes_keep calls others c after exec says.Repeated sound bad = absurd bad
 takes_keep calls others c after exec says.Registered sound bad = absurd bad
 takes_keep calls others c after exec says.Bogus sound bad = absurd bad

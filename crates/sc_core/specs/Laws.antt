@@ -5,26 +5,29 @@ use Rattle.sc_dag.specs.DagData.{DagData, stage_at}
 use Rattle.sc_dag.specs.Offers.{HasNone}
 use Rattle.sc_dag.specs.Openings.{FitsJob, IsJob}
 use Rattle.sc_dag.specs.Outputs.{is_done}
-use Rattle.sc_dag.specs.Reports.{set_of}
+use Rattle.sc_dag.specs.Reports.{has_failed_often, set_of}
 use Rattle.sc_ids.specs.Graphs.{StageData}
 use Rattle.sc_ids.specs.declared.attempts.AttemptId.{AttemptId}
 use Rattle.sc_ids.specs.declared.limits.Limits.{Limits}
 use Rattle.sc_plan.specs.declared.lines.PlanLine.{PlanLine}
+use Rattle.sc_plan.specs.declared.lines.PlanLine.TheVariants as lines
 use Rattle.sc_taskset.specs.Lookups.{task_at}
 use Rattle.sc_taskset.specs.TaskSetData.{TaskData, TaskSetData}
+use Rattle.sc_tracker.specs.TrackerData.{TrackerData, trust_of}
+use Rattle.sc_tracker.specs.Trust.{are_lost}
 use Rattle.sc_core.specs.CoreData.{CoreData, job_runs, result_stage, running_of, under_way}
 use Rattle.sc_core.specs.Journals.{Replays}
 use Rattle.sc_core.specs.Openings.{IsOpening, tracker_behind}
 use Rattle.sc_core.specs.Sound.{IsSoundCore}
 use Rattle.sc_core.specs.Steps.{Steps, is_enabled}
 use Rattle.sc_core.specs.Takes.{IsAsking}
-use Rattle.sc_core.specs.declared.answers.Abort.TheVariants.{Budget, TaskLimit}
+use Rattle.sc_core.specs.declared.answers.Abort.TheVariants.{Budget, NoExecutor, StageLimit, TaskLimit}
 use Rattle.sc_core.specs.declared.answers.Answer.{Answer}
 use Rattle.sc_core.specs.declared.answers.Answer.TheVariants as says
 use Rattle.sc_core.specs.declared.answers.Job.TheVariants as jobs
 use Rattle.sc_core.specs.declared.entries.Entry.{Entry}
 use Rattle.sc_core.specs.declared.events.Event.{Event}
-use Rattle.sc_core.specs.declared.events.Event.TheVariants.{Post, Release, Take}
+use Rattle.sc_core.specs.declared.events.Event.TheVariants.{Post, Release, Take, TellLost}
 use Rattle.sc_core.specs.declared.running.Running.{Running}
 
 -- an event has one answer in a state, and leaves one state
@@ -118,12 +121,30 @@ TaskLimitsAreReached =
     → Steps c event (says.Aborted (TaskLimit stage number p)) after
     → HasFailedAt after.dag stage number p
 
--- how much may still happen: hand-outs that are left, attempts that are out, and reports that are
--- to be told later; of a report that is posted there are two at most
+-- a job is aborted for failed attempts of a stage only where there are as many as that
+abbrev pub StageLimitsAreReached : Type 0
+StageLimitsAreReached =
+    (c after : CoreData) (event : Event) (stage : ℕ)
+    → Steps c event (says.Aborted (StageLimit stage)) after
+    → has_failed_often after.dag stage ≡ true
+
+-- and for want of executors only where every one was told lost
+abbrev pub NoExecutorsAreLeft : Type 0
+NoExecutorsAreLeft =
+    (c after : CoreData) (event : Event) → Steps c event (says.Aborted NoExecutor) after
+    → are_lost after.dag.tracker.trust ≡ true
+
+-- a line of a plan loses an executor that wasn't told lost yet
+abbrev pub is_untold : TrackerData → PlanLine → Bool
+is_untold t (lines.Lose exec after told) = not (trust_of t exec).lost
+is_untold t line = false
+
+-- how much may still happen: hand-outs that are left, attempts that are out, reports that are to
+-- be told later, and losses; of a report that is posted there are two at most
 abbrev pub left_to_do : CoreData → ℕ
 left_to_do c =
     4 * (c.dag.limits.hand_outs - c.handed) + 3 * length (filter (λ r. r.is_out) c.running)
-    + length c.shelf
+    + length c.shelf + length (filter (is_untold c.dag.tracker) c.plan)
 
 -- an answer that only says how things are
 abbrev pub changes_nothing : Answer → Bool
@@ -145,6 +166,7 @@ spends_nothing c (Post a outcome) answer = not (is_out_in (running_of c a))
     is_out_in None = false
     is_out_in (Some r) = r.is_out
 spends_nothing c (Release key) answer = false
+spends_nothing c (TellLost exec) answer = false
 
 -- in a job that goes on, every other event leaves less to do
 abbrev pub StepsAreSpent : Type 0

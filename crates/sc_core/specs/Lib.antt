@@ -6,6 +6,7 @@ pub mod Takes
 pub mod Tells
 pub mod Posts
 pub mod Releases
+pub mod Losses
 pub mod Rooms
 pub mod Steps
 pub mod Openings

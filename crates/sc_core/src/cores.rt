@@ -74,6 +74,7 @@ impl Core {
             Event::Take { exec } => Ok(self.state.take(exec)?),
             Event::Post { attempt, outcome } => self.state.post(attempt, outcome),
             Event::Release { key } => self.state.release_key(key),
+            Event::TellLost { exec } => self.state.tell_lost(exec),
         }
     }
 

@@ -34,4 +34,9 @@ pub enum Event {
         /// Its key.
         key: u32,
     },
+    /// An executor is told lost.
+    TellLost {
+        /// The executor.
+        exec: ExecId,
+    },
 }

@@ -6,7 +6,7 @@ ghost use Rattle.sc_tracker.specs.Outputs.{location_in};
 ghost use Rattle.sc_tracker.specs.TrackerData.{output_of, tracker_data, trust_of};
 ghost use Rattle.sc_tracker.specs.TrackerFacts.{IsSoundTracker};
 ghost use Rattle.sc_tracker.specs.Tracking.{after_executor_lost, after_gone, emptied, is_bogus, registered, sized};
-ghost use Rattle.sc_tracker.specs.Trust.{is_newer, untold};
+ghost use Rattle.sc_tracker.specs.Trust.{are_lost, is_live, is_newer, untold};
 
 use crate::outputs::{Location, Output};
 use crate::shuffles::{
@@ -183,6 +183,20 @@ impl Tracker {
         ensures { result ≡ (trust_of self.now exec).lost }
     {
         trust_at(self.trust.as_slice(), exec).lost
+    }
+
+    /// Whether an executor is there, and wasn't told lost.
+    pub fn is_live(&self, exec: ExecId) -> bool
+        ensures { result ≡ is_live (slice_get self.now.trust exec) }
+    {
+        is_live(self.trust.as_slice(), exec)
+    }
+
+    /// Whether every executor was told lost.
+    pub fn all_lost(&self) -> bool
+        ensures { result ≡ are_lost self.now.trust }
+    {
+        self.trust.iter().all(|heard| heard.lost)
     }
 
     /// What every tracker keeps: marks are below the epoch, registered outputs are fresh, and the
