@@ -52,6 +52,7 @@ pub record Left (c after : CoreData) : Type 0 where
   -- what was handed out stays so
   pub given : (b : AttemptId) → was_given c.dag b ≡ true → was_given after.dag b ≡ true
   pub plan : after.plan ≡ c.plan
+  pub told : after.told ≡ c.told
   -- nobody is told lost
   pub lost : (e : ℕ) → (trust_of after.dag.tracker e).lost ≡ (trust_of c.dag.tracker e).lost
   -- a job that has ended doesn't run again
@@ -69,6 +70,7 @@ left_then a b c h k =
       saves = k.saves ∙ h.saves;
       given = λ d g. k.given d (h.given d g);
       plan = k.plan ∙ h.plan;
+      told = k.told ∙ h.told;
       lost = λ e. k.lost e ∙ h.lost e;
       runs = λ r. h.runs (k.runs r);
     }
@@ -88,6 +90,7 @@ left_dag test new c d moves =
       saves = refl;
       given = moves.given;
       plan = refl;
+      told = refl;
       lost = moves.lost;
       runs = λ r. r;
     }
@@ -105,6 +108,7 @@ left_same c =
       saves = refl;
       given = λ b g. g;
       plan = refl;
+      told = refl;
       lost = λ e. refl;
       runs = λ r. r;
     }
@@ -122,6 +126,7 @@ left_ended c job over =
       saves = refl;
       given = λ b g. g;
       plan = refl;
+      told = refl;
       lost = λ e. refl;
       runs = λ r. absurd (clash r over);
     }
@@ -145,6 +150,7 @@ released_left c a how =
       saves = same_saves c.committers a.partition (commit.ended a how);
       given = (by (holds a (committer_at c.committers a.partition))).given;
       plan = refl;
+      told = refl;
       lost = (by (holds a (committer_at c.committers a.partition))).lost;
       runs = λ r. r;
     }

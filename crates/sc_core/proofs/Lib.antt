@@ -17,6 +17,7 @@ pub mod OfferLemmas
 pub mod RunningLemmas
 pub mod LeftLemmas
 pub mod ShelfLemmas
+pub mod PlannedLemmas
 pub mod ToldLemmas
 pub mod TakeLemmas
 pub mod MapLemmas

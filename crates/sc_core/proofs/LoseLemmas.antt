@@ -10,6 +10,7 @@ use Rattle.sc_ids.specs.declared.attempts.AttemptId.{AttemptId}
 use Rattle.sc_commit.specs.Committing.{is_same}
 use Rattle.sc_commit.specs.declared.committers.Ending.TheVariants as endings
 use Rattle.sc_ids.specs.Changes.{change_at}
+use Rattle.sc_plan.specs.Orders.{loss_of}
 use Rattle.sc_tracker.specs.TrackerData.{trust_of}
 use Rattle.sc_tracker.specs.Trust.{is_live, lost_at, untold}
 use Rattle.sc_tracker.specs.declared.trust.Trust.{Trust}
@@ -178,7 +179,12 @@ pub lose_sound :
     CallsKeepSound → OthersGoOn → (c : CoreData) (exec : ℕ) → IsSoundCore c
     → may_be_lost c exec ≡ true → IsSoundCore (without_executor c exec)
 lose_sound calls others c exec sound may =
-    record { job = kept; shelf = λ r. shelf }
+    record {
+      job = kept;
+      shelf = λ r. shelf;
+      lost = λ e h. rw (left.told, left.plan) (planned e (e == exec) refl h);
+      told = rw left.told sound.told;
+    }
   where
     job : job_runs c ≡ true
     job = both_left (job_runs c) _ may
@@ -214,6 +220,19 @@ lose_sound calls others c exec sound may =
 
     moves : Lost exec c.dag next.dag
     moves = loses_then exec c.dag lost next.dag (lost_loses c.dag exec sound.job.dag) keeps.calm
+
+    due : is_due_after (loss_of c.plan exec) c.told ≡ true
+    due =
+        both_right (is_live (slice_get c.dag.tracker.trust exec)) _
+        (both_right (job_runs c) _ may)
+
+    planned : (e : ℕ) (x : Bool) → (e == exec) ≡ x
+        → (trust_of next.dag.tracker e).lost ≡ true
+        → is_due_after (loss_of c.plan e) c.told ≡ true
+    planned e true f h =
+        let is : e ≡ exec = grind (arith, nat_tests, f) in
+        ap (λ (n : ℕ). is_due_after (loss_of c.plan n) c.told) is ∙ due
+    planned e false f h = sound.lost e (sym (moves.lost e f) ∙ h)
 
     runs : (r : Running) → RunsWell c r → runs_on exec r ≡ false → RunsWell next r
     runs r w other =

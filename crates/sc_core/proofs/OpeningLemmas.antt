@@ -1,5 +1,5 @@
 -- The core of a job that begins is sound.
-use Rattle.std.proofs.Common.{◌≡◌, ◌≢◌, ◌⊎◌, inl, inr, ℕ, zero, suc, ◌+◌, ◌-◌, ◌<◌, All, Bool, true, false, List, [], ◌∷◌, ◌++◌, length, Option, Some, None, IfSome, option_map, slice_get, refl, ap, sym, subst, ◌∙◌, arith, rules, true≢false, length-append}
+use Rattle.std.proofs.Common.{◌≡◌, ◌≢◌, ◌⊎◌, inl, inr, ℕ, zero, suc, ◌+◌, ◌-◌, ◌^◌, ◌<◌, All, Bool, true, false, List, [], ◌∷◌, ◌++◌, length, Option, Some, None, IfSome, option_map, replicate, slice_get, refl, ap, sym, subst, ◌∙◌, arith, rules, true≢false, length-append}
 use Rattle.std.proofs.Math.Seq.{get_or-append_seam}
 use Rattle.std.specs.List.{AllPairs, Contains, list_any}
 use Rattle.std.proofs.lemmas.Bool.Decides.{nat_tests}
@@ -8,13 +8,18 @@ use Rattle.sc_base.specs.Lists.{at_or}
 use Rattle.sc_ids.specs.Graphs.{StageData}
 use Rattle.sc_ids.specs.declared.attempts.AttemptId.{AttemptId}
 use Rattle.sc_ids.specs.declared.limits.Limits.{Limits}
-use Rattle.sc_tracker.specs.TrackerData.{TrackerData}
+use Rattle.sc_ids.specs.declared.blocks.ShuffleId.{ShuffleId}
+use Rattle.sc_ids.specs.declared.blocks.Target.{Target}
+use Rattle.sc_ids.specs.declared.blocks.Target.TheVariants as targets
+use Rattle.sc_plan.specs.Orders.{loss_of}
+use Rattle.sc_tracker.specs.TrackerData.{TrackerData, trust_of}
+use Rattle.sc_tracker.specs.Tracking.{has_room, sized}
 use Rattle.sc_tracker.specs.TrackerFacts.{HasMarkBelow, IsSoundTracker}
 use Rattle.sc_tracker.specs.Trust.{untold}
 use Rattle.sc_dag.specs.DagData.{DagData, StageState, is_live_set, newest_at, no_stage, stage_at}
 use Rattle.sc_dag.specs.Laws.{CallsKeepSound, SubmissionsSettle}
 use Rattle.sc_dag.specs.Laws as dag
-use Rattle.sc_dag.specs.Openings.{IsJob, Opens, blank_states, number_behind}
+use Rattle.sc_dag.specs.Openings.{IsJob, Opens, blank_states, number_behind, sized_by, sized_for_all}
 use Rattle.sc_dag.specs.Outputs.{is_complete}
 use Rattle.sc_dag.specs.Settled.{IsSettled, IsSettledBy, IsUnderWay, will_go_on}
 use Rattle.sc_dag.specs.Sound.{IsSoundDag, attempts_in, runner_of}
@@ -23,7 +28,8 @@ use Rattle.sc_dag.proofs.Moving.{newest_among}
 use Rattle.sc_dag.proofs.Tests.{any_mono}
 use Rattle.sc_core.specs.CoreData.{CoreData, result_stage}
 use Rattle.sc_core.specs.Laws.{OpeningsAreSound}
-use Rattle.sc_core.specs.Openings.{tracker_behind}
+use Rattle.sc_core.specs.Losses.{is_due_after}
+use Rattle.sc_core.specs.Openings.{plan_behind, told_before, tracker_behind}
 use Rattle.sc_core.specs.Sound.{AreTwo, IsShelvedWell, IsSoundCore, IsSoundJob, IsSoundShelf, IsUnheld, RunsWell, is_shelved}
 use Rattle.sc_core.proofs.StageCallLemmas.{submitted_calm}
 use Rattle.sc_core.proofs.MoveLemmas.{Calm}
@@ -136,6 +142,29 @@ behind_sound None limits sound =
     }
 behind_sound (Some last) limits sound = sound.job.dag.tracker
 
+-- nobody is told lost at first
+none_lost : (n e : ℕ) → (at_or (replicate n untold) e untold).lost ≡ false
+none_lost zero e = refl
+none_lost (suc n) zero = refl
+none_lost (suc n) (suc e) = none_lost n e
+
+-- room for outputs says nothing of executors
+one_sized : (stage : StageData) (t : TrackerData) → (sized_by t stage).trust ≡ t.trust
+one_sized stage t = by stage.target
+  where
+    room : (shuffle : ShuffleId) (b : Bool) → has_room t shuffle ≡ b
+        → (sized t shuffle stage.tasks).trust ≡ t.trust
+    room shuffle true e = rw e refl
+    room shuffle false e = rw e refl
+
+    by : (target : Target) → (sized_by t (record stage { target = target })).trust ≡ t.trust
+    by (targets.Map shuffle) = room shuffle (has_room t shuffle) refl
+    by (targets.Result node) = refl
+
+all_sized : (graph : List StageData) (t : TrackerData) → (sized_for_all t graph).trust ≡ t.trust
+all_sized [] t = refl
+all_sized (stage ∷ graph) t = all_sized graph (sized_by t stage) ∙ one_sized stage t
+
 -- ---- the core
 
 settled_by : (d : DagData) (submitted : ℕ → Bool) → IsSettled d → IsSettledBy d submitted
@@ -162,7 +191,13 @@ settled_by d submitted settled =
 pub openings_by :
     CallsKeepSound → dag.OpeningsAreSound → SubmissionsSettle → OpeningsAreSound
 openings_by calls opening settles graph limits saved plan last c job fits sound o =
-    record { job = sound_job; shelf = λ r. sound_shelf }
+    record {
+      job = sound_job;
+      shelf = λ r. sound_shelf;
+      lost = λ e h. rw (o.told, o.plan_is)
+          (planned last sound e (sym (trust e) ∙ h));
+      told = rw o.told (counts last sound);
+    }
   where
     d : DagData
     d = o.dag
@@ -248,3 +283,20 @@ openings_by calls opening settles graph limits saved plan last c job fits sound 
           rising = subst (λ ss. AllPairs (λ s t. s.key < t.key) ss) (sym o.shelf)
               (λ i j s lt l. absurd (omega (arith, l)));
         }
+
+    trust : (e : ℕ)
+        → (trust_of c.dag.tracker e).lost ≡ (trust_of (tracker_behind last limits) e).lost
+    trust e =
+        calm.lost e
+        ∙ ap (λ (t : TrackerData). (trust_of t e).lost) o.opens.tracker
+        ∙ ap (λ ts. (at_or ts e untold).lost) (all_sized graph (tracker_behind last limits))
+
+    planned : (before : Option CoreData) → IfSome before IsSoundCore → (e : ℕ)
+        → (trust_of (tracker_behind before limits) e).lost ≡ true
+        → is_due_after (loss_of (plan_behind before plan) e) (told_before before) ≡ true
+    planned None s e h = absurd (true≢false (sym h ∙ none_lost limits.executors e))
+    planned (Some before) s e h = s.lost e h
+
+    counts : (before : Option CoreData) → IfSome before IsSoundCore → told_before before < 2 ^ 64
+    counts None s = omega arith
+    counts (Some before) s = s.told

@@ -1,5 +1,5 @@
 -- Every event keeps what holds of every core, and so does every journal.
-use Rattle.std.proofs.Common.{◌≡◌, ℕ, ◌<◌, All, Bool, true, false, [], ◌∷◌, Option, Some, None, option_map, refl, ap, sym, subst, ◌∙◌}
+use Rattle.std.proofs.Common.{◌≡◌, ℕ, ◌^◌, ◌<◌, All, Bool, true, false, [], ◌∷◌, Option, Some, None, option_map, refl, ap, sym, subst, ◌∙◌}
 use Rattle.std.specs.List.{AllPairs}
 use Rattle.std.proofs.lemmas.List.Elements.{All-weaker}
 use Rattle.sc_ids.specs.declared.attempts.AttemptId.{AttemptId}
@@ -12,7 +12,7 @@ use Rattle.sc_tracker.specs.Trust.{are_lost}
 use Rattle.sc_core.specs.declared.answers.Abort.TheVariants.{NoExecutor}
 use Rattle.sc_core.specs.Losses.{LosesOrAborts, without_executor}
 use Rattle.sc_core.specs.Releases.{ReleasesIf, ReleasesOf}
-use Rattle.sc_core.specs.Sound.{IsShelvedWell, IsSoundCore, IsSoundJob, RunsWell, is_shelved}
+use Rattle.sc_core.specs.Sound.{AreLostAsPlanned, IsShelvedWell, IsSoundCore, IsSoundJob, RunsWell, is_shelved}
 use Rattle.sc_core.specs.Tells.{Tells, TellsTo}
 use Rattle.sc_core.specs.declared.events.Event.TheVariants.{Post, Release, Take, TellLost}
 use Rattle.sc_core.specs.declared.events.Outcome.{Outcome}
@@ -24,6 +24,7 @@ use Rattle.sc_core.proofs.LookupLemmas.{same_is}
 use Rattle.sc_core.proofs.LeftLemmas.{tells_left}
 use Rattle.sc_core.proofs.ShelfLemmas.{Unshelved, alike_shelf, awaits_it, find_in, fits_in, fits_still, shelved_job, shelved_shelf, told_shelf, unshelved, unshelved_told}
 use Rattle.sc_core.proofs.LoseLemmas.{lose_sound}
+use Rattle.sc_core.proofs.PlannedLemmas.{counted_fits, counted_more, planned_still}
 use Rattle.sc_core.proofs.TakeLemmas.{aborted_sound, calm_sound, takes_keep}
 use Rattle.sc_core.proofs.FailureLemmas.{failure_keeps}
 use Rattle.sc_core.proofs.MapLemmas.{map_keeps}
@@ -71,14 +72,18 @@ tells_leave :
     → All (λ q. is_of a q ≡ false → q.is_out ≡ false
     → is_shelved c.shelf q.hand_out.attempt ≡ true) c.running
     → All (IsShelvedWell c) c.shelf → AllPairs (λ s t. s.key < t.key) c.shelf
+    → AreLostAsPlanned c → c.told < 2 ^ 64
     → Tells (taken_off c a) r outcome answer after → IsSoundCore after
 tells_leave calls maps results failures others c after a r outcome answer sound job p fit out each
-    rising tells =
+    rising lost count tells =
+    let left = tells_left (taken_off c a) after r outcome answer tells in
     record {
       job = tells_keep calls maps results failures others c after r outcome answer sound job p.well
           fit (subst (λ b. Tells (taken_off c b) r outcome answer after) (sym p.attempt) tells);
-      shelf = told_shelf c after a out each rising
-          (tells_left (taken_off c a) after r outcome answer tells);
+      shelf = told_shelf c after a out each rising left;
+      lost = planned_still c after lost left.lost left.plan
+          (rw left.told (counted_more c.told count));
+      told = rw left.told (counted_fits c.told);
     }
 
 -- a report that is to be told later leaves a core sound
@@ -90,6 +95,8 @@ shelved_sound c a r outcome delay sound job e fit =
     record {
       job = shelved_job c a outcome delay sound.job;
       shelf = λ h. shelved_shelf c a r outcome delay sound.job e fit (sound.shelf job);
+      lost = sound.lost;
+      told = sound.told;
     }
 
 -- a running attempt, once a report of it is to be told later or not
@@ -138,7 +145,7 @@ steps_keep_by calls maps results failures others c after (Post a outcome) answer
         (λ q. is_of a q ≡ false → q.is_out ≡ false
         → is_shelved c.shelf q.hand_out.attempt ≡ true) (λ q h other. h) c.running
         (sound.shelf job).out)
-        (sound.shelf job).each (sound.shelf job).rising (rw e at tells)
+        (sound.shelf job).each (sound.shelf job).rising sound.lost sound.told (rw e at tells)
     at_once r e job fit true tells =
         let next = shelved c a outcome 0 in
         let s = shelved_runs c a r outcome 0 sound job e fit in
@@ -148,7 +155,7 @@ steps_keep_by calls maps results failures others c after (Post a outcome) answer
         (All-weaker (λ q. q.is_out ≡ false → is_shelved next.shelf q.hand_out.attempt ≡ true)
         (λ q. is_of a q ≡ false → q.is_out ≡ false
         → is_shelved next.shelf q.hand_out.attempt ≡ true) (λ q h other. h) next.running shelf.out)
-        shelf.each shelf.rising (rw s.found at tells)
+        shelf.each shelf.rising s.sound.lost s.sound.told (rw s.found at tells)
 
     posts : (r : Running) → running_of c a ≡ Some r → job_runs c ≡ true
         → fits c r outcome ≡ true → (delay : Option ℕ)
@@ -164,6 +171,9 @@ steps_keep_by calls maps results failures others c after (Post a outcome) answer
         (record {
           job = counted_keeps c sound.job;
           shelf = λ h. alike_shelf c (told_once c) refl refl refl refl refl (sound.shelf job);
+          lost = planned_still c (told_once c) sound.lost (λ x. refl) refl
+              (counted_more c.told sound.told);
+          told = counted_fits c.told;
         })
     of (Some r) e job (fit, posted) = posts r e job fit (delay_for c a) posted
 
@@ -186,12 +196,16 @@ steps_keep_by calls maps results failures others c after (Release key) answer so
         (record {
           job = counted_keeps next kept;
           shelf = λ h. unshelved_told c next s.attempt u e;
+          lost = planned_still c (told_once next) sound.lost (λ x. refl) refl
+              (counted_more c.told sound.told);
+          told = counted_fits c.told;
         })
     told s u job waits (Some r) e tells =
         let await = awaits_it c s r waits e in
         tells_leave calls maps results failures others next after s.attempt r s.outcome answer
         kept job (posted next s.attempt r kept e)
-        (fits_still c next r s.outcome refl refl await.fit) u.out u.each u.rising tells
+        (fits_still c next r s.outcome refl refl await.fit) u.out u.each u.rising sound.lost
+        sound.told tells
 
     of : (o : Option Shelved) → shelved_of c key ≡ o → job_runs c ≡ true
         → ReleasesOf o c key answer after → IsSoundCore after

@@ -64,6 +64,8 @@ aborted_sound c why sound =
       job = calm_sound c (ended c (jobs.Aborted why)) sound.job refl refl refl
           (λ h. absurd (true≢false (sym h))) (λ h. search (rules, h));
       shelf = λ h. absurd (true≢false (sym h));
+      lost = sound.lost;
+      told = sound.told;
     }
 
 -- ---- a task
@@ -215,6 +217,8 @@ takes_keep calls others c after exec (says.Task h) sound (asks, out, below, is) 
     (record {
       job = task_sound c exec h calls others sound.job asks out below;
       shelf = λ r. task_shelf c exec h sound.job asks out (sound.shelf asks.runs);
+      lost = sound.lost;
+      told = sound.told;
     })
 takes_keep calls others c after exec (says.Aborted aborts.Budget) sound (a, asks, o, above, is) =
     subst IsSoundCore (sym is) (aborted_sound c aborts.Budget sound)

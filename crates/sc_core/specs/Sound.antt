@@ -1,5 +1,5 @@
 -- What holds of every core.
-use Rattle.std.specs.Prelude.{ℕ, ◌<◌, ◌≤◌, ◌≡◌, ◌≢◌, ◌⊎◌, List, Bool, true, false, Option, Some, None, All, nat_lt}
+use Rattle.std.specs.Prelude.{ℕ, ◌^◌, ◌<◌, ◌≤◌, ◌≡◌, ◌≢◌, ◌⊎◌, List, Bool, true, false, Option, Some, None, All, nat_lt}
 use Rattle.std.specs.List.{AllPairs, list_any}
 use Rattle.sc_commit.specs.Committing.{is_same}
 use Rattle.sc_dag.specs.DagData.{DagData, no_stage, stage_at}
@@ -10,11 +10,13 @@ use Rattle.sc_dag.specs.Sound.{IsSoundDag, attempts_of, runner_of}
 use Rattle.sc_dag.specs.Submission.{is_map}
 use Rattle.sc_dag.specs.declared.attempts.StageAttempt.{StageAttempt}
 use Rattle.sc_ids.specs.declared.attempts.AttemptId.{AttemptId}
+use Rattle.sc_plan.specs.Orders.{loss_of}
 use Rattle.sc_taskset.specs.Lookups.{task_at}
 use Rattle.sc_taskset.specs.TaskSetData.{TaskData, TaskSetData}
 use Rattle.sc_tracker.specs.TrackerData.{trust_of}
 use Rattle.sc_core.specs.CoreData.{CoreData, is_of, job_runs, result_stage, running_of}
 use Rattle.sc_core.specs.declared.answers.Job.TheVariants as jobs
+use Rattle.sc_core.specs.Losses.{is_due_after}
 use Rattle.sc_core.specs.Posts.{fits}
 use Rattle.sc_core.specs.declared.running.Running.{Running}
 use Rattle.sc_core.specs.declared.running.Shelved.{Shelved}
@@ -103,9 +105,20 @@ pub record IsSoundShelf (c : CoreData) : Type 0 where
   pub each : All (IsShelvedWell c) c.shelf
   pub rising : AllPairs (λ s t. s.key < t.key) c.shelf
 
+-- ---- what was told
+
+-- who was told lost was planned to be, and as many reports were told as come before that
+abbrev pub AreLostAsPlanned : CoreData → Type 0
+AreLostAsPlanned c =
+    (exec : ℕ) → (trust_of c.dag.tracker exec).lost ≡ true
+    → is_due_after (loss_of c.plan exec) c.told ≡ true
+
 -- ---- every core
 
 pub record IsSoundCore (c : CoreData) : Type 0 where
   pub job : IsSoundJob c
   -- after the job's end nothing is told any more
   pub shelf : job_runs c ≡ true → IsSoundShelf c
+  pub lost : AreLostAsPlanned c
+  -- the count of what was told is within its type
+  pub told : c.told < 2 ^ 64
