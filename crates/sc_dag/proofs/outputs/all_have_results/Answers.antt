@@ -1,19 +1,15 @@
-use Rattle.std.proofs.Common.{rules, tests, ap, arith, refl, ◌∙◌}
+use Rattle.std.proofs.Common.{ℕ, Bool, false, rules, tests, ap, arith, refl, ◌∙◌}
 use Rattle.std.specs.List.{list_all}
 use Rattle.std.proofs.lemmas.Iterator.{YieldsList-from_range}
 use Rattle.std.proofs.lemmas.Iterator.Search.{all_from_yields_List}
-use Rattle.sc_base.specs.Lists.{numbers_below}
-use Rattle.sc_dag.specs.Outputs.{is_done_by}
-use Rattle.sc_dag.proofs.NumberLemmas.{range_numbers}
-use Rattle.sc_dag.proofs.outputs.is_complete.Goals as goal
+use Rattle.sc_base.specs.Lists.{at_or}
+use Rattle.sc_tracker.proofs.CountLemmas.{range_numbers}
+use Rattle.sc_dag.proofs.outputs.all_have_results.Goals as goal
 
 pub returns : goal.returns
 returns c =
-    let t = c.args.tracker.now in
-    let stage = c.args.stage.now in
-    let test = is_done_by t stage.target c.args.results.now in
+    let test : ℕ → Bool = λ p. at_or c.args.results.now p false in
     all_from_yields_List test _ _ _ c.all.ensures.ran
-    (YieldsList-from_range 0 c.tasks.result c.tasks.result refl (omega arith))
+    (YieldsList-from_range 0 c.args.tasks c.args.tasks refl (omega arith))
     (λ x b q k. search (rules, tests))
-    ∙ ap (list_all test) (range_numbers 0 c.tasks.result)
-    ∙ ap (λ n. list_all test (numbers_below n)) c.tasks.ensures
+    ∙ ap (list_all test) (range_numbers 0 c.args.tasks)
