@@ -1,5 +1,5 @@
 -- What holds of the stages of every job.
-use Rattle.std.specs.Prelude.{ℕ, ◌-◌, ◌<◌, ◌≤◌, ◌≡◌, ◌≢◌, ◌⊎◌, List, [], Bool, true, false, Option, Some, None, IfSome, All, if◌then◌else◌, length, slice_get, take}
+use Rattle.std.specs.Prelude.{ℕ, ◌-◌, ◌<◌, ◌≤◌, ◌≡◌, ◌≢◌, ◌⊎◌, List, [], true, false, Option, Some, None, IfSome, All, if◌then◌else◌, length, slice_get, take}
 use Rattle.std.specs.Option.{option_map}
 use Rattle.sc_base.specs.Lists.{at_or}
 use Rattle.sc_ids.specs.Graphs.{StageData}

@@ -1,7 +1,4 @@
-use Rattle.std.proofs.Common.{◌≡◌, ◌<◌, ◌≤◌, ap, sym, ◌∙◌, arith, length, set, true, get_or}
-use Rattle.std.proofs.lemmas.Bool.Decides.{nat_tests}
-use Rattle.std.proofs.lemmas.List.Sums.{passes_at_first}
-use Rattle.std.specs.List.{position_or_len}
+use Rattle.std.proofs.Common.{ap, ◌∙◌, arith, length, set}
 use Rattle.sc_taskset.proofs.TableLemmas.{found_at, found_past, place_passes}
 use Rattle.sc_taskset.specs.Rows.{is_row_of}
 use Rattle.sc_taskset.proofs.changes.replace.Goals as goal

@@ -1,4 +1,4 @@
-use Rattle.std.proofs.Common.{◌∙◌, ap, sym, arith, rules, of_calls, ltb}
+use Rattle.std.proofs.Common.{◌∙◌, ap, arith, rules, of_calls, ltb}
 use Rattle.std.proofs.lemmas.List.Sorted.{IsPartitionPoint-from_clause, IsPartitionedBy-ltb}
 use Rattle.sc_taskset.proofs.TableLemmas.{IsParted, get_same, parted_from, rows_rise, sought, unsought}
 use Rattle.sc_taskset.proofs.tables.place_in.Goals.{else-place-rows-via-then-place-rows+else-rows-place, else-place-rows-via-else-place-rows}

@@ -1,4 +1,4 @@
-use Rattle.std.proofs.Common.{◌≡◌, ◌∙◌, List, [], refl, sym, ap, count_by, map, subst}
+use Rattle.std.proofs.Common.{◌∙◌, [], refl, sym, ap, count_by, map, subst}
 use Rattle.std.proofs.lemmas.List.{with_items_is}
 use Rattle.std.specs.List.{position_or_len}
 use Rattle.sc_taskset.specs.Reports.{lost_task}

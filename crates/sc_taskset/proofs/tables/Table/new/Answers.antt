@@ -1,4 +1,4 @@
-use Rattle.std.proofs.Common.{◌≡◌, arith, length, sym, ap, subst}
+use Rattle.std.proofs.Common.{◌≡◌, arith, length, subst}
 use Rattle.sc_taskset.specs.Tables.{IsIndexed}
 use Rattle.sc_taskset.proofs.TableLemmas.{fresh_indexed}
 use Rattle.sc_taskset.proofs.tables.Table.new.Goals as goal

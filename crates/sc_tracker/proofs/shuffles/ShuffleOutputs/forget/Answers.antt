@@ -1,6 +1,6 @@
-use Rattle.std.proofs.Common.{◌≡◌, ◌∙◌, sym, ap, count_by}
+use Rattle.std.proofs.Common.{◌∙◌, sym, ap, count_by}
 use Rattle.std.proofs.lemmas.List.{with_items_is}
-use Rattle.sc_tracker.specs.Outputs.{forgotten, is_here}
+use Rattle.sc_tracker.specs.Outputs.{is_here}
 use Rattle.sc_tracker.proofs.CountLemmas.{none_of_forgotten}
 use Rattle.sc_tracker.proofs.shuffles.ShuffleOutputs.forget.Goals as goal
 
