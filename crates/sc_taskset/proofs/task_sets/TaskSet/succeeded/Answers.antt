@@ -8,7 +8,8 @@ note_duration-requires c =
     let s = c.self.inside in
     rw (c.duration_in-duration.ensures s.failures.items)
     (duration_room
-    (set_of s.rows s.failures.items (in_order s.durations.items) s.is_map s.is_zombie s.limits s.born)
+    (set_of s.rows s.failures.items (in_order s.durations.items) s.is_map s.is_zombie s.limits
+    s.born)
     c.args.partition c.args.nth c.args.now c.self.invariant)
 
 pub invariant_of-self : goal.invariant_of-self
@@ -22,5 +23,6 @@ invariant_of-self c =
       c.duration_in-duration.ensures s.failures.items,
     )
     (held_success
-    (set_of s.rows s.failures.items (in_order s.durations.items) s.is_map s.is_zombie s.limits s.born)
+    (set_of s.rows s.failures.items (in_order s.durations.items) s.is_map s.is_zombie s.limits
+    s.born)
     c.args.partition c.args.nth c.args.now _ c.note_duration.ensures.kept c.self.invariant)
