@@ -177,4 +177,5 @@ pub sound_with :
     → IsSoundState d.tracker (stage_at d s) (f state))
     → IsSoundDag (with_state d s f)
 sound_with d s f keeps sound own =
-    sound_changed d d.tracker s f keeps (ages_same d.tracker) sound sound.tracker (λ shuffle. omega arith) (λ k ne is. is) own
+    sound_changed d d.tracker s f keeps (ages_same d.tracker) sound sound.tracker
+    (λ shuffle. omega arith) (λ k ne is. is) own

@@ -22,7 +22,7 @@ pub fn reserve_one<T>(items: &mut Vec<T>) -> Result<(), AllocError>
 {
     let spare = items.capacity() - items.len();
     match spare.checked_add(1) {
-        Some(more) => items.reserve(more),
+        Some(more) => items.reserve_exact(more),
         None => Err(AllocError),
     }
 }

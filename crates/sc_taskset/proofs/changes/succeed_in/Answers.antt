@@ -9,7 +9,8 @@ pub returns-in-Some : goal.returns-in-Some
 returns-in-Some c = λ failures.
     ap (tasks_of failures) c.replace.ensures
     ∙ task_replaced failures c.args.rows.now c.args.partition c.in-Some.row c.succeeded.result
-    (succeeded_task c.args.nth) (λ t. refl) (sym c.in-Some.is ∙ c.row_of.ensures) c.succeeded.ensures
+    (succeeded_task c.args.nth) (λ t. refl) (sym c.in-Some.is ∙ c.row_of.ensures)
+    c.succeeded.ensures
 
 pub returns-in-None : goal.returns-in-None
 returns-in-None c = λ failures.

@@ -12,7 +12,8 @@ pub note_failure-requires : goal.note_failure-requires
 note_failure-requires c =
     let s = c.self.inside in
     failure_room
-    (set_of s.rows s.failures.items (in_order s.durations.items) s.is_map s.is_zombie s.limits s.born)
+    (set_of s.rows s.failures.items (in_order s.durations.items) s.is_map s.is_zombie s.limits
+    s.born)
     c.args.partition c.args.nth (is_counted c.args.cause && not s.is_zombie) c.fails_in-fails.result
     (c.fails_in-fails.ensures s.failures.items)
     c.self.invariant
@@ -33,7 +34,8 @@ invariant_of-self c =
           counts c.fails_in-fails.result c.self.invariant.sound.rising c.end_in.ensures fails,
     )
     (held_failed
-    (set_of s.rows s.failures.items (in_order s.durations.items) s.is_map s.is_zombie s.limits s.born)
+    (set_of s.rows s.failures.items (in_order s.durations.items) s.is_map s.is_zombie s.limits
+    s.born)
     c.args.partition c.args.nth counts c.fails_in-fails.result fails c.self.invariant)
 
 pub returns-clause-state : goal.returns-clause-state

@@ -20,6 +20,7 @@ invariant_of-self-2 c =
       c.in_ok-hand_in.ensures.ok s.failures.items,
     )
     (held_handed
-    (set_of s.rows s.failures.items (in_order s.durations.items) s.is_map s.is_zombie s.limits s.born)
+    (set_of s.rows s.failures.items (in_order s.durations.items) s.is_map s.is_zombie s.limits
+    s.born)
     c.args.partition c.args.exec c.args.now _ _ (rw (← c.self.view_is) at c.requires)
     c.in_ok-reserve_one.ensures.ok c.in_ok-reserve_one-2.ensures.ok c.self.invariant)

@@ -9,8 +9,8 @@ pub returns-in_err-row : goal.returns-in_err-row
 returns-in_err-row c =
     let s = c.self.inside in
     rw (c.from_residual.ensures, ← c.self.view_is)
-    (offers_nothing (set_of s.rows s.failures.items (in_order s.durations.items) s.is_map s.is_zombie
-    s.limits s.born) c.args.exec
+    (offers_nothing (set_of s.rows s.failures.items (in_order s.durations.items) s.is_map
+    s.is_zombie s.limits s.born) c.args.exec
     (sym (c.offered.ensures s.failures.items)
     ∙ ap (option_map (task_of s.failures.items)) (c.in_err-row.was)))
 
