@@ -2,10 +2,10 @@
 use Rattle.std.specs.Prelude.{ℕ, ◌≡◌, ◌⊎◌, refl}
 use Rattle.std.specs.Coded.{Coded, code_by, coded×, coded⊎, coded_ℕ}
 use mathlib.Core.Logic.{inl, inr}
-use Rattle.sc_ids.specs.contracts.blocks.Loc.{the_row as loc}
+use Rattle.sc_ids.specs.contracts.blocks.Loc.{the_row as loc_row}
 use Rattle.sc_ids.specs.declared.blocks.Loc.{Loc}
 use Rattle.sc_net.specs.Tasks.{TaskData, task_code}
-use Rattle.sc_net.specs.contracts.findings.Finding.{the_row as finding}
+use Rattle.sc_net.specs.contracts.findings.Finding.{the_row as finding_row}
 use Rattle.sc_net.specs.declared.findings.Finding.{Finding}
 use Rattle.sc_task.specs.declared.attempts.Attempt.{Attempt}
 use Rattle.sc_task.specs.declared.attempts.Attempt.TheVariants as attempts
@@ -61,5 +61,5 @@ abbrev pub attempt_code : Coded AttemptData
 attempt_code =
     code_by AttemptParts
     (coded⊎ (coded× task_code coded_ℕ)
-    (coded⊎ task_code (coded⊎ (coded× task_code loc.coded) (coded× task_code finding.coded))))
+    (coded⊎ task_code (coded⊎ (coded× task_code loc_row.coded) (coded× task_code finding_row.coded))))
     attempt_parts attempt_from attempt_from-parts

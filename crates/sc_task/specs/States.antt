@@ -3,7 +3,7 @@ use Rattle.std.specs.Prelude.{ℕ, ◌≡◌, ◌++◌, false, List, Option, Som
 use Rattle.std.specs.Coded.{Coded, code_by, coded×, coded_ℕ}
 use Rattle.std.specs.List.{AllZip}
 use Rattle.sc_value.specs.Datum.{Datum}
-use Rattle.sc_ids.specs.contracts.blocks.Loc.{the_row as loc}
+use Rattle.sc_ids.specs.contracts.blocks.Loc.{the_row as loc_row}
 use Rattle.sc_ids.specs.declared.blocks.BlockId.{BlockId}
 use Rattle.sc_ids.specs.declared.blocks.Loc.{Loc}
 use Rattle.sc_lineage.specs.ScriptData.{WorkData}
@@ -21,10 +21,6 @@ pub record AssignedData : Type 0 where
   -- how many blocks it has read
   pub got : ℕ
 
--- an attempt that has read all
-pub record ReadyData : Type 0 where
-  pub task : TaskData
-
 -- an attempt that has computed what it is to compute
 pub record ComputedData : Type 0 where
   pub task : TaskData
@@ -38,9 +34,6 @@ pub record StoredData : Type 0 where
 abbrev pub assigned_data : TaskData → ℕ → AssignedData
 assigned_data task got = record { task = task; got = got }
 
-abbrev pub ready_data : TaskData → ReadyData
-ready_data task = record { task = task }
-
 abbrev pub computed_data : TaskData → ComputedData
 computed_data task = record { task = task }
 
@@ -53,15 +46,12 @@ assigned_code =
     code_by (TaskData × ℕ) (coded× task_code coded_ℕ)
     (λ a. (a.task, a.got)) (λ p. assigned_data p.0 p.1) (λ _. refl)
 
-abbrev pub ready_code : Coded ReadyData
-ready_code = code_by TaskData task_code (λ r. r.task) ready_data (λ _. refl)
-
 abbrev pub computed_code : Coded ComputedData
 computed_code = code_by TaskData task_code (λ c. c.task) computed_data (λ _. refl)
 
 abbrev pub stored_code : Coded StoredData
 stored_code =
-    code_by (TaskData × Loc) (coded× task_code loc.coded)
+    code_by (TaskData × Loc) (coded× task_code loc_row.coded)
     (λ s. (s.task, s.loc)) (λ p. stored_data p.0 p.1) (λ _. refl)
 
 -- outputs are those of blocks, in order

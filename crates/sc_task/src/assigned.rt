@@ -1,17 +1,22 @@
 //! Attempts that read.
 #![tactic(auto)]
 
-ghost use Rattle.std.specs.Prelude.{◌≡◌, ◌+◌, IfErr, IfOk};
+ghost use Rattle.std.specs.Prelude.{◌≡◌, ◌<◌, ◌+◌, IfErr, IfOk, Some, slice_get};
+ghost use Rattle.sc_net.specs.Reports.{WasGiven, loc_at, report_data};
+ghost use Rattle.sc_net.specs.Tasks.{blocks_of_task};
+ghost use Rattle.sc_net.specs.declared.findings.Finding.{Finding};
 ghost use Rattle.sc_task.specs.Nexts.{FetchesFrom, LaySomewhere, Misses, next_of};
-ghost use Rattle.sc_task.specs.States.{assigned_data, ready_data};
-ghost use Rattle.sc_task.specs.Steps.{Reads};
+ghost use Rattle.sc_task.specs.States.{assigned_data};
+ghost use Rattle.sc_task.specs.Steps.{Computes, Reads};
 ghost use Rattle.sc_task.specs.declared.next.Next.{Next};
+ghost use Rattle.sc_tracker.specs.declared.outputs.Location.{Location};
 
+use crate::computing::left_by;
 use crate::cursors::Cursor;
+use crate::leaving::did;
 use crate::next::Next;
-use crate::ready::Ready;
-use crate::took::Took;
-use sc_ids::{BlockId, Loc};
+use crate::took::{Did, Took};
+use sc_ids::{ExecId, Generation};
 use sc_net::{Finding, Report, Task};
 use sc_shuffle::MapOutput;
 use sc_store::{Block, FetchAnswer, Store};
@@ -87,7 +92,59 @@ impl<W: Naming> Assigned<W> {
         ensures took { IfOk result (Reads self store.now (next_of self.task self.got)) }
         ensures back { IfErr result (λ failed. failed.value ≡ self) }
     {
-        Err(AllocFailed { value: self })
+        let Next::Fetch { block, loc } = self.next() else {
+            unreachable!();
+        };
+        let answer = match store.fetch(block, loc) {
+            Ok(answer) => answer,
+            Err(_) => return Err(AllocFailed { value: self }),
+        };
+        match answer {
+            FetchAnswer::Found(block) => Ok(Took::Next(self.with(block)?)),
+            FetchAnswer::Gone { wanted, found } => Ok(Took::Gone(self.gone(loc.exec, wanted, found))),
+            FetchAnswer::Absent => Ok(Took::Absent { state: self, loc }),
+        }
+    }
+
+    /// Reports that the store of the next block is past the generation of its location.
+    fn gone(self, exec: ExecId, wanted: Generation, found: Generation) -> Report<W>
+        requires given { WasGiven self.task (Location.Here (loc_at exec wanted)) }
+        requires past { wanted < found }
+        ensures { result ≡ report_data self.task (Finding.Gone exec wanted found) }
+    {
+        let Assigned { task, .. } = self;
+        let finding = Finding::Gone {
+            exec,
+            wanted,
+            found,
+        };
+        Report::new(task, finding)
+    }
+
+    /// The attempt that has read one more block. A refused call changes nothing and hands it back.
+    fn with(self, block: Block<W>) -> Result<Assigned<W>, AllocFailed<Assigned<W>>>
+        requires next { slice_get (blocks_of_task self.task) self.got ≡ Some block.id }
+        ensures more { IfOk result (λ a. a ≡ assigned_data self.task (self.got + 1)) }
+        ensures back { IfErr result (λ failed. failed.value ≡ self) }
+    {
+        let Assigned {
+            task,
+            mut got,
+            cursor,
+        } = self;
+        let (_, output) = block.into_parts();
+        match got.push(output) {
+            Ok(()) => {
+                let cursor = match cursor {
+                    Some(cursor) => cursor.next(&task),
+                    None => None,
+                };
+                Ok(Assigned { task, got, cursor })
+            }
+            Err(_) => Err(AllocFailed {
+                value: Assigned { task, got, cursor },
+            }),
+        }
     }
 
     /// Reports that the next block had no location.
@@ -104,12 +161,23 @@ impl<W: Naming> Assigned<W> {
         }
     }
 
-    /// All is read.
-    pub fn ready(self) -> Ready<W>
+    /// Computes what the task is to compute from what was read, which is all, unless the fault plan
+    /// fails the attempt. A refused call hands the attempt back.
+    pub fn compute(self, alloc: Global) -> Result<Did<W>, AllocFailed<Assigned<W>>>
         requires next { next_of self.task self.got ≡ Next.Complete }
-        ensures { result ≡ ready_data self.task }
+        ensures did { IfOk result (Computes W.work self.task) }
+        ensures back { IfErr result (λ failed. failed.value ≡ self) }
     {
-        let Assigned { task, got, .. } = self;
-        Ready::new(task, got)
+        if self.task.is_planned() {
+            let Assigned { task, .. } = self;
+            return Ok(Did::Failed(Report::new(task, Finding::Planned)));
+        }
+        match left_by(alloc, &self.task, self.got.as_slice()) {
+            Ok(left) => {
+                let Assigned { task, .. } = self;
+                Ok(did(task, left))
+            }
+            Err(_) => Err(AllocFailed { value: self }),
+        }
     }
 }

@@ -6,6 +6,7 @@ ghost use Rattle.sc_columns.specs.declared.rows.Rows.{Rows};
 ghost use Rattle.sc_net.specs.Reports.{IsResultOf, loc_at, report_data};
 ghost use Rattle.sc_net.specs.Tasks.{block_of_task, is_map_task, is_planned};
 ghost use Rattle.sc_net.specs.declared.findings.Finding.{Finding};
+ghost use Rattle.sc_store.specs.Storing.{Puts};
 ghost use Rattle.sc_task.specs.States.{computed_data, stored_data};
 ghost use Rattle.sc_task.specs.Steps.{PutsOwn};
 ghost use Rattle.sc_value.specs.Datum.{Datum};
@@ -16,7 +17,7 @@ use crate::stored::Stored;
 use sc_columns::Rows;
 use sc_ids::Loc;
 use sc_net::{Finding, Report, Task};
-use sc_store::{Block, Store};
+use sc_store::{Block, Receipt, Store};
 use sc_work::Naming;
 use std::alloc::{AllocError, AllocFailed};
 use std::marker::Model;
@@ -80,7 +81,17 @@ impl<W: Naming> Computed<W> {
         ensures refused { OnErr result (store.new ≡ store.old) }
         ensures back { IfErr result (λ failed. failed.value ≡ self) }
     {
-        Err(AllocFailed { value: self })
+        let Computed { task, made } = self;
+        let Made::Block(block) = made else {
+            unreachable!();
+        };
+        let exec = store.exec();
+        match put_share(store, &block) {
+            Ok(Receipt { generation }) => Ok(Stored::new(task, Loc { exec, generation })),
+            Err(_) => Err(AllocFailed {
+                value: Computed::of_block(task, block),
+            }),
+        }
     }
 
     /// Reports the rows of a result.
@@ -94,4 +105,13 @@ impl<W: Naming> Computed<W> {
             Made::Block(_) => unreachable!(),
         }
     }
+}
+
+/// Puts a share of a block into a store. A refused call changes nothing.
+fn put_share<W: Naming>(store: &mut Store<W>, block: &Block<W>) -> Result<Receipt, AllocError>
+    ensures receipt { IfOk result (λ r. r.generation ≡ store.old.generation) }
+    ensures puts { OnOk result (Puts store.old block.now store.new) }
+    ensures refused { OnErr result (store.new ≡ store.old) }
+{
+    store.put(block.share()?)
 }

@@ -1,9 +1,9 @@
 //! One attempt of a task, as states that are types.
 //!
 //! [`assign`] makes an [`Assigned`] of a task. It says what it is to read next ([`Next`]), and each
-//! block that it reads makes it the next one ([`Took`]), or ends in a report. Once all is read it is
-//! [`Ready`], computes ([`Did`]), and is [`Computed`]: a map task's block is put into a store, which
-//! makes it [`Stored`], and a result is reported at once. Each step takes its state and answers the
+//! block that it reads makes it the next one ([`Took`]), or ends in a report. Once all is read it
+//! computes ([`Did`]), and is [`Computed`]: a map task's block is put into a store, which makes it
+//! [`Stored`], and a result is reported at once. Each step takes its state and answers the
 //! next one or a report, so none can come twice or in another order; a step that wants memory hands
 //! its state back. [`Attempt`] holds an attempt in any of the states between which it can rest.
 //!
@@ -18,10 +18,11 @@
 mod assigned;
 mod attempts;
 mod computed;
+mod computing;
 mod cursors;
+mod leaving;
 mod made;
 mod next;
-mod ready;
 mod stored;
 mod took;
 
@@ -29,6 +30,5 @@ pub use assigned::{Assigned, assign};
 pub use attempts::Attempt;
 pub use computed::Computed;
 pub use next::Next;
-pub use ready::Ready;
 pub use stored::Stored;
 pub use took::{Did, Took};
