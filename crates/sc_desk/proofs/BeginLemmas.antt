@@ -57,7 +57,10 @@ opened_alike work limits job last x y is fits sound a b =
 
 -- ---- nothing is there
 
-nothing_at : (n p : ℕ) → is_some (at_or (replicate n (None {A = List Datum})) p None) ≡ false
+abbrev no_rows : Option (List Datum)
+no_rows = None
+
+nothing_at : (n p : ℕ) → is_some (at_or (replicate n no_rows) p None) ≡ false
 nothing_at zero p = refl
 nothing_at (suc n) zero = refl
 nothing_at (suc n) (suc p) = nothing_at n p
@@ -68,11 +71,11 @@ false_at (suc n) zero = refl
 false_at (suc n) (suc p) = false_at n p
 
 none_of : (work : WorkData) (job : JobData) (n p : ℕ)
-    → IfSome (at_or (replicate n (None {A = List Datum})) p None) (IsResult work job p)
+    → IfSome (at_or (replicate n no_rows) p None) (IsResult work job p)
 none_of work job n p = by n p
   where
     by : (n q : ℕ)
-        → IfSome (at_or (replicate n (None {A = List Datum})) q None) (IsResult work job p)
+        → IfSome (at_or (replicate n no_rows) q None) (IsResult work job p)
     by zero q = tt
     by (suc n) zero = tt
     by (suc n) (suc q) = by n q

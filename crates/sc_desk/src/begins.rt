@@ -120,7 +120,7 @@ fn journal_of<W: Naming>(
 
 /// What the core before keeps, where there is one.
 fn are_sound(last: Option<&Core>)
-    ensures { IfSome (option_map (λ l. l.now) last) IsSoundCore }
+    ensures { IfSome (option_map (λ l. l.now) last.entry) IsSoundCore }
 {
     if let Some(core) = last {
         core.is_sound();

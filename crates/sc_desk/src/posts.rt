@@ -101,7 +101,8 @@ fn is_of(running: &Running, attempt: AttemptId) -> bool
 
 /// Whether a task is the one that was given to a running attempt, where there is one.
 fn is_given_to<W: Naming>(running: Option<&Running>, job: &Job<W>, task: &Task<W>) -> bool
-    ensures { IsTrue result ↔ IsGivenOf (option_map (λ r. r.now) running) job.now task.now }
+    ensures { IsTrue result ↔ IsGivenOf (option_map (λ r. r.now) running.entry) job.now
+        task.now }
 {
     match running {
         Some(running) => task.is_of(job, &running.hand_out),
