@@ -41,11 +41,13 @@ impl<W: Naming> Desk<W> {
         ensures back { IfErr result (λ failed. IsHandedBack W.work carried goal failed.value) }
     {
         match open_job(alloc, &work, &mut carried, last, goal) {
-            Ok(Opened {
-                job,
-                journal,
-                results,
-            }) => Ok(Desk {
+            Ok(
+                Opened {
+                    job,
+                    journal,
+                    results,
+                },
+            ) => Ok(Desk {
                 work,
                 job,
                 carried,
