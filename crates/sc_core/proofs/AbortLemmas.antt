@@ -21,19 +21,22 @@ use Rattle.sc_dag.specs.Outputs.{is_complete}
 use Rattle.sc_dag.specs.Reports.{after_failed, after_hold, is_of_newest, map_success_of, reaches_limit_in, result_success_of, set_of}
 use Rattle.sc_dag.specs.declared.reports.Success.{Success}
 use Rattle.sc_dag.specs.declared.reports.Success.TheVariants as successes
-use Rattle.sc_core.specs.CoreData.{CoreData, job_runs, running_of, taken_off, with_dag}
-use Rattle.sc_core.specs.Laws.{HasFailedOften, StepsKeepSound, TaskLimitsAreReached}
-use Rattle.sc_core.specs.Posts.{PostsIf, PostsOf}
-use Rattle.sc_core.specs.Sound.{IsSoundCore}
-use Rattle.sc_core.specs.Tells.{FailsBy, FailsOrAborts, IsGone, Misses, MissesIf, Tells, TellsFailureIf, after_failure, is_zombie_in, success_answer}
+use Rattle.sc_core.specs.CoreData.{CoreData, job_runs, running_of, shelved_if, shelved_of, taken_off, with_dag, without_shelved}
+use Rattle.sc_core.specs.Laws.{HasFailedAt, HasFailedOften, StepsKeepSound, TaskLimitsAreReached}
+use Rattle.sc_core.specs.Posts.{PostsBy, PostsIf, PostsOf, comes_twice, delay_for}
+use Rattle.sc_tracker.specs.Trust.{are_lost}
+use Rattle.sc_core.specs.Losses.{LosesOrAborts, without_executor}
+use Rattle.sc_core.specs.Releases.{ReleasesIf, ReleasesOf}
+use Rattle.sc_core.specs.Sound.{IsSoundCore, IsSoundJob}
+use Rattle.sc_core.specs.Tells.{FailsBy, FailsOrAborts, IsGone, Misses, MissesIf, Tells, TellsFailureIf, TellsTo, after_failure, is_zombie_in, success_answer}
 use Rattle.sc_core.specs.declared.answers.Abort.TheVariants.{TaskLimit}
 use Rattle.sc_core.specs.declared.answers.Answer.TheVariants as says
-use Rattle.sc_core.specs.declared.events.Event.TheVariants.{Post}
+use Rattle.sc_core.specs.declared.events.Event.TheVariants.{Post, Release, Take, TellLost}
 use Rattle.sc_core.specs.declared.events.Outcome.{Outcome}
 use Rattle.sc_core.specs.declared.events.Outcome.TheVariants as outcomes
 use Rattle.sc_core.specs.declared.running.Running.{Running}
+use Rattle.sc_core.specs.declared.running.Shelved.{Shelved}
 use Rattle.sc_core.proofs.LookupLemmas.{set_holds}
-use Rattle.sc_core.proofs.StepLemmas.{posted}
 use Rattle.sc_core.proofs.LimitLemmas.{has_as_many, held_full, is_full, last_counts, own_set}
 
 -- ---- a job that is aborted for them
@@ -107,7 +110,7 @@ failure_full c a cause e = by (holds a (committer_at c.committers a.partition))
     by false = full
 
 -- so its failures are as many as are allowed, and no two of one attempt
-full_fails : (c : CoreData) (a : AttemptId) (p : ℕ) → IsSoundCore c
+full_fails : (c : CoreData) (a : AttemptId) (p : ℕ) → IsSoundJob c
     → is_full (set_of c.dag a) p ≡ true → HasFailedOften (set_of c.dag a) p
 full_fails c a p sound full = by (set_of c.dag a) refl full
   where
@@ -132,61 +135,101 @@ full_fails c a p sound full = by (set_of c.dag a) refl full
     by None e h = absurd (true≢false (sym h))
     by (Some set) e h = task set e (task_at p set.tasks) refl h
 
+-- what is told ends the job for the failures of a partition only where there are as many
+tells_limit :
+    (m after : CoreData) (r : Running) (outcome : Outcome) (stage number p : ℕ) → IsSoundCore after
+    → Tells m r outcome (says.Aborted (TaskLimit stage number p)) after
+    → HasFailedAt after.dag stage number p
+tells_limit m after r (outcomes.Map loc) stage number p sound (next, up, e, is) =
+    absurd (no_success (map_success_of m.dag r.hand_out.attempt loc r.hand_out.epoch)
+    stage number p e)
+tells_limit m after r outcomes.Result stage number p sound (e, is) =
+    absurd (no_success (result_success_of m.dag r.hand_out.attempt) stage number p e)
+tells_limit m after r (outcomes.Failed cause) stage number p sound told =
+    by (reaches_limit_in (set_of m.dag a) a cause) refl told
+  where
+    a : AttemptId
+    a = r.hand_out.attempt
+
+    by : (b : Bool) → reaches_limit_in (set_of m.dag a) a cause ≡ b
+        → TellsFailureIf b m a cause (says.Aborted (TaskLimit stage number p)) after
+        → HasFailedAt after.dag stage number p
+    by true e (told, is) =
+        let s : stage ≡ a.stage = search (rules, told) in
+        let k : number ≡ a.stage_attempt = search (rules, told) in
+        let q : p ≡ a.partition = search (rules, told) in
+        rw (s, k, q)
+        (full_fails after a a.partition sound.job
+        (ap (λ (x : CoreData). is_full (set_of x.dag a) a.partition) is
+        ∙ failure_full m a cause e))
+    by false e h =
+        absurd (no_cause (after_failure m a cause) after a cause (is_zombie_in (set_of m.dag a))
+        stage number p h)
+
 pub task_limits_by : StepsKeepSound → TaskLimitsAreReached
-task_limits_by steps c after a outcome stage number p sound step =
-    by (job_runs c) step
+task_limits_by steps c after (Take exec) stage number p sound step = absurd step
+task_limits_by steps c after (Post a outcome) stage number p sound step = by (job_runs c) step
   where
     after_sound : IsSoundCore after
     after_sound =
         steps c after (Post a outcome) (says.Aborted (TaskLimit stage number p)) sound step
 
-    Reached : Type 0
-    Reached =
-        (stage ≡ a.stage) × (number ≡ a.stage_attempt) × (p ≡ a.partition)
-        × HasFailedOften (set_of after.dag a) p
+    tells : (m : CoreData) (o : Option Running)
+        → TellsTo o m a outcome (says.Aborted (TaskLimit stage number p)) after
+        → HasFailedAt after.dag stage number p
+    tells m None (told, is) = absurd (search (rules, told))
+    tells m (Some r) told =
+        tells_limit (taken_off m a) after r outcome stage number p after_sound told
 
-    limit : (b : Bool) (d : CoreData) (cause : FailureCause) → d.dag ≡ c.dag
-        → reaches_limit_in (set_of c.dag a) a cause ≡ b
-        → TellsFailureIf b d a cause (says.Aborted (TaskLimit stage number p)) after → Reached
-    limit true d cause same e (told, is) =
-        let s : stage ≡ a.stage = search (rules, told) in
-        let k : number ≡ a.stage_attempt = search (rules, told) in
-        let q : p ≡ a.partition = search (rules, told) in (
-          s,
-          k,
-          q,
-          subst (λ (n : ℕ). HasFailedOften (set_of after.dag a) n) (sym q)
-              (full_fails after a a.partition after_sound
-              (ap (λ (x : CoreData). is_full (set_of x.dag a) a.partition) is
-              ∙ failure_full d a cause (rw same e))),
-        )
-    limit false d cause same e h =
-        absurd (no_cause (after_failure d a cause) after a cause (is_zombie_in (set_of d.dag a))
-        stage number p h)
+    posts : (delay : Option ℕ)
+        → PostsBy delay c a outcome (says.Aborted (TaskLimit stage number p)) after
+        → HasFailedAt after.dag stage number p
+    posts None told =
+        let next = shelved_if (comes_twice c a) c a outcome 0 in
+        tells next (running_of next a) told
+    posts (Some delay) (told, is) = absurd (search (rules, told))
 
-    tells : (r : Running) → r.hand_out.attempt ≡ a → (outcome : Outcome)
-        → Tells (taken_off c r.hand_out.attempt) r outcome
-        (says.Aborted (TaskLimit stage number p)) after → Reached
-    tells r same (outcomes.Map loc) (next, up, e, is) =
-        absurd (no_success (map_success_of c.dag r.hand_out.attempt loc r.hand_out.epoch)
-        stage number p e)
-    tells r same outcomes.Result (e, is) =
-        absurd (no_success (result_success_of c.dag r.hand_out.attempt) stage number p e)
-    tells r same (outcomes.Failed cause) h =
-        limit (reaches_limit_in (set_of c.dag a) a cause) (taken_off c a) cause refl refl
-        (subst (λ b. TellsFailureIf (reaches_limit_in (set_of c.dag b) b cause) (taken_off c b) b
-        cause (says.Aborted (TaskLimit stage number p)) after) same h)
-
-    of : (o : Option Running) → running_of c a ≡ o
-        → PostsOf o c a outcome (says.Aborted (TaskLimit stage number p)) after → Reached
-    of None e (told, is) = absurd (search (rules, told))
-    of (Some r) e (fit, told) =
-        let same = (posted c a r sound e).attempt in
-        tells r same outcome
-        (subst (λ b. Tells (taken_off c b) r outcome
-        (says.Aborted (TaskLimit stage number p)) after) (sym same) told)
+    of : (o : Option Running)
+        → PostsOf o c a outcome (says.Aborted (TaskLimit stage number p)) after
+        → HasFailedAt after.dag stage number p
+    of None (told, is) = absurd (search (rules, told))
+    of (Some r) (fit, told) = posts (delay_for c a) told
 
     by : (b : Bool) → PostsIf b c a outcome (says.Aborted (TaskLimit stage number p)) after
-        → Reached
+        → HasFailedAt after.dag stage number p
     by false (told, is) = absurd (search (rules, told))
-    by true h = of (running_of c a) refl h
+    by true h = of (running_of c a) h
+task_limits_by steps c after (Release key) stage number p sound step = by (job_runs c) step
+  where
+    next : CoreData
+    next = without_shelved c key
+
+    after_sound : IsSoundCore after
+    after_sound =
+        steps c after (Release key) (says.Aborted (TaskLimit stage number p)) sound step
+
+    late : (s : Shelved) (o : Option Running)
+        → TellsTo o next s.attempt s.outcome (says.Aborted (TaskLimit stage number p)) after
+        → HasFailedAt after.dag stage number p
+    late s None (told, is) = absurd (search (rules, told))
+    late s (Some r) told =
+        tells_limit (taken_off next s.attempt) after r s.outcome stage number p after_sound told
+
+    of : (o : Option Shelved)
+        → ReleasesOf o c key (says.Aborted (TaskLimit stage number p)) after
+        → HasFailedAt after.dag stage number p
+    of None bad = absurd bad
+    of (Some s) told = late s (running_of c s.attempt) told
+
+    by : (b : Bool) → ReleasesIf b c key (says.Aborted (TaskLimit stage number p)) after
+        → HasFailedAt after.dag stage number p
+    by false (told, is) = absurd (search (rules, told))
+    by true h = of (shelved_of c key) h
+task_limits_by steps c after (TellLost exec) stage number p sound (may, step) =
+    by (are_lost (without_executor c exec).dag.tracker.trust) step
+  where
+    by : (b : Bool)
+        → LosesOrAborts b (without_executor c exec) (says.Aborted (TaskLimit stage number p)) after
+        → HasFailedAt after.dag stage number p
+    by true (told, is) = absurd (search (rules, told))
+    by false (told, is) = absurd (search (rules, told))

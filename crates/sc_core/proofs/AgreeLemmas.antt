@@ -14,25 +14,31 @@ use Rattle.sc_dag.specs.Laws.{CallsKeepSound, OthersGoOn, SubmissionsAgree}
 use Rattle.sc_dag.specs.Losses.{after_seen}
 use Rattle.sc_dag.specs.Outputs.{is_complete}
 use Rattle.sc_dag.specs.Reports.{CompletesMap, FailsStage, after_failed, after_map_success, completed, is_finished_short, is_of_newest, map_success_of, reaches_limit_in, set_of, with_failed}
-use Rattle.sc_dag.specs.Sound.{IsSoundDag}
+use Rattle.sc_dag.specs.Sound.{IsSoundDag, runner_of}
 use Rattle.sc_dag.specs.Submission.{is_map, this_stage, waiting_stages}
 use Rattle.sc_dag.specs.declared.reports.Success.{Success}
 use Rattle.sc_dag.specs.declared.reports.Success.TheVariants as successes
 use Rattle.sc_dag.proofs.Tests.{both_left, both_right, clash}
 use Rattle.sc_dag.proofs.Keeping.{completed_sound, with_failed_sound}
-use Rattle.sc_core.specs.CoreData.{CoreData, job_runs, running_of, taken_off, with_dag}
+use Rattle.sc_core.specs.CoreData.{CoreData, has_key, job_runs, running_of, shelved, shelved_if, shelved_of, taken_off, with_dag, without_shelved}
 use Rattle.sc_core.specs.Journals.{Replays}
 use Rattle.sc_core.specs.Laws.{ReplaysAgree, StepsAgree, StepsKeepSound}
-use Rattle.sc_core.specs.Posts.{PostsIf, PostsOf, fits}
-use Rattle.sc_core.specs.Sound.{RunsWell}
-use Rattle.sc_core.specs.Tells.{FailsBy, FailsOrAborts, FollowsUp, IsGone, LooksAgain, Misses, MissesIf, Tells, TellsFailure, TellsFailureIf, TellsMap, after_failure, is_zombie_in}
+use Rattle.sc_core.specs.Posts.{PostsBy, PostsIf, PostsOf, TellsNow, comes_twice, delay_for, fits}
+use Rattle.sc_tracker.specs.Trust.{are_lost}
+use Rattle.sc_core.specs.Losses.{LosesOrAborts, without_executor}
+use Rattle.sc_core.specs.Releases.{ReleasesIf, ReleasesOf}
+use Rattle.sc_core.specs.Sound.{IsShelvedWell, IsSoundJob}
+use Rattle.sc_core.specs.Tells.{FailsBy, FailsOrAborts, FollowsUp, IsGone, LooksAgain, Misses, MissesIf, Tells, TellsFailure, TellsFailureIf, TellsMap, TellsTo, after_failure, is_zombie_in}
 use Rattle.sc_core.specs.declared.answers.Answer.{Answer}
-use Rattle.sc_core.specs.declared.events.Event.TheVariants.{Post, Take}
+use Rattle.sc_core.specs.declared.events.Event.TheVariants.{Post, Release, Take, TellLost}
 use Rattle.sc_core.specs.declared.events.Outcome.{Outcome}
 use Rattle.sc_core.specs.declared.events.Outcome.TheVariants as outcomes
 use Rattle.sc_core.specs.declared.running.Running.{Running}
+use Rattle.sc_core.specs.declared.running.Shelved.{Shelved}
+use Rattle.sc_taskset.proofs.FindLemmas.{found_is}
 use Rattle.sc_core.proofs.TakeAgreeLemmas.{takes_agree}
-use Rattle.sc_core.proofs.StepLemmas.{posted}
+use Rattle.sc_core.proofs.StepLemmas.{posted, shelved_runs}
+use Rattle.sc_core.proofs.ShelfLemmas.{awaits_it, fits_still}
 use Rattle.sc_core.proofs.ResultLemmas.{frees}
 
 -- two answers and what they leave are one
@@ -163,41 +169,100 @@ failures_agree calls others one c x y r cause u v sound e f =
 
 -- ---- events
 
+-- what is told of a running attempt
+tells_agree :
+    CallsKeepSound → OthersGoOn → SubmissionsAgree → (m x y : CoreData) (r : Running)
+    (outcome : Outcome) (a b : Answer) → IsSoundDag m.dag
+    → runner_of m.dag r.hand_out.attempt ≡ Some r.exec → fits m r outcome ≡ true
+    → Tells m r outcome a x → Tells m r outcome b y → Same a b x y
+tells_agree calls others one m x y r (outcomes.Map loc) a b sound runs fit e f =
+    let kind : is_map (stage_at m.dag r.hand_out.attempt.stage).target ≡ true =
+    both_left (is_map (stage_at m.dag r.hand_out.attempt.stage).target)
+    (loc.exec == r.exec) fit in
+    let on : (loc.exec == r.exec) ≡ true =
+    both_right (is_map (stage_at m.dag r.hand_out.attempt.stage).target)
+    (loc.exec == r.exec) fit in
+    let exec : loc.exec ≡ r.exec = grind (arith, nat_tests, on) in
+    maps_agree one m x y r loc a b
+    ((calls m.dag sound).2 r.hand_out.attempt loc r.hand_out.epoch m.now kind
+    (runs ∙ ap (λ (e : ℕ). Some e) (sym exec))) e f
+tells_agree calls others one m x y r outcomes.Result a b sound runs fit (e, is) (f, is') =
+    (e ∙ sym f, is ∙ sym is')
+tells_agree calls others one m x y r (outcomes.Failed cause) a b sound runs fit e f =
+    failures_agree calls others one m x y r cause a b sound e f
+
 pub steps_agree_by : CallsKeepSound → OthersGoOn → SubmissionsAgree → StepsAgree
 steps_agree_by calls others one c (Take exec) a b x y sound s t = takes_agree c exec a b x y s t
-steps_agree_by calls others one c (Post at outcome) a b x y sound s t = by (job_runs c) s t
+steps_agree_by calls others one c (Post at outcome) a b x y sound s t =
+    by (job_runs c) refl s t
   where
-    tells : (r : Running) → RunsWell c r → (outcome : Outcome) → fits c r outcome ≡ true
-        → Tells (taken_off c r.hand_out.attempt) r outcome a x
-        → Tells (taken_off c r.hand_out.attempt) r outcome b y → Same a b x y
-    tells r well (outcomes.Map loc) fit e f =
-        let kind : is_map (stage_at c.dag r.hand_out.attempt.stage).target ≡ true =
-        both_left (is_map (stage_at c.dag r.hand_out.attempt.stage).target)
-        (loc.exec == r.exec) fit in
-        let on : (loc.exec == r.exec) ≡ true =
-        both_right (is_map (stage_at c.dag r.hand_out.attempt.stage).target)
-        (loc.exec == r.exec) fit in
-        let exec : loc.exec ≡ r.exec = grind (arith, nat_tests, on) in
-        maps_agree one (taken_off c r.hand_out.attempt) x y r loc a b
-        ((calls c.dag sound.dag).2 r.hand_out.attempt loc r.hand_out.epoch c.now kind
-        (well.in_set ∙ ap (λ (e : ℕ). Some e) (sym exec))) e f
-    tells r well outcomes.Result fit (e, is) (f, is') = (e ∙ sym f, is ∙ sym is')
-    tells r well (outcomes.Failed cause) fit e f =
-        failures_agree calls others one (taken_off c r.hand_out.attempt) x y r cause a b sound.dag
-        e f
+    told : (m : CoreData) (r : Running) → running_of m at ≡ Some r → IsSoundJob m
+        → fits m r outcome ≡ true → TellsNow m at outcome a x → TellsNow m at outcome b y
+        → Same a b x y
+    told m r e is fit u v =
+        tells_agree calls others one (taken_off m at) x y r outcome a b is.dag
+        (posted m at r is e).well.in_set
+        (fits_still m (taken_off m at) r outcome refl refl fit) (rw e at u) (rw e at v)
 
-    of : (o : Option Running) → running_of c at ≡ o → PostsOf o c at outcome a x
-        → PostsOf o c at outcome b y → Same a b x y
-    of None e (u, is) (v, is') = (u ∙ sym v, is ∙ sym is')
-    of (Some r) e (fit, u) (fit', v) =
-        let p = posted c at r sound e in
-        tells r p.well outcome fit
-        (subst (λ z. Tells (taken_off c z) r outcome a x) (sym p.attempt) u)
-        (subst (λ z. Tells (taken_off c z) r outcome b y) (sym p.attempt) v)
+    tells : (r : Running) → running_of c at ≡ Some r → job_runs c ≡ true
+        → fits c r outcome ≡ true → (twice : Bool)
+        → TellsNow (shelved_if twice c at outcome 0) at outcome a x
+        → TellsNow (shelved_if twice c at outcome 0) at outcome b y → Same a b x y
+    tells r e job fit false u v = told c r e sound.job fit u v
+    tells r e job fit true u v =
+        let s = shelved_runs c at r outcome 0 sound job e fit in
+        told (shelved c at outcome 0) s.one s.found s.sound.job s.fit u v
 
-    by : (z : Bool) → PostsIf z c at outcome a x → PostsIf z c at outcome b y → Same a b x y
+    posts : (r : Running) → running_of c at ≡ Some r → job_runs c ≡ true
+        → fits c r outcome ≡ true → (delay : Option ℕ)
+        → PostsBy delay c at outcome a x → PostsBy delay c at outcome b y → Same a b x y
+    posts r e job fit None u v = tells r e job fit (comes_twice c at) u v
+    posts r e job fit (Some delay) (u, is) (v, is') = (u ∙ sym v, is ∙ sym is')
+
+    of : (o : Option Running) → running_of c at ≡ o → job_runs c ≡ true
+        → PostsOf o c at outcome a x → PostsOf o c at outcome b y → Same a b x y
+    of None e job (u, is) (v, is') = (u ∙ sym v, is ∙ sym is')
+    of (Some r) e job (fit, u) (fit', v) = posts r e job fit (delay_for c at) u v
+
+    by : (z : Bool) → job_runs c ≡ z → PostsIf z c at outcome a x → PostsIf z c at outcome b y
+        → Same a b x y
+    by false e (u, is) (v, is') = (u ∙ sym v, is ∙ sym is')
+    by true e u v = of (running_of c at) refl e u v
+steps_agree_by calls others one c (Release key) a b x y sound s t = by (job_runs c) refl s t
+  where
+    next : CoreData
+    next = without_shelved c key
+
+    late : (r : Shelved) → IsShelvedWell c r → (o : Option Running) → running_of c r.attempt ≡ o
+        → TellsTo o next r.attempt r.outcome a x → TellsTo o next r.attempt r.outcome b y → Same a b x y
+    late r well None e (u, is) (v, is') = (u ∙ sym v, is ∙ sym is')
+    late r well (Some q) e u v =
+        let await = awaits_it c r q well e in
+        tells_agree calls others one (taken_off next r.attempt) x y q r.outcome a b sound.job.dag
+        (posted c r.attempt q sound.job e).well.in_set
+        (fits_still c (taken_off next r.attempt) q r.outcome refl refl await.fit) u v
+
+    of : (o : Option Shelved) → shelved_of c key ≡ o → job_runs c ≡ true
+        → ReleasesOf o c key a x → ReleasesOf o c key b y → Same a b x y
+    of None e job u v = absurd u
+    of (Some r) e job u v =
+        late r (found_is (IsShelvedWell c) (has_key key) c.shelf r (sound.shelf job).each e)
+        (running_of c r.attempt) refl u v
+
+    by : (z : Bool) → job_runs c ≡ z → ReleasesIf z c key a x → ReleasesIf z c key b y
+        → Same a b x y
+    by false e (u, is) (v, is') = (u ∙ sym v, is ∙ sym is')
+    by true e u v = of (shelved_of c key) refl e u v
+
+steps_agree_by calls others one c (TellLost exec) a b x y sound (may, s) (may', t) =
+    by (are_lost (without_executor c exec).dag.tracker.trust) s t
+  where
+    next : CoreData
+    next = without_executor c exec
+
+    by : (z : Bool) → LosesOrAborts z next a x → LosesOrAborts z next b y → Same a b x y
+    by true (u, is) (v, is') = (u ∙ sym v, is ∙ sym is')
     by false (u, is) (v, is') = (u ∙ sym v, is ∙ sym is')
-    by true u v = of (running_of c at) refl u v
 
 pub replays_agree_by : StepsKeepSound → StepsAgree → ReplaysAgree
 replays_agree_by keep agree opening x y [] sound e f = e ∙ sym f

@@ -23,7 +23,7 @@ use Rattle.sc_dag.specs.Sound.{IsSoundDag}
 use Rattle.sc_dag.specs.Submission.{is_map}
 use Rattle.sc_dag.proofs.Tests.{both_left, both_right, clash, not_true}
 use Rattle.sc_core.specs.CoreData.{CoreData, ended, is_running_job, job_runs, result_stage, taken_off, with_dag}
-use Rattle.sc_core.specs.Sound.{IsSoundCore}
+use Rattle.sc_core.specs.Sound.{IsSoundJob}
 use Rattle.sc_core.specs.Tells.{FailsBy, FailsOrAborts, IsGone, Misses, MissesIf, TellsFailure, TellsFailureIf, after_failure, is_zombie_in, limit_of, released}
 use Rattle.sc_core.specs.declared.answers.Abort.{Abort}
 use Rattle.sc_core.specs.declared.answers.Abort.TheVariants as aborts
@@ -44,28 +44,27 @@ record Fails (c : CoreData) (a : AttemptId) (m : CoreData) : Type 0 where
   settled : IsSettled m.dag
   under : IsUnderWay m.dag (result_stage c.dag)
   running : m.running ≡ (taken_off c a).running
-  shelf : m.shelf ≡ []
   handed : m.handed ≡ c.handed
   runs : job_runs m ≡ true
 
 -- what it leaves is sound, also where the job is aborted
-fails_sound : (c m : CoreData) (a : AttemptId) → IsSoundCore c → Fails c a m → IsSoundCore m
+fails_sound : (c m : CoreData) (a : AttemptId) → IsSoundJob c → Fails c a m → IsSoundJob m
 fails_sound c m a sound f =
-    told_sound c m a sound f.moves f.running f.shelf f.handed f.sound
+    told_sound c m a sound f.moves f.running f.handed f.sound
     (λ h. goes_with c m f.moves.stages f.settled f.under)
     (λ h. absurd (clash f.runs (ap is_running_job h)))
 
 aborts_sound :
-    (c m : CoreData) (d : DagData) (a : AttemptId) (why : Abort) → IsSoundCore c → Fails c a m
-    → Calm m.dag d → IsSoundDag d → IsSoundCore (ended (with_dag m d) (jobs.Aborted why))
+    (c m : CoreData) (d : DagData) (a : AttemptId) (why : Abort) → IsSoundJob c → Fails c a m
+    → Calm m.dag d → IsSoundDag d → IsSoundJob (ended (with_dag m d) (jobs.Aborted why))
 aborts_sound c m d a why sound f calm is =
     told_sound c (ended (with_dag m d) (jobs.Aborted why)) a sound
-    (moves_then (is_same a) None c.dag m.dag d f.moves calm) f.running refl f.handed is
+    (moves_then (is_same a) None c.dag m.dag d f.moves calm) f.running f.handed is
     (λ h. absurd (true≢false (sym h))) (λ h. search (rules, h))
 
 -- a calm change behind it
 fails_then :
-    (c m : CoreData) (d : DagData) (a : AttemptId) → IsSoundCore c → Fails c a m → Calm m.dag d
+    (c m : CoreData) (d : DagData) (a : AttemptId) → IsSoundJob c → Fails c a m → Calm m.dag d
     → SameResults m.dag d → IsSoundDag d → dag.GoesOn m.dag d → Fails c a (with_dag m d)
 fails_then c m d a sound f calm results is on =
     record {
@@ -78,7 +77,6 @@ fails_then c m d a sound f calm results is on =
           is_map (at_or stages (result_stage c.dag) no_stage).target ≡ false)
           (sym f.moves.stages) sound.result) on f.under;
       running = f.running;
-      shelf = f.shelf;
       handed = f.handed;
       runs = f.runs;
     }
@@ -86,7 +84,7 @@ fails_then c m d a sound f calm results is on =
 -- what every failure leaves
 failure_is :
     CallsKeepSound → OthersGoOn → (c : CoreData) (a : AttemptId) (cause : FailureCause)
-    → IsSoundCore c → job_runs c ≡ true → Fails c a (after_failure (taken_off c a) a cause)
+    → IsSoundJob c → job_runs c ≡ true → Fails c a (after_failure (taken_off c a) a cause)
 failure_is calls others c a cause sound job =
     record {
       moves = moves_then (is_same a) None c.dag failed (released mid a endings.Failed).dag
@@ -98,7 +96,6 @@ failure_is calls others c a cause sound job =
       under = under_kept failed (released mid a endings.Failed).dag (result_stage c.dag)
           free.calm.stages free.results sound.result (free.goes failed_sound on.0) under;
       running = refl;
-      shelf = sound.shelf;
       handed = refl;
       runs = job;
     }
@@ -126,16 +123,16 @@ failure_is calls others c a cause sound job =
 -- where an input is missing
 misses_keep :
     CallsKeepSound → FailuresGoOn → (c m after : CoreData) (a : AttemptId) (answer : Answer)
-    → IsSoundCore c → Fails c a m → Misses m a answer after → IsSoundCore after
+    → IsSoundJob c → Fails c a m → Misses m a answer after → IsSoundJob after
 misses_keep calls failures c m after a answer sound f miss =
     by (is_of_newest m.dag a && not (is_complete m.dag a.stage)) refl miss
   where
     after_verdict : (verdict : Verdict) (d : DagData)
         → (is_of_newest m.dag a && not (is_complete m.dag a.stage)) ≡ true
         → FailsStage m.dag a.stage a.stage_attempt verdict d
-        → FailsOrAborts m a verdict d answer after → IsSoundCore after
+        → FailsOrAborts m a verdict d answer after → IsSoundJob after
     after_verdict verdicts.Limit d e fails (says, is) =
-        subst IsSoundCore (sym is)
+        subst IsSoundJob (sym is)
         (aborts_sound c m d a (aborts.StageLimit a.stage) sound f
         (fails_calm m.dag a.stage a.stage_attempt verdicts.Limit d fails)
         ((calls m.dag f.sound).5 a.stage a.stage_attempt verdicts.Limit d fails))
@@ -146,7 +143,7 @@ misses_keep calls failures c m after a answer sound f miss =
         grind (arith, nat_tests, newest) in
         let lacks : is_complete m.dag a.stage ≡ false =
         not_true (is_complete m.dag a.stage) (both_right (is_of_newest m.dag a) _ e) in
-        subst IsSoundCore (sym is)
+        subst IsSoundJob (sym is)
         (fails_sound c (with_dag m d) a sound
         (fails_then c m d a sound f
         (fails_calm m.dag a.stage a.stage_attempt verdicts.Again d fails)
@@ -156,15 +153,15 @@ misses_keep calls failures c m after a answer sound f miss =
         (subst (λ (n : ℕ). FailsStage m.dag a.stage n verdicts.Again d) number fails))))
 
     by : (b : Bool) → (is_of_newest m.dag a && not (is_complete m.dag a.stage)) ≡ b
-        → MissesIf b m a answer after → IsSoundCore after
+        → MissesIf b m a answer after → IsSoundJob after
     by true e (verdict, d, fails, or) = after_verdict verdict d e fails or
-    by false e (says, is) = subst IsSoundCore (sym is) (fails_sound c m a sound f)
+    by false e (says, is) = subst IsSoundJob (sym is) (fails_sound c m a sound f)
 
 -- what the cause brings about
 causes_keep :
     CallsKeepSound → FailuresGoOn → OthersGoOn → (c m after : CoreData) (a : AttemptId)
-    (cause : FailureCause) (zombie : Bool) (answer : Answer) → IsSoundCore c → Fails c a m
-    → FailsBy cause zombie m a answer after → IsSoundCore after
+    (cause : FailureCause) (zombie : Bool) (answer : Answer) → IsSoundJob c → Fails c a m
+    → FailsBy cause zombie m a answer after → IsSoundJob after
 causes_keep calls failures others c m after a (causes.Gone exec wanted found) zombie answer sound
     f is =
     by (is_newer (slice_get m.dag.tracker.trust exec) found) zombie is
@@ -172,30 +169,30 @@ causes_keep calls failures others c m after a (causes.Gone exec wanted found) zo
     seen : DagData
     seen = after_seen m.dag exec found
 
-    by : (x y : Bool) → IsGone x y m a exec found answer after → IsSoundCore after
+    by : (x y : Bool) → IsGone x y m a exec found answer after → IsSoundJob after
     by true y h =
         misses_keep calls failures c (with_dag m seen) after a answer sound
         (fails_then c m seen a sound f (seen_calm m.dag exec found) (λ s. refl)
         ((calls m.dag f.sound).8 exec found)
         ((others m.dag f.sound f.settled).3 exec found)) h
-    by false true (says, same) = subst IsSoundCore (sym same) (fails_sound c m a sound f)
+    by false true (says, same) = subst IsSoundJob (sym same) (fails_sound c m a sound f)
     by false false h = misses_keep calls failures c m after a answer sound f h
 causes_keep calls failures others c m after a (causes.Metadata last) zombie answer sound f is =
     misses_keep calls failures c m after a answer sound f is
 causes_keep calls failures others c m after a causes.Planned zombie answer sound f (says, is) =
-    subst IsSoundCore (sym is) (fails_sound c m a sound f)
+    subst IsSoundJob (sym is) (fails_sound c m a sound f)
 causes_keep calls failures others c m after a causes.Raised zombie answer sound f (says, is) =
-    subst IsSoundCore (sym is) (fails_sound c m a sound f)
+    subst IsSoundJob (sym is) (fails_sound c m a sound f)
 causes_keep calls failures others c m after a (causes.Device fault) zombie answer sound f
     (says, is) =
-    subst IsSoundCore (sym is) (fails_sound c m a sound f)
+    subst IsSoundJob (sym is) (fails_sound c m a sound f)
 causes_keep calls failures others c m after a causes.Denied zombie answer sound f (says, is) =
-    subst IsSoundCore (sym is) (fails_sound c m a sound f)
+    subst IsSoundJob (sym is) (fails_sound c m a sound f)
 
 pub failure_keeps :
     CallsKeepSound → FailuresGoOn → OthersGoOn → (c after : CoreData) (r : Running)
-    (cause : FailureCause) (answer : Answer) → IsSoundCore c → job_runs c ≡ true
-    → TellsFailure (taken_off c r.hand_out.attempt) r cause answer after → IsSoundCore after
+    (cause : FailureCause) (answer : Answer) → IsSoundJob c → job_runs c ≡ true
+    → TellsFailure (taken_off c r.hand_out.attempt) r cause answer after → IsSoundJob after
 failure_keeps calls failures others c after r cause answer sound job tells =
     by (reaches_limit_in (set_of c.dag a) a cause) tells
   where
@@ -208,9 +205,9 @@ failure_keeps calls failures others c after r cause answer sound job tells =
     is_left : Fails c a left
     is_left = failure_is calls others c a cause sound job
 
-    by : (b : Bool) → TellsFailureIf b (taken_off c a) a cause answer after → IsSoundCore after
+    by : (b : Bool) → TellsFailureIf b (taken_off c a) a cause answer after → IsSoundJob after
     by true (says, is) =
-        subst IsSoundCore (sym is)
+        subst IsSoundJob (sym is)
         (aborts_sound c left left.dag a (limit_of a) sound is_left (still left.dag) is_left.sound)
     by false h =
         causes_keep calls failures others c left after a cause

@@ -1,16 +1,20 @@
 -- What a told report leaves, as far as it tells how much may still happen.
-use Rattle.std.proofs.Common.{◌≡◌, ◌&&◌, not, Bool, true, false, if◌then◌else◌, slice_get, refl, ap, sym, subst, ◌∙◌}
+use Rattle.std.proofs.Common.{◌≡◌, ℕ, zero, suc, ◌&&◌, not, Bool, true, false, if◌then◌else◌, List, [], ◌∷◌, Option, None, slice_get, refl, sym, subst, ◌∙◌}
 use Rattle.sc_ids.specs.declared.attempts.AttemptId.{AttemptId}
 use Rattle.sc_ids.specs.declared.blocks.Loc.{Loc}
 use Rattle.sc_ids.specs.declared.failures.FailureCause.{FailureCause}
 use Rattle.sc_ids.specs.declared.failures.FailureCause.TheVariants as causes
 use Rattle.sc_commit.specs.Committers.{committer_at}
-use Rattle.sc_commit.specs.Committing.{holds}
+use Rattle.sc_commit.specs.Committing.{holds, is_same}
+use Rattle.sc_commit.specs.Committing as commit
+use Rattle.sc_commit.specs.declared.committers.Committer.{Committer}
+use Rattle.sc_ids.specs.Changes.{change_at}
 use Rattle.sc_commit.specs.declared.committers.Ending.{Ending}
 use Rattle.sc_commit.specs.declared.committers.Ending.TheVariants as endings
 use Rattle.sc_taskset.specs.declared.tasks.Verdict.{Verdict}
 use Rattle.sc_taskset.specs.declared.tasks.Verdict.TheVariants as verdicts
 use Rattle.sc_tracker.specs.Trust.{is_newer}
+use Rattle.sc_tracker.specs.TrackerData.{trust_of}
 use Rattle.sc_dag.specs.DagData.{DagData}
 use Rattle.sc_dag.specs.Losses.{after_seen}
 use Rattle.sc_dag.specs.Outputs.{is_complete}
@@ -18,50 +22,150 @@ use Rattle.sc_dag.specs.Reports.{FailsStage, after_failed, after_hold, after_map
 use Rattle.sc_dag.specs.Submission.{this_stage}
 use Rattle.sc_dag.specs.declared.reports.Success.{Success}
 use Rattle.sc_dag.specs.declared.reports.Success.TheVariants as successes
-use Rattle.sc_core.specs.CoreData.{CoreData, with_dag}
-use Rattle.sc_core.specs.Tells.{FailsBy, FailsOrAborts, FollowsUp, IsGone, LooksAgain, Misses, MissesIf, Tells, TellsFailure, TellsFailureIf, TellsMap, TellsResult, after_failure, after_result, done_if, is_zombie_in, released, with_result_of}
+use Rattle.sc_core.specs.CoreData.{CoreData, ended, is_running_job, job_runs, with_dag}
+use Rattle.sc_core.specs.Posts.{is_save}
+use Rattle.sc_core.specs.Sound.{was_given}
+use Rattle.sc_core.specs.Tells.{FailsBy, FailsOrAborts, FollowsUp, IsGone, LooksAgain, Misses, MissesIf, Tells, TellsFailure, TellsFailureIf, TellsMap, TellsResult, after_failure, after_result, done_if, is_zombie_in, limit_of, released, with_result_of}
+use Rattle.sc_core.specs.declared.answers.Abort.TheVariants.{StageLimit}
 use Rattle.sc_core.specs.declared.answers.Answer.{Answer}
+use Rattle.sc_core.specs.declared.answers.Job.{Job}
+use Rattle.sc_core.specs.declared.answers.Job.TheVariants as jobs
 use Rattle.sc_core.specs.declared.events.Outcome.{Outcome}
 use Rattle.sc_core.specs.declared.events.Outcome.TheVariants as outcomes
 use Rattle.sc_core.specs.declared.running.Running.{Running}
 use Rattle.sc_core.proofs.StageCallLemmas.{completes_calm, fails_calm, submitted_calm}
-use Rattle.sc_core.proofs.TaskCallLemmas.{map_moves, result_moves, seen_calm}
+use Rattle.sc_core.proofs.TaskCallLemmas.{failed_moves, hold_free, map_moves, result_moves, seen_calm}
+use Rattle.sc_core.proofs.MoveLemmas.{Calm, Moves, moves_then, still}
+use Rattle.sc_core.proofs.SetLemmas.{nothing}
+use Rattle.sc_dag.proofs.Tests.{clash}
 
 -- What a told report leaves, as far as it may run: the limits, what was handed out, and what runs.
 pub record Left (c after : CoreData) : Type 0 where
   pub limits : after.dag.limits ≡ c.dag.limits
   pub handed : after.handed ≡ c.handed
   pub running : after.running ≡ c.running
+  -- what is to be told later is dropped with the job's end alone
+  pub shelf : job_runs after ≡ true → after.shelf ≡ c.shelf
+  pub next_key : after.next_key ≡ c.next_key
+  pub stages : after.dag.stages ≡ c.dag.stages
+  pub saves : is_save after.committers ≡ is_save c.committers
+  -- what was handed out stays so
+  pub given : (b : AttemptId) → was_given c.dag b ≡ true → was_given after.dag b ≡ true
+  pub plan : after.plan ≡ c.plan
+  pub told : after.told ≡ c.told
+  -- nobody is told lost
+  pub lost : (e : ℕ) → (trust_of after.dag.tracker e).lost ≡ (trust_of c.dag.tracker e).lost
+  -- a job that has ended doesn't run again
+  pub runs : job_runs after ≡ true → job_runs c ≡ true
 
-left_then : (a b c : CoreData) → Left a b → Left b c → Left a c
+pub left_then : (a b c : CoreData) → Left a b → Left b c → Left a c
 left_then a b c h k =
     record {
       limits = k.limits ∙ h.limits;
       handed = k.handed ∙ h.handed;
       running = k.running ∙ h.running;
+      shelf = λ r. k.shelf r ∙ h.shelf (k.runs r);
+      next_key = k.next_key ∙ h.next_key;
+      stages = k.stages ∙ h.stages;
+      saves = k.saves ∙ h.saves;
+      given = λ d g. k.given d (h.given d g);
+      plan = k.plan ∙ h.plan;
+      told = k.told ∙ h.told;
+      lost = λ e. k.lost e ∙ h.lost e;
+      runs = λ r. h.runs (k.runs r);
     }
 
-left_dag : (c : CoreData) (d : DagData) → d.limits ≡ c.dag.limits → Left c (with_dag c d)
-left_dag c d limits = record { limits = limits; handed = refl; running = refl }
-
-released_left : (c : CoreData) (a : AttemptId) (how : Ending) → Left c (released c a how)
-released_left c a how =
+-- other stages, in which other attempts run
+left_dag :
+    (test : AttemptId → Bool) (new : Option ℕ) (c : CoreData) (d : DagData)
+    → Moves test new c.dag d → Left c (with_dag c d)
+left_dag test new c d moves =
     record {
-      limits = by (holds a (committer_at c.committers a.partition));
+      limits = moves.limits;
       handed = refl;
       running = refl;
+      shelf = λ r. refl;
+      next_key = refl;
+      stages = moves.stages;
+      saves = refl;
+      given = moves.given;
+      plan = refl;
+      told = refl;
+      lost = moves.lost;
+      runs = λ r. r;
+    }
+
+-- the same core
+pub left_same : (c : CoreData) → Left c c
+left_same c =
+    record {
+      limits = refl;
+      handed = refl;
+      running = refl;
+      shelf = λ r. refl;
+      next_key = refl;
+      stages = refl;
+      saves = refl;
+      given = λ b g. g;
+      plan = refl;
+      told = refl;
+      lost = λ e. refl;
+      runs = λ r. r;
+    }
+
+-- a job that ends
+left_ended : (c : CoreData) (job : Job) → is_running_job job ≡ false → Left c (ended c job)
+left_ended c job over =
+    record {
+      limits = refl;
+      handed = refl;
+      running = refl;
+      shelf = λ r. absurd (clash r over);
+      next_key = refl;
+      stages = refl;
+      saves = refl;
+      given = λ b g. g;
+      plan = refl;
+      told = refl;
+      lost = λ e. refl;
+      runs = λ r. absurd (clash r over);
+    }
+
+-- committers are as many as before
+same_saves : (xs : List Committer) (i : ℕ) (f : Committer → Committer)
+    → is_save (change_at xs i f) ≡ is_save xs
+same_saves [] i f = refl
+same_saves (x ∷ xs) zero f = refl
+same_saves (x ∷ xs) (suc i) f = refl
+
+pub released_left : (c : CoreData) (a : AttemptId) (how : Ending) → Left c (released c a how)
+released_left c a how =
+    record {
+      limits = (by (holds a (committer_at c.committers a.partition))).limits;
+      handed = refl;
+      running = refl;
+      shelf = λ r. refl;
+      next_key = refl;
+      stages = (by (holds a (committer_at c.committers a.partition))).stages;
+      saves = same_saves c.committers a.partition (commit.ended a how);
+      given = (by (holds a (committer_at c.committers a.partition))).given;
+      plan = refl;
+      told = refl;
+      lost = (by (holds a (committer_at c.committers a.partition))).lost;
+      runs = λ r. r;
     }
   where
-    by : (b : Bool) → (if b then after_hold c.dag a.stage a.partition false else c.dag).limits
-        ≡ c.dag.limits
-    by true = refl
-    by false = refl
+    by : (b : Bool) → Calm c.dag (if b then after_hold c.dag a.stage a.partition false else c.dag)
+    by true = hold_free c.dag a.stage a.partition
+    by false = still c.dag
 
 map_left : (c after : CoreData) (r : Running) (loc : Loc) (answer : Answer)
     → TellsMap c r loc answer after → Left c after
 map_left c after r loc answer (next, up, says, is) =
     subst (λ x. Left c x) (sym is)
-    (left_dag c next (by (map_success_of c.dag a loc r.hand_out.epoch) up))
+    (left_dag (is_same a) None c next
+    (moves_then (is_same a) None c.dag mid next (map_moves c.dag a loc r.hand_out.epoch c.now)
+    (by (map_success_of c.dag a loc r.hand_out.epoch) up)))
   where
     a : AttemptId
     a = r.hand_out.attempt
@@ -69,16 +173,13 @@ map_left c after r loc answer (next, up, says, is) =
     mid : DagData
     mid = after_map_success c.dag r.hand_out.attempt loc r.hand_out.epoch c.now
 
-    same : mid.limits ≡ c.dag.limits
-    same = (map_moves c.dag a loc r.hand_out.epoch c.now).limits
+    looks : (x y : Bool) → LooksAgain x y mid a.stage next → Calm mid next
+    looks true y h = completes_calm mid a.stage next h
+    looks false true h = submitted_calm mid next (this_stage a.stage) h
+    looks false false h = subst (λ x. Calm mid x) (sym h) (still mid)
 
-    looks : (x y : Bool) → LooksAgain x y mid a.stage next → next.limits ≡ c.dag.limits
-    looks true y h = (completes_calm mid a.stage next h).limits ∙ same
-    looks false true h = (submitted_calm mid next (this_stage a.stage) h).limits ∙ same
-    looks false false h = ap (λ (d : DagData). d.limits) h ∙ same
-
-    by : (s : Success) → FollowsUp s mid a.stage next → next.limits ≡ c.dag.limits
-    by successes.Repeated h = ap (λ (d : DagData). d.limits) h ∙ same
+    by : (s : Success) → FollowsUp s mid a.stage next → Calm mid next
+    by successes.Repeated h = subst (λ x. Calm mid x) (sym h) (still mid)
     by successes.Registered h = looks (is_complete mid a.stage) (is_finished_short mid a.stage) h
     by successes.Bogus h = looks (is_complete mid a.stage) (is_finished_short mid a.stage) h
     by successes.Finished h = looks (is_complete mid a.stage) (is_finished_short mid a.stage) h
@@ -95,11 +196,13 @@ result_left c after r answer (says, is) =
     freed = released c r.hand_out.attempt endings.Succeeded
 
     one : (m : CoreData) → Left m (with_result_of m a)
-    one m = left_dag m (after_result_success m.dag a m.now) (result_moves m.dag a m.now).limits
+    one m =
+        left_dag (is_same a) None m (after_result_success m.dag a m.now)
+        (result_moves m.dag a m.now)
 
     done : (b : Bool) (m : CoreData) → Left m (done_if b m)
-    done true m = record { limits = refl; handed = refl; running = refl }
-    done false m = record { limits = refl; handed = refl; running = refl }
+    done true m = left_ended m jobs.Done refl
+    done false m = left_same m
 
     won : Left c (done_if (is_complete (with_result_of freed a).dag a.stage)
         (with_result_of freed a))
@@ -128,19 +231,17 @@ misses_left c after a answer miss =
         → FailsOrAborts c a verdict d answer after → Left c after
     verdict_left verdicts.Limit d f (says, is) =
         subst (λ x. Left c x) (sym is)
-        (record {
-          limits = (fails_calm c.dag a.stage a.stage_attempt verdicts.Limit d f).limits;
-          handed = refl;
-          running = refl;
-        })
+        (left_then c (with_dag c d) (ended (with_dag c d) (jobs.Aborted (StageLimit a.stage)))
+        (left_dag nothing None c d (fails_calm c.dag a.stage a.stage_attempt verdicts.Limit d f))
+        (left_ended (with_dag c d) (jobs.Aborted (StageLimit a.stage)) refl))
     verdict_left verdicts.Again d f (says, is) =
         subst (λ x. Left c x) (sym is)
-        (left_dag c d (fails_calm c.dag a.stage a.stage_attempt verdicts.Again d f).limits)
+        (left_dag nothing None c d (fails_calm c.dag a.stage a.stage_attempt verdicts.Again d f))
 
     by : (b : Bool) → MissesIf b c a answer after → Left c after
     by true (verdict, d, f, or) = verdict_left verdict d f or
     by false (says, is) =
-        subst (λ x. Left c x) (sym is) (record { limits = refl; handed = refl; running = refl })
+        subst (λ x. Left c x) (sym is) (left_same c)
 
 cause_left :
     (c after : CoreData) (a : AttemptId) (cause : FailureCause) (zombie : Bool) (answer : Answer)
@@ -151,20 +252,20 @@ cause_left c after a (causes.Gone exec wanted found) zombie answer h =
     by : (x y : Bool) → IsGone x y c a exec found answer after → Left c after
     by true y k =
         left_then c (with_dag c (after_seen c.dag exec found)) after
-        (left_dag c (after_seen c.dag exec found) (seen_calm c.dag exec found).limits)
+        (left_dag nothing None c (after_seen c.dag exec found) (seen_calm c.dag exec found))
         (misses_left (with_dag c (after_seen c.dag exec found)) after a answer k)
     by false true (says, is) =
-        subst (λ x. Left c x) (sym is) (record { limits = refl; handed = refl; running = refl })
+        subst (λ x. Left c x) (sym is) (left_same c)
     by false false k = misses_left c after a answer k
 cause_left c after a (causes.Metadata last) zombie answer h = misses_left c after a answer h
 cause_left c after a causes.Planned zombie answer (says, is) =
-    subst (λ x. Left c x) (sym is) (record { limits = refl; handed = refl; running = refl })
+    subst (λ x. Left c x) (sym is) (left_same c)
 cause_left c after a causes.Raised zombie answer (says, is) =
-    subst (λ x. Left c x) (sym is) (record { limits = refl; handed = refl; running = refl })
+    subst (λ x. Left c x) (sym is) (left_same c)
 cause_left c after a (causes.Device fault) zombie answer (says, is) =
-    subst (λ x. Left c x) (sym is) (record { limits = refl; handed = refl; running = refl })
+    subst (λ x. Left c x) (sym is) (left_same c)
 cause_left c after a causes.Denied zombie answer (says, is) =
-    subst (λ x. Left c x) (sym is) (record { limits = refl; handed = refl; running = refl })
+    subst (λ x. Left c x) (sym is) (left_same c)
 
 failure_left :
     (c after : CoreData) (r : Running) (cause : FailureCause) (answer : Answer)
@@ -179,13 +280,15 @@ failure_left c after r cause answer tells =
     left =
         left_then c (with_dag c (after_failed c.dag a cause))
         (after_failure c r.hand_out.attempt cause)
-        (left_dag c (after_failed c.dag a cause) refl)
+        (left_dag (is_same a) None c (after_failed c.dag a cause) (failed_moves c.dag a cause))
         (released_left (with_dag c (after_failed c.dag a cause)) a endings.Failed)
 
     by : (b : Bool) → TellsFailureIf b c a cause answer after → Left c after
     by true (says, is) =
         subst (λ x. Left c x) (sym is)
-        (record { limits = left.limits; handed = left.handed; running = left.running })
+        (left_then c (after_failure c a cause)
+        (ended (after_failure c a cause) (jobs.Aborted (limit_of a))) left
+        (left_ended (after_failure c a cause) (jobs.Aborted (limit_of a)) refl))
     by false h =
         left_then c (after_failure c a cause) after left
         (cause_left (after_failure c a cause) after a cause (is_zombie_in (set_of c.dag a))

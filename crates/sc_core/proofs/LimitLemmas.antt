@@ -44,7 +44,7 @@ all_from p first (suc count) k all le lt =
 pub done_jobs_are_whole : DoneJobsAreWhole
 done_jobs_are_whole c p sound done lt =
     all_from (is_done c.dag (result_stage c.dag)) 0
-    (stage_at c.dag (result_stage c.dag)).tasks p (sound.done done) (omega arith)
+    (stage_at c.dag (result_stage c.dag)).tasks p (sound.job.done done) (omega arith)
     (omega (arith, lt))
 
 -- ---- failures of a partition

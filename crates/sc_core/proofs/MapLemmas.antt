@@ -19,7 +19,7 @@ use Rattle.sc_dag.specs.declared.reports.Success.TheVariants as successes
 use Rattle.sc_dag.proofs.Tests.{both_left, both_right, clash}
 use Rattle.sc_core.specs.CoreData.{CoreData, is_running_job, job_runs, taken_off, with_dag}
 use Rattle.sc_core.specs.Posts.{fits}
-use Rattle.sc_core.specs.Sound.{IsSoundCore, RunsWell}
+use Rattle.sc_core.specs.Sound.{IsSoundJob, RunsWell}
 use Rattle.sc_core.specs.Tells.{FollowsUp, LooksAgain, TellsMap}
 use Rattle.sc_core.specs.declared.answers.Answer.{Answer}
 use Rattle.sc_core.specs.declared.events.Outcome.TheVariants as outcomes
@@ -114,9 +114,9 @@ follows calls maps others d after a loc epoch now sound kind runs up =
 
 pub map_keeps :
     CallsKeepSound → MapSuccessesGoOn → OthersGoOn → (c after : CoreData) (r : Running)
-    (loc : Loc) (answer : Answer) → IsSoundCore c → job_runs c ≡ true → RunsWell c r
+    (loc : Loc) (answer : Answer) → IsSoundJob c → job_runs c ≡ true → RunsWell c r
     → fits c r (outcomes.Map loc) ≡ true
-    → TellsMap (taken_off c r.hand_out.attempt) r loc answer after → IsSoundCore after
+    → TellsMap (taken_off c r.hand_out.attempt) r loc answer after → IsSoundJob after
 map_keeps calls maps others c after r loc answer sound job well fit (next, up, says, is) =
     let kind : is_map (stage_at c.dag a.stage).target ≡ true =
     both_left (is_map (stage_at c.dag r.hand_out.attempt.stage).target) (loc.exec == r.exec) fit in
@@ -127,11 +127,11 @@ map_keeps calls maps others c after r loc answer sound job well fit (next, up, s
     well.in_set ∙ ap (λ (e : ℕ). Some e) (sym exec) in
     let f =
     follows calls maps others c.dag next a loc r.hand_out.epoch c.now sound.dag kind runs up in
-    subst IsSoundCore (sym is)
+    subst IsSoundJob (sym is)
     (told_sound c (with_dag (taken_off c a) next) a sound
     (moves_then (is_same a) None c.dag mid next
     (map_moves c.dag a loc r.hand_out.epoch c.now) f.calm)
-    refl sound.shelf refl f.sound
+    refl refl f.sound
     (λ h. goes_same c (with_dag (taken_off c a) next) sound (sound.goes_on job)
     (f.calm.stages ∙ (map_moves c.dag a loc r.hand_out.epoch c.now).stages)
     (results_then c.dag mid next (map_results c.dag a loc r.hand_out.epoch c.now) f.results)

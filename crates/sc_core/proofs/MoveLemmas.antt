@@ -1,5 +1,5 @@
 -- What a change of the stages of a job does to the attempts that run.
-use Rattle.std.proofs.Common.{◌≡◌, ℕ, ◌==◌, ◌&&◌, All, Bool, true, false, if◌then◌else◌, List, Option, Some, None, option_map, slice_get, refl, ap, subst, ◌∙◌, arith}
+use Rattle.std.proofs.Common.{◌≡◌, ℕ, ◌==◌, ◌&&◌, All, Bool, true, false, if◌then◌else◌, List, Option, Some, None, option_map, slice_get, refl, ap, sym, subst, ◌∙◌, arith}
 use Rattle.std.proofs.lemmas.Bool.Decides.{nat_tests}
 use Rattle.sc_ids.specs.Changes.{change_at}
 use Rattle.sc_ids.specs.declared.attempts.AttemptId.{AttemptId}
@@ -9,9 +9,9 @@ use Rattle.sc_tracker.specs.TrackerData.{TrackerData, trust_of}
 use Rattle.sc_dag.specs.DagData.{DagData, StageState, with_state, with_states, with_tracker}
 use Rattle.sc_dag.specs.Outputs.{results_in}
 use Rattle.sc_dag.specs.Sound.{attempts_in, attempts_of, runner_of}
-use Rattle.sc_core.specs.Sound.{IsUnheld}
+use Rattle.sc_core.specs.Sound.{IsUnheld, was_given}
 use Rattle.sc_core.proofs.SetLemmas.{nothing}
-use Rattle.sc_core.proofs.StateLemmas.{MovesOf, calm_same, is_number_of, runs_in}
+use Rattle.sc_core.proofs.StateLemmas.{MovesOf, calm_same, gave_in, is_number_of, runs_in}
 
 -- no grant that is held has denied an attempt
 abbrev pub NoneHeld : DagData → Type 0
@@ -25,6 +25,8 @@ pub record Moves (test : AttemptId → Bool) (new : Option ℕ) (d after : DagDa
   pub lost : (e : ℕ) → (trust_of after.tracker e).lost ≡ (trust_of d.tracker e).lost
   pub runners : (b : AttemptId) → runner_of after b ≡ (if test b then new else runner_of d b)
   pub unheld : NoneHeld d → NoneHeld after
+  -- what was handed out stays so
+  pub given : (b : AttemptId) → was_given d b ≡ true → was_given after b ≡ true
 
 -- nothing that runs is changed
 abbrev pub Calm : DagData → DagData → Type 0
@@ -43,6 +45,7 @@ still d =
       lost = λ e. refl;
       runners = λ b. refl;
       unheld = λ all. all;
+      given = λ b h. h;
     }
 
 -- a calm change behind another one, and before it
@@ -56,6 +59,7 @@ moves_then test new c d e h k =
       lost = λ x. k.lost x ∙ h.lost x;
       runners = λ b. k.runners b ∙ h.runners b;
       unheld = λ all. k.unheld (h.unheld all);
+      given = λ b g. k.given b (h.given b g);
     }
 
 pub calm_then :
@@ -68,6 +72,7 @@ calm_then test new c d e h k =
       lost = λ x. k.lost x ∙ h.lost x;
       runners = λ b. k.runners b ∙ ap (λ o. if test b then new else o) (h.runners b);
       unheld = λ all. k.unheld (h.unheld all);
+      given = λ b g. k.given b (h.given b g);
     }
 
 -- ---- one stage changed
@@ -85,6 +90,7 @@ state_moves d a new change moves none =
       lost = λ e. refl;
       runners = λ b. by b (a.stage == b.stage) refl;
       unheld = λ all s. held all s (a.stage == s) refl;
+      given = λ b. given b (a.stage == b.stage) refl;
     }
   where
     after : DagData
@@ -96,6 +102,7 @@ state_moves d a new change moves none =
         record {
           runners = λ b. rw (none e) (nowhere (is_number_of a b) (runs_in None b));
           unheld = λ all. all;
+          given = λ b h. h;
         }
       where
         nowhere : (x : Bool) (o : Option ℕ) → o ≡ (if x then o else o)
@@ -120,6 +127,21 @@ state_moves d a new change moves none =
         (slice_get_change_other d.states a.stage b.stage change
         (λ is. grind (arith, nat_tests, e, is)))
 
+    given : (b : AttemptId) (x : Bool) → (a.stage == b.stage) ≡ x
+        → gave_in (slice_get d.states b.stage) b ≡ true
+        → gave_in (slice_get after.states b.stage) b ≡ true
+    given b true e h =
+        let s : a.stage ≡ b.stage = grind (arith, nat_tests, e) in
+        ap (λ (s : ℕ). gave_in (slice_get after.states s) b) (sym s)
+        ∙ ap (λ o. gave_in o b) same
+        ∙ (here (slice_get d.states a.stage) refl).given b
+        (ap (λ (s : ℕ). gave_in (slice_get d.states s) b) s ∙ h)
+    given b false e h =
+        ap (λ o. gave_in o b)
+        (slice_get_change_other d.states a.stage b.stage change
+        (λ is. grind (arith, nat_tests, e, is)))
+        ∙ h
+
     held : NoneHeld d → (s : ℕ) (x : Bool) → (a.stage == s) ≡ x
         → All IsUnheld (attempts_in (slice_get after.states s))
     held all s true e =
@@ -142,6 +164,7 @@ states_calm d states moves =
       lost = λ e. refl;
       runners = λ b. (moves b.stage).runners b;
       unheld = λ all s. (moves s).unheld (all s);
+      given = λ b h. (moves b.stage).given b h;
     }
 
 -- one stage changed calmly
@@ -178,6 +201,7 @@ tracker_calm d t lost =
       lost = lost;
       runners = λ b. refl;
       unheld = λ all. all;
+      given = λ b h. h;
     }
 
 -- ---- results

@@ -7,9 +7,10 @@ use Rattle.sc_dag.specs.Openings.{FitsJob, IsJob, Opens}
 use Rattle.sc_dag.specs.Submission.{IsSubmitted, this_stage}
 use Rattle.sc_ids.specs.Graphs.{StageData}
 use Rattle.sc_ids.specs.declared.limits.Limits.{Limits}
+use Rattle.sc_plan.specs.declared.lines.PlanLine.{PlanLine}
 use Rattle.sc_tracker.specs.TrackerData.{TrackerData}
 use Rattle.sc_core.specs.CoreData.{CoreData, core_data, result_stage}
-use Rattle.sc_core.specs.Openings.{BeginsWith, IsOpening, now_before, told_before, tracker_behind}
+use Rattle.sc_core.specs.Openings.{BeginsWith, IsOpening, now_before, plan_behind, told_before, tracker_behind}
 use Rattle.sc_core.specs.Sound.{IsSoundCore}
 use Rattle.sc_core.specs.declared.answers.Job.TheVariants as jobs
 use Rattle.sc_core.proofs.LawLemmas.{openings_are_sound}
@@ -36,14 +37,15 @@ last_stages value (Some l) = refl
 -- all else is as where nothing happened
 pub opening_is : {A : Type 0} (value : A → CoreData) (graph : List StageData) (limits : Limits)
     (saved : ℕ) (last : Option A) (t : TrackerData) (told now : ℕ) (committers : List Committer)
-    (dag : DagData)
+    (dag : DagData) (plan kept : List PlanLine)
     → t ≡ tracker_behind (option_map value last) limits
     → BeginsWith graph limits (option_map (λ l. (value l).dag) last) t dag
     → told ≡ told_before (option_map value last) → now ≡ now_before (option_map value last)
-    → committers ≡ replicate saved Nobody
-    → IsOpening graph limits saved (option_map value last)
-    (core_data told now 0 jobs.Running None [] [] 0 committers dag)
-opening_is value graph limits saved last t told now free dag tracker begins tells time all_free =
+    → committers ≡ replicate saved Nobody → kept ≡ plan_behind (option_map value last) plan
+    → IsOpening graph limits saved plan (option_map value last)
+    (core_data told now 0 jobs.Running None [] [] 0 committers dag kept)
+opening_is value graph limits saved last t told now free dag plan kept tracker begins tells time
+    all_free carried =
     record {
       dag = begins.dag;
       opens = rw (← last_stages value last, ← tracker) begins.opens;
@@ -58,12 +60,13 @@ opening_is value graph limits saved last t told now free dag tracker begins tell
       shelf = refl;
       next_key = refl;
       committers = all_free;
+      plan_is = carried;
     }
 
 -- it is sound
 pub opening_sound : (graph : List StageData) (limits : Limits) (saved : ℕ)
-    (last before : Option CoreData) (c : CoreData) → before ≡ last → IsJob graph
+    (plan : List PlanLine) (last before : Option CoreData) (c : CoreData) → before ≡ last → IsJob graph
     → FitsJob (tracker_behind last limits) graph → IfSome last IsSoundCore
-    → IsOpening graph limits saved before c → IsSoundCore c
-opening_sound graph limits saved last before c is job fits sound opening =
-    openings_are_sound graph limits saved last c job fits sound (rw (← is) opening)
+    → IsOpening graph limits saved plan before c → IsSoundCore c
+opening_sound graph limits saved plan last before c is job fits sound opening =
+    openings_are_sound graph limits saved plan last c job fits sound (rw (← is) opening)

@@ -1,5 +1,5 @@
 -- The core of a job that begins is sound.
-use Rattle.std.proofs.Common.{◌≡◌, ◌≢◌, ◌⊎◌, inl, inr, ℕ, zero, suc, ◌+◌, ◌-◌, All, Bool, true, false, List, [], ◌∷◌, ◌++◌, length, Option, Some, None, IfSome, option_map, slice_get, refl, ap, sym, subst, ◌∙◌, arith, rules, true≢false, length-append}
+use Rattle.std.proofs.Common.{◌≡◌, ◌≢◌, ◌⊎◌, inl, inr, ℕ, zero, suc, ◌+◌, ◌-◌, ◌^◌, ◌<◌, All, Bool, true, false, List, [], ◌∷◌, ◌++◌, length, Option, Some, None, IfSome, option_map, replicate, slice_get, refl, ap, sym, subst, ◌∙◌, arith, rules, true≢false, length-append}
 use Rattle.std.proofs.Math.Seq.{get_or-append_seam}
 use Rattle.std.specs.List.{AllPairs, Contains, list_any}
 use Rattle.std.proofs.lemmas.Bool.Decides.{nat_tests}
@@ -8,13 +8,18 @@ use Rattle.sc_base.specs.Lists.{at_or}
 use Rattle.sc_ids.specs.Graphs.{StageData}
 use Rattle.sc_ids.specs.declared.attempts.AttemptId.{AttemptId}
 use Rattle.sc_ids.specs.declared.limits.Limits.{Limits}
-use Rattle.sc_tracker.specs.TrackerData.{TrackerData}
+use Rattle.sc_ids.specs.declared.blocks.ShuffleId.{ShuffleId}
+use Rattle.sc_ids.specs.declared.blocks.Target.{Target}
+use Rattle.sc_ids.specs.declared.blocks.Target.TheVariants as targets
+use Rattle.sc_plan.specs.Orders.{loss_of}
+use Rattle.sc_tracker.specs.TrackerData.{TrackerData, trust_of}
+use Rattle.sc_tracker.specs.Tracking.{has_room, sized}
 use Rattle.sc_tracker.specs.TrackerFacts.{HasMarkBelow, IsSoundTracker}
 use Rattle.sc_tracker.specs.Trust.{untold}
 use Rattle.sc_dag.specs.DagData.{DagData, StageState, is_live_set, newest_at, no_stage, stage_at}
 use Rattle.sc_dag.specs.Laws.{CallsKeepSound, SubmissionsSettle}
 use Rattle.sc_dag.specs.Laws as dag
-use Rattle.sc_dag.specs.Openings.{IsJob, Opens, blank_states, number_behind}
+use Rattle.sc_dag.specs.Openings.{IsJob, Opens, blank_states, number_behind, sized_by, sized_for_all}
 use Rattle.sc_dag.specs.Outputs.{is_complete}
 use Rattle.sc_dag.specs.Settled.{IsSettled, IsSettledBy, IsUnderWay, will_go_on}
 use Rattle.sc_dag.specs.Sound.{IsSoundDag, attempts_in, runner_of}
@@ -23,8 +28,9 @@ use Rattle.sc_dag.proofs.Moving.{newest_among}
 use Rattle.sc_dag.proofs.Tests.{any_mono}
 use Rattle.sc_core.specs.CoreData.{CoreData, result_stage}
 use Rattle.sc_core.specs.Laws.{OpeningsAreSound}
-use Rattle.sc_core.specs.Openings.{tracker_behind}
-use Rattle.sc_core.specs.Sound.{AreTwo, IsSoundCore, IsUnheld, RunsWell}
+use Rattle.sc_core.specs.Losses.{is_due_after}
+use Rattle.sc_core.specs.Openings.{plan_behind, told_before, tracker_behind}
+use Rattle.sc_core.specs.Sound.{AreTwo, IsShelvedWell, IsSoundCore, IsSoundJob, IsSoundShelf, IsUnheld, RunsWell, is_shelved}
 use Rattle.sc_core.proofs.StageCallLemmas.{submitted_calm}
 use Rattle.sc_core.proofs.MoveLemmas.{Calm}
 use Rattle.sc_core.proofs.StateLemmas.{runs_in}
@@ -134,7 +140,30 @@ behind_sound None limits sound =
       marks = All-replicate (HasMarkBelow 0) limits.executors untold tt;
       events = omega arith;
     }
-behind_sound (Some last) limits sound = sound.dag.tracker
+behind_sound (Some last) limits sound = sound.job.dag.tracker
+
+-- nobody is told lost at first
+none_lost : (n e : ℕ) → (at_or (replicate n untold) e untold).lost ≡ false
+none_lost zero e = refl
+none_lost (suc n) zero = refl
+none_lost (suc n) (suc e) = none_lost n e
+
+-- room for outputs says nothing of executors
+one_sized : (stage : StageData) (t : TrackerData) → (sized_by t stage).trust ≡ t.trust
+one_sized stage t = by stage.target
+  where
+    room : (shuffle : ShuffleId) (b : Bool) → has_room t shuffle ≡ b
+        → (sized t shuffle stage.tasks).trust ≡ t.trust
+    room shuffle true e = rw e refl
+    room shuffle false e = rw e refl
+
+    by : (target : Target) → (sized_by t (record stage { target = target })).trust ≡ t.trust
+    by (targets.Map shuffle) = room shuffle (has_room t shuffle) refl
+    by (targets.Result node) = refl
+
+all_sized : (graph : List StageData) (t : TrackerData) → (sized_for_all t graph).trust ≡ t.trust
+all_sized [] t = refl
+all_sized (stage ∷ graph) t = all_sized graph (sized_by t stage) ∙ one_sized stage t
 
 -- ---- the core
 
@@ -161,26 +190,13 @@ settled_by d submitted settled =
 
 pub openings_by :
     CallsKeepSound → dag.OpeningsAreSound → SubmissionsSettle → OpeningsAreSound
-openings_by calls opening settles graph limits saved last c job fits sound o =
+openings_by calls opening settles graph limits saved plan last c job fits sound o =
     record {
-      dag = (calls d first.0).0 (this_stage (result_stage d)) c.dag o.submits;
-      result = rw (calm.stages, begin.at) job.is_result;
-      maps = rw calm.stages begin.maps;
-      running = subst (λ rs. All (RunsWell c) rs) (sym o.running)
-          (λ i r l. absurd (omega (arith, l)));
-      known = λ a exec r. absurd (search (rules, r, runs a));
-      apart = subst (λ rs. AllPairs AreTwo rs) (sym o.running)
-          (λ i j r lt l. absurd (omega (arith, l)));
-      shelf = o.shelf;
-      unheld = calm.unheld unheld;
-      budget = rw o.handed (omega arith);
-      goes_on = λ r. record {
-        settled = on.0.0;
-        result = subst (λ (s : ℕ). IsUnderWay c.dag s)
-            (ap (λ (all : List StageData). length all - 1) (sym calm.stages))
-            (on.1 (result_stage d) itself lacks);
-      };
-      done = λ e. absurd (search (rules, e, o.job));
+      job = sound_job;
+      shelf = λ r. sound_shelf;
+      lost = λ e h. rw (o.told, o.plan_is)
+          (planned last sound e (sym (trust e) ∙ h));
+      told = rw o.told (counts last sound);
     }
   where
     d : DagData
@@ -233,3 +249,54 @@ openings_by calls opening settles graph limits saved last c job fits sound o =
     on =
         settles o.dag (this_stage (result_stage o.dag)) c.dag first.0
         (settled_by o.dag (this_stage (result_stage o.dag)) first.1) dead o.submits
+
+    sound_job : IsSoundJob c
+    sound_job =
+        record {
+          dag = (calls d first.0).0 (this_stage (result_stage d)) c.dag o.submits;
+          result = rw (calm.stages, begin.at) job.is_result;
+          maps = rw calm.stages begin.maps;
+          running = subst (λ rs. All (RunsWell c) rs) (sym o.running)
+              (λ i r l. absurd (omega (arith, l)));
+          known = λ a exec r. absurd (search (rules, r, runs a));
+          apart = subst (λ rs. AllPairs AreTwo rs) (sym o.running)
+              (λ i j r lt l. absurd (omega (arith, l)));
+          unheld = calm.unheld unheld;
+          budget = rw o.handed (omega arith);
+          goes_on = λ r. record {
+            settled = on.0.0;
+            result = subst (λ (s : ℕ). IsUnderWay c.dag s)
+                (ap (λ (all : List StageData). length all - 1) (sym calm.stages))
+                (on.1 (result_stage d) itself lacks);
+          };
+          done = λ e. absurd (search (rules, e, o.job));
+        }
+
+    sound_shelf : IsSoundShelf c
+    sound_shelf =
+        record {
+          out = subst (λ rs. All (λ r. r.is_out ≡ false
+              → is_shelved c.shelf r.hand_out.attempt ≡ true) rs) (sym o.running)
+              (λ i r l. absurd (omega (arith, l)));
+          each = subst (λ ss. All (IsShelvedWell c) ss) (sym o.shelf)
+              (λ i s l. absurd (omega (arith, l)));
+          rising = subst (λ ss. AllPairs (λ s t. s.key < t.key) ss) (sym o.shelf)
+              (λ i j s lt l. absurd (omega (arith, l)));
+        }
+
+    trust : (e : ℕ)
+        → (trust_of c.dag.tracker e).lost ≡ (trust_of (tracker_behind last limits) e).lost
+    trust e =
+        calm.lost e
+        ∙ ap (λ (t : TrackerData). (trust_of t e).lost) o.opens.tracker
+        ∙ ap (λ ts. (at_or ts e untold).lost) (all_sized graph (tracker_behind last limits))
+
+    planned : (before : Option CoreData) → IfSome before IsSoundCore → (e : ℕ)
+        → (trust_of (tracker_behind before limits) e).lost ≡ true
+        → is_due_after (loss_of (plan_behind before plan) e) (told_before before) ≡ true
+    planned None s e h = absurd (true≢false (sym h ∙ none_lost limits.executors e))
+    planned (Some before) s e h = s.lost e h
+
+    counts : (before : Option CoreData) → IfSome before IsSoundCore → told_before before < 2 ^ 64
+    counts None s = omega arith
+    counts (Some before) s = s.told

@@ -43,7 +43,7 @@ module _ {A : Type 0} (R : A → A → Type 0) (p : A → Bool)
           rw (e, one) (ap (λ zs. x ∷ zs) (rest (omega (arith, l))))
 
 -- two attempts that are different don't have the same numbers
-clash : (a : AttemptId) (q r : Running) → AreTwo q r → is_of a q ≡ true → is_of a r ≡ false
+pub clash : (a : AttemptId) (q r : Running) → AreTwo q r → is_of a q ≡ true → is_of a r ≡ false
 clash a q r two e = by (is_of a r) refl
   where
     by : (b : Bool) → is_of a r ≡ b → is_of a r ≡ false

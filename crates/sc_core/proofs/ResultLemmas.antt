@@ -23,7 +23,7 @@ use Rattle.sc_dag.specs.declared.reports.Success.TheVariants as successes
 use Rattle.sc_dag.proofs.Tests.{both_left, clash, not_true}
 use Rattle.sc_core.specs.CoreData.{CoreData, ended, is_running_job, job_runs, result_stage, taken_off}
 use Rattle.sc_core.specs.Posts.{fits}
-use Rattle.sc_core.specs.Sound.{GoesOn, IsSoundCore, RunsWell}
+use Rattle.sc_core.specs.Sound.{GoesOn, IsSoundJob, RunsWell}
 use Rattle.sc_core.specs.Tells.{TellsResult, after_result, done_if, released, with_result_of}
 use Rattle.sc_core.specs.declared.answers.Answer.{Answer}
 use Rattle.sc_core.specs.declared.answers.Job.TheVariants as jobs
@@ -86,7 +86,7 @@ runs_within d a exec sound runs is =
     by (Some set) e h = task set e (task_at a.partition set.tasks) refl h
 
 -- and if it is one of results, it is the result stage
-pub runs_results : (c : CoreData) (r : Running) → IsSoundCore c → RunsWell c r
+pub runs_results : (c : CoreData) (r : Running) → IsSoundJob c → RunsWell c r
     → is_map (stage_at c.dag r.hand_out.attempt.stage).target ≡ false
     → r.hand_out.attempt.stage ≡ result_stage c.dag
 runs_results c r sound well kind = by (s == result_stage c.dag) refl
@@ -107,13 +107,13 @@ runs_results c r sound well kind = by (s == result_stage c.dag) refl
 -- what a success leaves, with a job that is done where it is the last one
 wins :
     CallsKeepSound → ResultSuccessesGoOn → OthersGoOn → (c mid : CoreData) (a : AttemptId)
-    (exec : ℕ) → IsSoundCore c → job_runs c ≡ true
+    (exec : ℕ) → IsSoundJob c → job_runs c ≡ true
     → is_map (stage_at c.dag a.stage).target ≡ false → runner_of c.dag a ≡ Some exec
     → a.stage ≡ result_stage c.dag
-    → Frees c.dag mid.dag → mid.running ≡ (taken_off c a).running → mid.shelf ≡ []
+    → Frees c.dag mid.dag → mid.running ≡ (taken_off c a).running
     → mid.handed ≡ c.handed → mid.job ≡ c.job
-    → IsSoundCore (done_if (is_complete (with_result_of mid a).dag a.stage) (with_result_of mid a))
-wins calls results others c mid a exec sound job kind runs stage free running shelf handed same =
+    → IsSoundJob (done_if (is_complete (with_result_of mid a).dag a.stage) (with_result_of mid a))
+wins calls results others c mid a exec sound job kind runs stage free running handed same =
     by (is_complete next.dag a.stage) refl
   where
     next : CoreData
@@ -152,14 +152,14 @@ wins calls results others c mid a exec sound job kind runs stage free running sh
             under_kept c.dag mid.dag (result_stage c.dag) free.calm.stages free.results
             sound.result before (sound.goes_on job).result
 
-    by : (b : Bool) → is_complete next.dag a.stage ≡ b → IsSoundCore (done_if b next)
+    by : (b : Bool) → is_complete next.dag a.stage ≡ b → IsSoundJob (done_if b next)
     by true e =
-        told_sound c (ended next jobs.Done) a sound moves running refl handed next_sound
+        told_sound c (ended next jobs.Done) a sound moves running handed next_sound
         (λ h. absurd (true≢false (sym h)))
         (λ h. subst (λ (s : ℕ). is_complete next.dag s ≡ true)
         (stage ∙ ap (λ (all : List StageData). length all - 1) (sym moves.stages)) e)
     by false e =
-        told_sound c next a sound moves running shelf handed next_sound (λ h. goes e)
+        told_sound c next a sound moves running handed next_sound (λ h. goes e)
         (λ h. absurd (clash job (ap is_running_job (sym same ∙ h))))
 
 -- a repeated success of a result task ends its attempt alone
@@ -176,11 +176,11 @@ repeats d a now e = by (is_repeat d a) refl e
 
 pub result_keeps :
     CallsKeepSound → ResultSuccessesGoOn → OthersGoOn → (c after : CoreData) (r : Running)
-    (answer : Answer) → IsSoundCore c → job_runs c ≡ true → RunsWell c r
+    (answer : Answer) → IsSoundJob c → job_runs c ≡ true → RunsWell c r
     → fits c r outcomes.Result ≡ true
-    → TellsResult (taken_off c r.hand_out.attempt) r answer after → IsSoundCore after
+    → TellsResult (taken_off c r.hand_out.attempt) r answer after → IsSoundJob after
 result_keeps calls results others c after r answer sound job well fit (says, is) =
-    subst IsSoundCore (sym is) (by (result_success_of c.dag a) refl)
+    subst IsSoundJob (sym is) (by (result_success_of c.dag a) refl)
   where
     a : AttemptId
     a = r.hand_out.attempt
@@ -194,16 +194,16 @@ result_keeps calls results others c after r answer sound job well fit (says, is)
     freed : CoreData
     freed = released (taken_off c r.hand_out.attempt) r.hand_out.attempt endings.Succeeded
 
-    won : IsSoundCore (done_if (is_complete (with_result_of freed a).dag a.stage)
+    won : IsSoundJob (done_if (is_complete (with_result_of freed a).dag a.stage)
         (with_result_of freed a))
     won =
         wins calls results others c freed a r.exec sound job kind well.in_set
         (runs_results c r sound well kind) (frees calls others told a endings.Succeeded)
-        refl sound.shelf refl refl
+        refl refl refl
 
-    by : (s : Success) → result_success_of c.dag a ≡ s → IsSoundCore (after_result s told a)
+    by : (s : Success) → result_success_of c.dag a ≡ s → IsSoundJob (after_result s told a)
     by successes.Repeated e =
-        told_sound c (with_result_of told a) a sound (result_moves c.dag a c.now) refl sound.shelf
+        told_sound c (with_result_of told a) a sound (result_moves c.dag a c.now) refl
         refl ((calls c.dag sound.dag).3 a r.exec c.now kind well.in_set)
         (λ h. goes_same c (with_result_of told a) sound (sound.goes_on job)
         (result_moves c.dag a c.now).stages same goes)

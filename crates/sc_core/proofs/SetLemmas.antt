@@ -1,5 +1,5 @@
 -- Attempts that run in a task set, where one of its tasks is changed.
-use Rattle.std.proofs.Common.{◌≡◌, ℕ, ◌<◌, ◌==◌, ◌&&◌, not, All, Bool, true, false, cond, if◌then◌else◌, List, [], ◌∷◌, ◌++◌, Option, Some, None, option_map, refl, ap, subst, ◌∙◌, arith}
+use Rattle.std.proofs.Common.{◌≡◌, ℕ, ◌<◌, ◌==◌, ◌&&◌, not, All, Bool, true, false, cond, if◌then◌else◌, List, [], ◌∷◌, ◌++◌, Option, Some, None, option_map, refl, ap, sym, subst, ◌∙◌, arith}
 use Rattle.std.proofs.lemmas.Bool.Decides.{nat_tests}
 use Rattle.std.proofs.lemmas.List.Elements.{All-head, All-tail}
 use Rattle.sc_ids.specs.declared.attempts.AttemptId.{AttemptId}
@@ -9,6 +9,7 @@ use Rattle.sc_taskset.specs.TaskSetData.{TaskData, TaskSetData}
 use Rattle.sc_taskset.specs.declared.tasks.Running.{Running}
 use Rattle.sc_taskset.proofs.ChangeLemmas.{all_kept, find_changed, find_other}
 use Rattle.sc_dag.specs.Sound.{runner_among, runner_in}
+use Rattle.sc_core.specs.Sound.{given_among, given_in}
 
 -- no grant that is held has denied an attempt of some tasks
 abbrev pub AreUnheld : List TaskData → Type 0
@@ -25,6 +26,8 @@ pub record MovesIn (test : AttemptId → Bool) (new : Option ℕ) (old now : Tas
   pub runners : (b : AttemptId)
       → runner_in (Some now) b ≡ (if test b then new else runner_in (Some old) b)
   pub unheld : AreUnheld old.tasks → AreUnheld now.tasks
+  -- what was handed out stays so
+  pub given : (b : AttemptId) → given_in (Some old) b ≡ true → given_in (Some now) b ≡ true
 
 abbrev pub nothing : AttemptId → Bool
 nothing b = false
@@ -88,6 +91,40 @@ find_push given exec now m (c ∷ copies) all =
     by true false a b h = refl
     by false z a b h = h
 
+-- ---- what was handed out
+
+-- a change under which what was handed out stays so
+abbrev pub KeepsGiven : (TaskData → TaskData) → Type 0
+KeepsGiven f =
+    (t : TaskData) (m : ℕ) → given_among (Some t) m ≡ true → given_among (Some (f t)) m ≡ true
+
+given_task :
+    (p : ℕ) (f : TaskData → TaskData) (tasks : List TaskData)
+    → ((t : TaskData) → (f t).partition ≡ t.partition) → KeepsGiven f → (q m : ℕ)
+    → given_among (task_at q tasks) m ≡ true
+    → given_among (task_at q (with_task p f tasks)) m ≡ true
+given_task p f tasks same keeps q m given = by (p == q) refl
+  where
+    one : (o : Option TaskData) → given_among o m ≡ true → given_among (option_map f o) m ≡ true
+    one None h = h
+    one (Some t) h = keeps t m h
+
+    by : (x : Bool) → (p == q) ≡ x → given_among (task_at q (with_task p f tasks)) m ≡ true
+    by true e =
+        let is : p ≡ q = grind (arith, nat_tests, e) in
+        ap (λ (r : ℕ). given_among (task_at r (with_task p f tasks)) m) (sym is)
+        ∙ ap (λ o. given_among o m)
+        (find_changed (is_task_of p) f (λ t. ap (λ (r : ℕ). r == p) (same t)) tasks)
+        ∙ one (task_at p tasks) (ap (λ (r : ℕ). given_among (task_at r tasks) m) is ∙ given)
+    by false e =
+        ap (λ o. given_among o m)
+        (find_other (is_task_of p) (is_task_of q) f
+        (λ t h. (let is : t.partition ≡ p = grind (arith, nat_tests, h) in rw is e))
+        (λ t h. (let is : t.partition ≡ p = grind (arith, nat_tests, h) in
+        rw (same t, is) e))
+        tasks)
+        ∙ given
+
 -- ---- a task changed
 
 -- a task changed, where its change is told
@@ -97,15 +134,16 @@ pub changed_task :
     → ((t : TaskData) → t.denied ≡ false → (f t).denied ≡ false)
     → ((m : ℕ) → runner_among (option_map f (task_at a.partition old.tasks)) m
     ≡ (if a.nth == m then new else runner_among (task_at a.partition old.tasks) m))
-    → now.tasks ≡ with_task a.partition f old.tasks
+    → KeepsGiven f → now.tasks ≡ with_task a.partition f old.tasks
     → MovesIn (is_copy_of a) new old now
-changed_task a new f old now same free told is =
+changed_task a new f old now same free told keeps is =
     record {
       runners = λ b. ap (λ tasks. runner_among (task_at b.partition tasks) b.nth) is
           ∙ by b (a.partition == b.partition) refl;
       unheld = λ all. rw is
           (all_kept (λ t. t.denied ≡ false) (is_task_of a.partition) f old.tasks all
           (λ t found h. free t h));
+      given = λ b h. rw is (given_task a.partition f old.tasks same keeps b.partition b.nth h);
     }
   where
     at : task_at a.partition (with_task a.partition f old.tasks)
@@ -137,16 +175,17 @@ pub calm_task :
     (p : ℕ) (f : TaskData → TaskData) (old now : TaskSetData)
     → ((t : TaskData) → (f t).partition ≡ t.partition)
     → ((t : TaskData) → t.denied ≡ false → (f t).denied ≡ false)
-    → ((t : TaskData) → (f t).copies ≡ t.copies)
+    → ((t : TaskData) → (f t).copies ≡ t.copies) → KeepsGiven f
     → now.tasks ≡ with_task p f old.tasks
     → MovesIn nothing None old now
-calm_task p f old now same free copies is =
+calm_task p f old now same free copies keeps is =
     record {
       runners = λ b. ap (λ tasks. runner_among (task_at b.partition tasks) b.nth) is
           ∙ by b (p == b.partition) refl;
       unheld = λ all. rw is
           (all_kept (λ t. t.denied ≡ false) (is_task_of p) f old.tasks all
           (λ t found h. free t h));
+      given = λ b h. rw is (given_task p f old.tasks same keeps b.partition b.nth h);
     }
   where
     one : (o : Option TaskData) (m : ℕ) → runner_among (option_map f o) m ≡ runner_among o m
@@ -177,11 +216,11 @@ pub ends_task :
     (a : AttemptId) (f : TaskData → TaskData) (old now : TaskSetData)
     → ((t : TaskData) → (f t).partition ≡ t.partition)
     → ((t : TaskData) → t.denied ≡ false → (f t).denied ≡ false)
-    → ((t : TaskData) → (f t).copies ≡ without_copy a.nth t.copies)
+    → ((t : TaskData) → (f t).copies ≡ without_copy a.nth t.copies) → KeepsGiven f
     → now.tasks ≡ with_task a.partition f old.tasks
     → MovesIn (is_copy_of a) None old now
-ends_task a f old now same free copies is =
-    changed_task a None f old now same free (λ m. by m (task_at a.partition old.tasks)) is
+ends_task a f old now same free copies keeps is =
+    changed_task a None f old now same free (λ m. by m (task_at a.partition old.tasks)) keeps is
   where
     exec_of : (b : Bool) (o : Option Running)
         → exec_in (if b then None else o) ≡ (if b then None else exec_in o)

@@ -1,5 +1,5 @@
 -- What changes of a stage do to the attempts that run in its task sets.
-use Rattle.std.proofs.Common.{◌≡◌, ℕ, zero, suc, ◌-◌, Bool, true, false, if◌then◌else◌, List, [], ◌∷◌, ◌++◌, length, map, Option, Some, None, option_map, slice_get, nat_lt, refl, ap, sym, ◌∙◌, arith}
+use Rattle.std.proofs.Common.{◌≡◌, ℕ, zero, suc, ◌-◌, Bool, true, false, if◌then◌else◌, List, [], ◌∷◌, ◌++◌, length, map, Option, Some, None, option_map, slice_get, nat_lt, refl, ap, sym, ◌∙◌, arith, true≢false}
 use Rattle.std.proofs.lemmas.List.{length-map}
 use Rattle.std.proofs.lemmas.List.Elements.{All-map, All-push, All-weaker}
 use Rattle.std.proofs.lemmas.Option.{slice_get-map, slice_get_past}
@@ -15,7 +15,7 @@ use Rattle.sc_dag.specs.Reports.{completed, failed_attempt, forgiven, with_faile
 use Rattle.sc_dag.specs.Sound.{runner_in}
 use Rattle.sc_dag.specs.Submission.{as_waiting, is_map, new_set, started}
 use Rattle.sc_dag.specs.declared.attempts.StageAttempt.{StageAttempt}
-use Rattle.sc_core.specs.Sound.{IsUnheld}
+use Rattle.sc_core.specs.Sound.{IsUnheld, given_in}
 use Rattle.sc_core.proofs.SetLemmas.{MovesIn, nothing}
 use Rattle.sc_core.proofs.SetCallLemmas.{fresh_runs, fresh_unheld, zombie_calm}
 use Rattle.sc_core.proofs.StateLemmas.{MovesOf, attempt_calm, place_kept, then_calm}
@@ -37,11 +37,11 @@ failed_calm number state =
 
 pub result_calm :
     (p : ℕ) (state : StageState) → MovesOf nothing None (Some state) (Some (with_result p state))
-result_calm p state = record { runners = λ b. refl; unheld = λ all. all }
+result_calm p state = record { runners = λ b. refl; unheld = λ all. all; given = λ b h. h }
 
 pub waiting_calm :
     (state : StageState) → MovesOf nothing None (Some state) (Some (as_waiting state))
-waiting_calm state = record { runners = λ b. refl; unheld = λ all. all }
+waiting_calm state = record { runners = λ b. refl; unheld = λ all. all; given = λ b h. h }
 
 pub completed_calm :
     (state : StageState) → MovesOf nothing None (Some state) (Some (completed state))
@@ -56,8 +56,20 @@ completed_calm state =
           ∙ one b (attempt_in state b.stage_attempt);
       unheld = λ all. All-map IsUnheld forgiven state.attempts
           (All-weaker IsUnheld (λ x. IsUnheld (forgiven x)) (λ x h. h) state.attempts all);
+      given = λ b g.
+          ap (λ (j : ℕ). given_in (set_in (slice_get (map forgiven state.attempts) j)) b)
+          (place_kept state (completed state) b.stage_attempt refl
+          (length-map state.attempts forgiven))
+          ∙ ap (λ o. given_in (set_in o) b)
+          (slice_get-map forgiven state.attempts (place_of_attempt state b.stage_attempt))
+          ∙ given b (attempt_in state b.stage_attempt) ∙ g;
     }
   where
+    given : (b : AttemptId) (o : Option StageAttempt)
+        → given_in (set_in (option_map forgiven o)) b ≡ given_in (set_in o) b
+    given b None = refl
+    given b (Some x) = refl
+
     one : (b : AttemptId) (o : Option StageAttempt)
         → runner_in (set_in (option_map forgiven o)) b ≡ runner_in (set_in o) b
     one b None = refl
@@ -74,6 +86,16 @@ added_runs b x none [] (suc j) = refl
 added_runs b x none (y ∷ ys) zero = refl
 added_runs b x none (y ∷ ys) (suc j) = added_runs b x none ys j
 
+-- what was handed out in one of some sets stays so with one set more
+added_given :
+    (b : AttemptId) (x : StageAttempt) (attempts : List StageAttempt) (j : ℕ)
+    → given_in (set_in (slice_get attempts j)) b ≡ true
+    → given_in (set_in (slice_get (attempts ++ x ∷ []) j)) b ≡ true
+added_given b x [] zero h = absurd (true≢false (sym h))
+added_given b x [] (suc j) h = h
+added_given b x (y ∷ ys) zero h = h
+added_given b x (y ∷ ys) (suc j) h = added_given b x ys j h
+
 pub started_calm :
     (t : TrackerData) (limits : Limits) (stage : StageData) (state : StageState)
     → MovesOf nothing None (Some state) (Some (started t limits stage state))
@@ -85,6 +107,7 @@ started_calm t limits stage state =
       unheld = λ all.
           All-push IsUnheld mid.attempts fresh all
           (fresh_unheld (missing_by t stage state.results) (is_map stage.target) limits t.epoch);
+      given = λ b. given b (nat_lt b.stage_attempt state.before);
     })
   where
     mid : StageState
@@ -92,6 +115,18 @@ started_calm t limits stage state =
 
     fresh : StageAttempt
     fresh = stage_attempt (new_set t limits stage state.results) false
+
+    given : (b : AttemptId) (x : Bool)
+        → given_in (set_in (slice_get mid.attempts
+        (if x then length mid.attempts else b.stage_attempt - state.before))) b ≡ true
+        → given_in (set_in (slice_get (mid.attempts ++ fresh ∷ [])
+        (if x then length (mid.attempts ++ fresh ∷ []) else b.stage_attempt - state.before))) b
+        ≡ true
+    given b true h =
+        absurd (true≢false (sym h
+        ∙ ap (λ o. given_in (set_in o) b)
+        (slice_get_past mid.attempts (length mid.attempts) (omega arith))))
+    given b false h = added_given b fresh mid.attempts (b.stage_attempt - state.before) h
 
     by : (b : AttemptId) (x : Bool)
         → runner_in (set_in (slice_get (mid.attempts ++ fresh ∷ [])

@@ -9,13 +9,17 @@ use Rattle.sc_ids.proofs.ChangeLemmas.{length_change_at, slice_get_change_other,
 use Rattle.sc_dag.specs.DagData.{StageState, attempt_in, place_of_attempt, set_in, with_attempts}
 use Rattle.sc_dag.specs.Sound.{attempts_in, runner_in}
 use Rattle.sc_dag.specs.declared.attempts.StageAttempt.{StageAttempt}
-use Rattle.sc_core.specs.Sound.{IsUnheld}
+use Rattle.sc_core.specs.Sound.{IsUnheld, given_in}
 use Rattle.sc_core.proofs.LookupLemmas.{set_among}
 use Rattle.sc_core.proofs.SetLemmas.{MovesIn, is_copy_of, nothing}
 
 -- where an attempt runs, in the sets of a stage that may be there
 abbrev pub runs_in : Option StageState → AttemptId → Option ℕ
 runs_in o b = runner_in (set_among o b.stage_attempt) b
+
+-- whether an attempt was handed out, in the sets of a stage that may be there
+abbrev pub gave_in : Option StageState → AttemptId → Bool
+gave_in o b = given_in (set_among o b.stage_attempt) b
 
 -- What a change of a stage does: the attempts that pass a test run somewhere else then, or
 -- nowhere, and all others as before.
@@ -24,13 +28,15 @@ pub record MovesOf (test : AttemptId → Bool) (new : Option ℕ) (old now : Opt
   pub runners : (b : AttemptId)
       → runs_in now b ≡ (if test b then new else runs_in old b)
   pub unheld : All IsUnheld (attempts_in old) → All IsUnheld (attempts_in now)
+  -- what was handed out stays so
+  pub given : (b : AttemptId) → gave_in old b ≡ true → gave_in now b ≡ true
 
 -- an attempt is of these numbers in its stage
 abbrev pub is_number_of : AttemptId → AttemptId → Bool
 is_number_of a b = (a.stage_attempt == b.stage_attempt) && is_copy_of a b
 
 pub calm_same : (o : Option StageState) → MovesOf nothing None o o
-calm_same o = record { runners = λ b. refl; unheld = λ all. all }
+calm_same o = record { runners = λ b. refl; unheld = λ all. all; given = λ b h. h }
 
 -- a calm change behind another one
 pub then_calm :
@@ -40,6 +46,7 @@ then_calm test new a b c h k =
     record {
       runners = λ x. k.runners x ∙ h.runners x;
       unheld = λ all. k.unheld (h.unheld all);
+      given = λ b g. k.given b (h.given b g);
     }
 
 -- ---- places of attempts
@@ -88,6 +95,34 @@ attempts_moved test new change (x ∷ xs) (suc i) moves all =
     All-cons IsUnheld x (change_at xs i change) (All-head IsUnheld x xs all)
     (attempts_moved test new change xs i moves (All-tail IsUnheld x xs all))
 
+-- what was handed out in one of some sets stays so, where one of these is changed
+given_changed :
+    (change : StageAttempt → StageAttempt) (attempts : List StageAttempt) (i j : ℕ)
+    (b : AttemptId)
+    → ((x : StageAttempt) → slice_get attempts i ≡ Some x → given_in (Some x.set) b ≡ true
+    → given_in (Some (change x).set) b ≡ true)
+    → given_in (set_in (slice_get attempts j)) b ≡ true
+    → given_in (set_in (slice_get (change_at attempts i change) j)) b ≡ true
+given_changed change attempts i j b keeps given = by (j == i) refl
+  where
+    one : (o : Option StageAttempt) → slice_get attempts i ≡ o → given_in (set_in o) b ≡ true
+        → given_in (set_in (option_map change o)) b ≡ true
+    one None e h = h
+    one (Some x) e h = keeps x e h
+
+    by : (x : Bool) → (j == i) ≡ x
+        → given_in (set_in (slice_get (change_at attempts i change) j)) b ≡ true
+    by true e =
+        let is : j ≡ i = grind (arith, nat_tests, e) in
+        ap (λ (k : ℕ). given_in (set_in (slice_get (change_at attempts i change) k)) b) is
+        ∙ ap (λ o. given_in (set_in o) b) (slice_get_change_same attempts i change)
+        ∙ one (slice_get attempts i) refl
+        (ap (λ (k : ℕ). given_in (set_in (slice_get attempts k)) b) (sym is) ∙ given)
+    by false e =
+        ap (λ o. given_in (set_in o) b)
+        (slice_get_change_other attempts i j change (λ is. grind (arith, nat_tests, e, is)))
+        ∙ given
+
 -- The attempt of a number changed, where its set's change is told; where there is none, nothing
 -- is to run that didn't.
 pub attempt_moves :
@@ -103,6 +138,10 @@ attempt_moves a new change state moves none =
       runners = λ b. by b (a.stage_attempt == b.stage_attempt) refl;
       unheld = attempts_moved (is_copy_of a) new change state.attempts
           (place_of_attempt state a.stage_attempt) moves;
+      given = λ b g.
+          ap (λ (j : ℕ). given_in (set_in (slice_get now.attempts j)) b) (kept b.stage_attempt)
+          ∙ given_changed change state.attempts place (place_of_attempt state b.stage_attempt) b
+          (λ x e. (moves x e).given b) g;
     }
   where
     place : ℕ
@@ -173,6 +212,12 @@ attempt_calm change state i moves =
           ∙ by b (place_of_attempt state b.stage_attempt)
           (place_of_attempt state b.stage_attempt == i) refl;
       unheld = attempts_moved nothing None change state.attempts i (λ x e. moves x);
+      given = λ b g.
+          ap (λ (j : ℕ). given_in (set_in (slice_get (change_at state.attempts i change) j)) b)
+          (place_kept state (with_attempts state (change_at state.attempts i change))
+          b.stage_attempt refl (length_change_at state.attempts i change))
+          ∙ given_changed change state.attempts i (place_of_attempt state b.stage_attempt) b
+          (λ x e. (moves x).given b) g;
     }
   where
     one : (b : AttemptId) (o : Option StageAttempt)

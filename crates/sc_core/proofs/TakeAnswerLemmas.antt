@@ -130,7 +130,7 @@ takes_there waits c exec sound = runs (job_runs c) refl
     holds e f g (Some held) h = (says.Busy held, c, (e, f, g, h, refl))
     holds e f g None h =
         asking (record { runs = e; stays = f; live = g; free = h })
-        (offer_or_none c.dag exec sound.dag)
+        (offer_or_none c.dag exec sound.job.dag)
 
     lost : job_runs c ≡ true → c.left_first ≡ None → (b : Bool) → is_lost c exec ≡ b → There
     lost e f true g = (says.Lost, c, (e, f, g, refl))

@@ -18,7 +18,7 @@ use Rattle.sc_dag.specs.Sound.{runner_among, runner_in, runner_of}
 use Rattle.sc_dag.proofs.Tests.{clash}
 use Rattle.sc_core.specs.CoreData.{CoreData, ended, is_of, is_out_on, is_running_job, job_runs, result_stage, running_of}
 use Rattle.sc_core.specs.HandOuts.{HandOutData}
-use Rattle.sc_core.specs.Sound.{AreTwo, GoesOn, IsSoundCore, RunsWell}
+use Rattle.sc_core.specs.Sound.{AreTwo, GoesOn, IsSoundCore, IsSoundJob, RunsWell}
 use Rattle.sc_core.specs.Takes.{IsAsking, IsHandOut, Takes, running_on, with_task}
 use Rattle.sc_core.specs.declared.answers.Abort.{Abort}
 use Rattle.sc_core.specs.declared.answers.Abort.TheVariants as aborts
@@ -30,27 +30,27 @@ use Rattle.sc_core.proofs.LookupLemmas.{is_itself, same_is, set_of_newest}
 use Rattle.sc_core.proofs.MoveLemmas.{Moves, state_results}
 use Rattle.sc_core.proofs.OfferLemmas.{IsOffered, handed_out_moves, offered, offered_may}
 use Rattle.sc_core.proofs.RunningLemmas.{none_passes, same_sym}
+use Rattle.sc_core.proofs.ShelfLemmas.{task_shelf}
 use Rattle.sc_core.proofs.ToldLemmas.{goes_same}
 
 -- a core that differs in what is told, when, and how far the job is
 pub calm_sound :
-    (c after : CoreData) → IsSoundCore c → after.dag ≡ c.dag → after.running ≡ c.running
-    → after.shelf ≡ [] → after.handed ≡ c.handed → (job_runs after ≡ true → GoesOn c)
+    (c after : CoreData) → IsSoundJob c → after.dag ≡ c.dag → after.running ≡ c.running
+    → after.handed ≡ c.handed → (job_runs after ≡ true → GoesOn c)
     → (after.job ≡ jobs.Done → is_complete c.dag (result_stage c.dag) ≡ true)
-    → IsSoundCore after
-calm_sound c after sound dag running shelf handed goes done =
+    → IsSoundJob after
+calm_sound c after sound dag running handed goes done =
     record {
       dag = rw dag sound.dag;
       result = rw dag sound.result;
       maps = rw dag sound.maps;
       running = subst (λ rs. All (RunsWell after) rs) (sym running)
           (All-weaker (RunsWell c) (RunsWell after)
-          (λ r w. record { in_set = rw dag w.in_set; live = rw dag w.live; out = w.out })
+          (λ r w. record { in_set = rw dag w.in_set; live = rw dag w.live })
           c.running sound.running);
       known = λ a exec h. subst (λ rs. find (is_of a) rs ≢ None) (sym running)
           (sound.known a exec (rw dag at h));
       apart = subst (λ rs. AllPairs AreTwo rs) (sym running) sound.apart;
-      shelf = shelf;
       unheld = rw dag sound.unheld;
       budget = rw (handed, dag) sound.budget;
       goes_on = λ h. record { settled = rw dag (goes h).settled; result = rw dag (goes h).result };
@@ -60,8 +60,13 @@ calm_sound c after sound dag running shelf handed goes done =
 pub aborted_sound : (c : CoreData) (why : Abort) → IsSoundCore c
     → IsSoundCore (ended c (jobs.Aborted why))
 aborted_sound c why sound =
-    calm_sound c (ended c (jobs.Aborted why)) sound refl refl refl refl
-    (λ h. absurd (true≢false (sym h))) (λ h. search (rules, h))
+    record {
+      job = calm_sound c (ended c (jobs.Aborted why)) sound.job refl refl refl
+          (λ h. absurd (true≢false (sym h))) (λ h. search (rules, h));
+      shelf = λ h. absurd (true≢false (sym h));
+      lost = sound.lost;
+      told = sound.told;
+    }
 
 -- ---- a task
 
@@ -90,9 +95,9 @@ offered_new d exec a o number =
     exec_of x = option_map (λ c. c.exec) x
 
 pub task_sound :
-    (c : CoreData) (exec : ℕ) (h : HandOutData) → CallsKeepSound → OthersGoOn → IsSoundCore c
+    (c : CoreData) (exec : ℕ) (h : HandOutData) → CallsKeepSound → OthersGoOn → IsSoundJob c
     → IsAsking c exec → IsHandOut c exec h → c.handed < c.dag.limits.hand_outs
-    → IsSoundCore (with_task c exec h)
+    → IsSoundJob (with_task c exec h)
 task_sound c exec h calls others sound asks out below =
     record {
       dag = (calls c.dag sound.dag).1 a exec c.now (offered_may c.dag exec a o);
@@ -103,7 +108,6 @@ task_sound c exec h calls others sound asks out below =
       known = λ b on r. known b on (is_same a b) refl (sym (moves.runners b) ∙ r);
       apart = all_pairs_push AreTwo c.running (running_on h exec) sound.apart
           (λ k d l. All-get_or (λ r. AreTwo r (running_on h exec)) c.running k d l apart);
-      shelf = sound.shelf;
       unheld = moves.unheld sound.unheld;
       budget = omega (arith, below);
       goes_on = λ r. goes_same c after sound (sound.goes_on r) refl
@@ -145,7 +149,6 @@ task_sound c exec h calls others sound asks out below =
           in_set = moves.runners r.hand_out.attempt
               ∙ (rw (other r w (is_same h.attempt r.hand_out.attempt) refl) w.in_set);
           live = w.live;
-          out = w.out;
         }
 
     new_runs : RunsWell after (running_on h exec)
@@ -153,7 +156,6 @@ task_sound c exec h calls others sound asks out below =
         record {
           in_set = moves.runners h.attempt ∙ (rw (is_itself h.attempt) refl);
           live = asks.live;
-          out = refl;
         }
 
     two : (r : Running) → RunsWell c r → is_out_on exec r ≡ false → AreTwo r (running_on h exec)
@@ -161,7 +163,7 @@ task_sound c exec h calls others sound asks out below =
         record {
           attempts = same_sym r.hand_out.attempt h.attempt
               ∙ other r w (is_same h.attempt r.hand_out.attempt) refl;
-          execs = λ is. apart_from (rw w.out at e) is;
+          execs = λ out new is. apart_from (rw out at e) is;
         }
       where
         apart_from : (r.exec == exec) ≡ false → r.exec ≡ exec → ⊥
@@ -211,7 +213,13 @@ pub takes_keep :
     CallsKeepSound → OthersGoOn → (c after : CoreData) (exec : ℕ) (answer : Answer)
     → IsSoundCore c → Takes c exec answer after → IsSoundCore after
 takes_keep calls others c after exec (says.Task h) sound (asks, out, below, is) =
-    subst IsSoundCore (sym is) (task_sound c exec h calls others sound asks out below)
+    subst IsSoundCore (sym is)
+    (record {
+      job = task_sound c exec h calls others sound.job asks out below;
+      shelf = λ r. task_shelf c exec h sound.job asks out (sound.shelf asks.runs);
+      lost = sound.lost;
+      told = sound.told;
+    })
 takes_keep calls others c after exec (says.Aborted aborts.Budget) sound (a, asks, o, above, is) =
     subst IsSoundCore (sym is) (aborted_sound c aborts.Budget sound)
 takes_keep calls others c after exec says.Ended sound (e, is) = subst IsSoundCore (sym is) sound
@@ -227,6 +235,8 @@ takes_keep calls others c after exec (says.Aborted (aborts.TaskLimit s k p)) sou
 takes_keep calls others c after exec (says.Aborted (aborts.StageLimit s)) sound bad = absurd bad
 takes_keep calls others c after exec (says.Aborted aborts.NoExecutor) sound bad = absurd bad
 takes_keep calls others c after exec says.Ignored sound bad = absurd bad
+takes_keep calls others c after exec says.Shelved sound bad = absurd bad
+takes_keep calls others c after exec says.Told sound bad = absurd bad
 takes_keep calls others c after exec says.Repeated sound bad = absurd bad
 takes_keep calls others c after exec says.Registered sound bad = absurd bad
 takes_keep calls others c after exec says.Bogus sound bad = absurd bad

@@ -1,5 +1,6 @@
 -- What reports leave.
-use Rattle.std.proofs.Common.{◌≡◌, ℕ, Bool, true, false, not, Option, Some, None, ◌⊎◌, inl, inr, refl, ap, ◌∙◌}
+use Rattle.std.proofs.Common.{◌≡◌, ℕ, zero, suc, Bool, true, false, cond, not, List, [], ◌∷◌, map, remove, filter, Option, Some, None, option_map, ◌⊎◌, inl, inr, refl, ap, sym, ◌∙◌}
+use Rattle.std.proofs.lemmas.Option.{slice_get-map}
 use Rattle.sc_ids.specs.declared.attempts.AttemptId.{AttemptId}
 use Rattle.sc_ids.specs.declared.blocks.Loc.{Loc}
 use Rattle.sc_ids.specs.declared.failures.FailureCause.{FailureCause}
@@ -12,13 +13,15 @@ use Rattle.sc_dag.specs.Reports.{CompletesMap, after_map_success, is_finished_sh
 use Rattle.sc_dag.specs.Submission.{IsSubmitted, this_stage}
 use Rattle.sc_dag.specs.declared.reports.Success.{Success}
 use Rattle.sc_dag.specs.declared.reports.Success.TheVariants as successes
-use Rattle.sc_core.specs.CoreData.{CoreData, job_runs, running_of, told_once, with_dag}
-use Rattle.sc_core.specs.Posts.{Posts}
+use Rattle.sc_core.specs.CoreData.{CoreData, as_in, is_of, job_runs, running_of, shelved_if, told_once, with_dag}
+use Rattle.sc_core.specs.Posts.{Posts, TellsNow}
+use Rattle.sc_core.specs.Rooms.{IsRunningAt}
 use Rattle.sc_core.specs.Tells.{FailsBy, FollowsUp, LooksAgain, TellsFailureIf, TellsMap, TellsResult, after_failure, done_if, is_zombie_in, released, success_answer, with_result_of}
 use Rattle.sc_core.specs.declared.answers.Answer.{Answer}
 use Rattle.sc_core.specs.declared.answers.Answer.TheVariants as says
 use Rattle.sc_core.specs.declared.events.Outcome.{Outcome}
 use Rattle.sc_core.specs.declared.running.Running.{Running}
+use Rattle.sc_core.proofs.ShelfLemmas.{find_in, in_same}
 
 -- a stage that is looked at is complete, or finished short of outputs
 pub looks_complete : (complete short : Bool) (mid : DagData) (s : ℕ) (after : DagData)
@@ -93,3 +96,45 @@ pub unknown_posted : (c : CoreData) (a : AttemptId) (outcome : Outcome) (answer 
     (after : CoreData) → job_runs c ≡ true → running_of c a ≡ None → answer ≡ says.Ignored
     → after ≡ told_once c → Posts c a outcome answer after
 unknown_posted c a outcome answer after runs none said left = rw (runs, none) (said, left)
+
+-- one that was to be told later
+pub unknown_told : (c : CoreData) (a : AttemptId) (outcome : Outcome) (after : CoreData)
+    → running_of c a ≡ None → after ≡ told_once c → TellsNow c a outcome says.Ignored after
+unknown_told c a outcome after none left = rw none (refl, left)
+
+-- an attempt that isn't out any more runs where it did
+pub running_in : (running : List Running) (a : AttemptId) (place : ℕ)
+    → IsRunningAt running a place → IsRunningAt (map (as_in a) running) a place
+running_in running a place r =
+    record {
+      one = as_in a r.one;
+      found = find_in a a running ∙ ap (option_map (as_in a)) r.found;
+      here = slice_get-map (as_in a) running place ∙ ap (option_map (as_in a)) r.here;
+      alone = remove_map (as_in a) running place ∙ ap (map (as_in a)) r.alone
+          ∙ sym (map_filter (as_in a) (λ q. not (is_of a q))
+          (λ q. ap not (in_same a a q)) running);
+    }
+  where
+    remove_map : {A : Type 0} (f : A → A) (xs : List A) (i : ℕ)
+        → remove (map f xs) i ≡ map f (remove xs i)
+    remove_map f [] zero = refl
+    remove_map f [] (suc i) = refl
+    remove_map f (x ∷ xs) zero = refl
+    remove_map f (x ∷ xs) (suc i) = ap (λ ys. f x ∷ ys) (remove_map f xs i)
+
+    map_filter : {A : Type 0} (f : A → A) (w : A → Bool) → ((x : A) → w (f x) ≡ w x)
+        → (xs : List A) → filter w (map f xs) ≡ map f (filter w xs)
+    map_filter f w same [] = refl
+    map_filter f w same (x ∷ xs) = rw (same x) (by (w x) (map_filter f w same xs))
+      where
+        by : (b : Bool) → filter w (map f xs) ≡ map f (filter w xs)
+            → cond b (f x ∷ filter w (map f xs)) (filter w (map f xs))
+            ≡ map f (cond b (x ∷ filter w xs) (filter w xs))
+        by true h = ap (λ ys. f x ∷ ys) h
+        by false h = h
+
+-- the same once a second copy of its report is to be told later or not
+pub running_if : (twice : Bool) (c : CoreData) (a : AttemptId) (outcome : Outcome) (place : ℕ)
+    → IsRunningAt c.running a place → IsRunningAt (shelved_if twice c a outcome 0).running a place
+running_if false c a outcome place r = r
+running_if true c a outcome place r = running_in c.running a place r

@@ -17,7 +17,7 @@ use Rattle.sc_dag.specs.Settled.{IsSettled, IsUnderWay}
 use Rattle.sc_dag.specs.Sound.{IsSoundDag, runner_of}
 use Rattle.sc_dag.specs.Submission.{is_map}
 use Rattle.sc_core.specs.CoreData.{CoreData, is_of, job_runs, result_stage, running_of}
-use Rattle.sc_core.specs.Sound.{AreTwo, GoesOn, IsSoundCore, RunsWell}
+use Rattle.sc_core.specs.Sound.{AreTwo, GoesOn, IsSoundJob, RunsWell}
 use Rattle.sc_core.specs.declared.answers.Job.TheVariants as jobs
 use Rattle.sc_core.specs.declared.running.Running.{Running}
 use Rattle.sc_core.proofs.MoveLemmas.{Moves, SameResults}
@@ -69,7 +69,7 @@ goes_with c after stages settled under =
 
 -- where no result is won, it does
 pub goes_same :
-    (c after : CoreData) → IsSoundCore c → GoesOn c → after.dag.stages ≡ c.dag.stages
+    (c after : CoreData) → IsSoundJob c → GoesOn c → after.dag.stages ≡ c.dag.stages
     → SameResults c.dag after.dag → dag.GoesOn c.dag after.dag → GoesOn after
 goes_same c after sound goes stages results on =
     goes_with c after stages on.0
@@ -77,12 +77,12 @@ goes_same c after sound goes stages results on =
 
 -- what is left of a core is sound, once an attempt's report is told
 pub told_sound :
-    (c after : CoreData) (a : AttemptId) → IsSoundCore c → Moves (is_same a) None c.dag after.dag
-    → after.running ≡ filter (λ r. not (is_of a r)) c.running → after.shelf ≡ []
+    (c after : CoreData) (a : AttemptId) → IsSoundJob c → Moves (is_same a) None c.dag after.dag
+    → after.running ≡ filter (λ r. not (is_of a r)) c.running
     → after.handed ≡ c.handed → IsSoundDag after.dag → (job_runs after ≡ true → GoesOn after)
     → (after.job ≡ jobs.Done → is_complete after.dag (result_stage after.dag) ≡ true)
-    → IsSoundCore after
-told_sound c after a sound moves running shelf handed dag_sound goes done =
+    → IsSoundJob after
+told_sound c after a sound moves running handed dag_sound goes done =
     record {
       dag = dag_sound;
       result = rw moves.stages sound.result;
@@ -91,7 +91,6 @@ told_sound c after a sound moves running shelf handed dag_sound goes done =
       known = λ b exec h. known b exec (is_same a b) refl (sym (moves.runners b) ∙ h);
       apart = subst (λ rs. AllPairs AreTwo rs) (sym running)
           (AllPairs-filter AreTwo (λ r. not (is_of a r)) c.running sound.apart);
-      shelf = shelf;
       unheld = moves.unheld sound.unheld;
       budget = rw (handed, moves.limits) sound.budget;
       goes_on = goes;
@@ -107,7 +106,6 @@ told_sound c after a sound moves running shelf handed dag_sound goes done =
           in_set = moves.runners r.hand_out.attempt
               ∙ (rw (same_sym a r.hand_out.attempt, other) well.in_set);
           live = moves.lost r.exec ∙ well.live;
-          out = well.out;
         }
 
     left_in : (rs : List Running) → All (RunsWell c) rs

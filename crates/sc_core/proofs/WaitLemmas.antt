@@ -1,5 +1,5 @@
 -- Where a job runs and no stage has a task, an attempt is under way.
-use Rattle.std.proofs.Common.{◌≡◌, ◌≢◌, ◌⊎◌, inl, inr, ℕ, ◌==◌, All, true, false, List, [], ◌∷◌, Option, Some, None, find, option_map, slice_get, refl, ap, ◌∙◌, arith, rules, true≢false}
+use Rattle.std.proofs.Common.{◌≡◌, ◌≢◌, ◌⊎◌, inl, inr, ℕ, ◌==◌, All, Bool, true, false, List, [], ◌∷◌, Option, Some, None, find, option_map, slice_get, refl, ap, sym, ◌∙◌, arith, rules, true≢false}
 use Rattle.std.proofs.lemmas.Bool.Decides.{nat_tests}
 use Rattle.std.proofs.lemmas.List.Elements.{All-head}
 use Rattle.sc_ids.specs.declared.attempts.AttemptId.{AttemptId}
@@ -13,8 +13,9 @@ use Rattle.sc_dag.proofs.Stuck.{newest_holds}
 use Rattle.sc_dag.proofs.Tests.{clash}
 use Rattle.sc_core.specs.CoreData.{CoreData, is_of, out_or, result_stage, running_of, shelved_first, under_way}
 use Rattle.sc_core.specs.Laws.{WaitsHaveCause}
-use Rattle.sc_core.specs.Sound.{IsSoundCore, RunsWell}
+use Rattle.sc_core.specs.Sound.{IsSoundCore, IsSoundJob, is_shelved}
 use Rattle.sc_core.specs.declared.running.Running as core
+use Rattle.sc_core.specs.declared.running.Shelved.{Shelved}
 use Rattle.sc_core.proofs.LookupLemmas.{attempt, set_of_newest}
 
 -- an attempt of a task that isn't idle runs
@@ -26,20 +27,42 @@ copy_runs (c ∷ copies) e =
 
 -- where an attempt runs, one is out
 out_there :
-    (c : CoreData) (a : AttemptId) → All (RunsWell c) c.running → running_of c a ≢ None
-    → under_way c ≢ None
+    (c : CoreData) (a : AttemptId)
+    → All (λ r. r.is_out ≡ false → is_shelved c.shelf r.hand_out.attempt ≡ true) c.running
+    → running_of c a ≢ None → under_way c ≢ None
 out_there c a all there = by c.running all there
   where
-    by : (running : List core.Running) → All (RunsWell c) running → find (is_of a) running ≢ None
+    first : (shelf : List Shelved) (b : AttemptId) → is_shelved shelf b ≡ true
+        → shelved_first shelf ≢ None
+    first [] b e = absurd (true≢false (sym e))
+    first (s ∷ shelf) b e = λ n. search (rules, n)
+
+    some_or : (o : Option core.Running) → shelved_first c.shelf ≢ None
+        → out_or o (shelved_first c.shelf) ≢ None
+    some_or None some = some
+    some_or (Some r) some = λ n. search (rules, n)
+
+    one : (r : core.Running) (running : List core.Running) (b : Bool) → r.is_out ≡ b
+        → (r.is_out ≡ false → is_shelved c.shelf r.hand_out.attempt ≡ true)
+        → out_or (find (λ r. r.is_out) (r ∷ running)) (shelved_first c.shelf) ≢ None
+    one r running true e waits = rw e (λ n. search (rules, n))
+    one r running false e waits =
+        some_or (find (λ q. q.is_out) (r ∷ running))
+        (first c.shelf r.hand_out.attempt (waits e))
+
+    by : (running : List core.Running)
+        → All (λ r. r.is_out ≡ false → is_shelved c.shelf r.hand_out.attempt ≡ true) running
+        → find (is_of a) running ≢ None
         → out_or (find (λ r. r.is_out) running) (shelved_first c.shelf) ≢ None
     by [] all some = absurd (some refl)
     by (r ∷ running) all some =
-        let out : r.is_out ≡ true = (All-head (RunsWell c) r running all).out in
-        rw out (λ e. search (rules, e))
+        one r running r.is_out refl
+        (All-head (λ q. q.is_out ≡ false → is_shelved c.shelf q.hand_out.attempt ≡ true) r running
+        all)
 
 -- what is held back runs
 held_runs :
-    (c : CoreData) (s p : ℕ) → IsSoundCore c → HoldsBack c.dag s p
+    (c : CoreData) (s p : ℕ) → IsSoundJob c → HoldsBack c.dag s p
     → (a : AttemptId) × (running_of c a ≢ None)
 held_runs c s p sound h =
     let runs = copy_runs h.task.copies (idle h.held) in
@@ -65,7 +88,7 @@ held_runs c s p sound h =
 
 pub waits_by : NothingIsStuck → WaitsHaveCause
 waits_by stuck c exec sound runs none =
-    let goes = sound.goes_on runs in
-    let held = stuck c.dag (result_stage c.dag) exec sound.dag goes.settled goes.result none in
-    let a = held_runs c held.0 held.1 sound held.2 in
-    out_there c a.0 sound.running a.1
+    let goes = sound.job.goes_on runs in
+    let held = stuck c.dag (result_stage c.dag) exec sound.job.dag goes.settled goes.result none in
+    let a = held_runs c held.0 held.1 sound.job held.2 in
+    out_there c a.0 (sound.shelf runs).out a.1

@@ -1,5 +1,5 @@
 -- The scheduler of one job, as plain data.
-use Rattle.std.specs.Prelude.{ℕ, ◌-◌, ◌==◌, ◌&&◌, List, [], ◌∷◌, Bool, true, false, not, Option, Some, None, length}
+use Rattle.std.specs.Prelude.{ℕ, ◌+◌, ◌-◌, ◌^◌, ◌==◌, ◌&&◌, List, [], ◌∷◌, ◌++◌, Bool, true, false, not, Option, Some, None, if◌then◌else◌, length, map, min}
 use Rattle.std.specs.List.{filter, find}
 use Rattle.std.specs.Option.{option_map}
 use Rattle.sc_base.specs.Counts.{counted}
@@ -7,8 +7,10 @@ use Rattle.sc_commit.specs.declared.committers.Committer.{Committer}
 use Rattle.sc_commit.specs.Committing.{is_same}
 use Rattle.sc_dag.specs.DagData.{DagData}
 use Rattle.sc_ids.specs.declared.attempts.AttemptId.{AttemptId}
+use Rattle.sc_plan.specs.declared.lines.PlanLine.{PlanLine}
 use Rattle.sc_core.specs.declared.answers.Job.{Job}
 use Rattle.sc_core.specs.declared.answers.Job.TheVariants as jobs
+use Rattle.sc_core.specs.declared.events.Outcome.{Outcome}
 use Rattle.sc_core.specs.declared.running.Running.{Running}
 use Rattle.sc_core.specs.declared.running.Shelved.{Shelved}
 
@@ -34,10 +36,12 @@ pub record CoreData : Type 0 where
   pub committers : List Committer
   -- the stages
   pub dag : DagData
+  -- the lines of the fault plan, which never change
+  pub plan : List PlanLine
 
 abbrev pub core_data : ℕ → ℕ → ℕ → Job → Option ℕ → List Running → List Shelved → ℕ
-    → List Committer → DagData → CoreData
-core_data told now handed job left_first running shelf next_key committers dag =
+    → List Committer → DagData → List PlanLine → CoreData
+core_data told now handed job left_first running shelf next_key committers dag plan =
     record {
       told = told;
       now = now;
@@ -49,6 +53,7 @@ core_data told now handed job left_first running shelf next_key committers dag =
       next_key = next_key;
       committers = committers;
       dag = dag;
+      plan = plan;
     }
 
 abbrev pub with_dag : CoreData → DagData → CoreData
@@ -99,6 +104,52 @@ out_or (Some r) other = Some r.hand_out.attempt
 -- that is to be told later
 abbrev pub under_way : CoreData → Option AttemptId
 under_way c = out_or (find (λ r. r.is_out) c.running) (shelved_first c.shelf)
+
+-- ---- reports that are to be told later
+
+abbrev pub has_key : ℕ → Shelved → Bool
+has_key key s = s.key == key
+
+-- the report of a key
+abbrev pub shelved_of : CoreData → ℕ → Option Shelved
+shelved_of c key = find (has_key key) c.shelf
+
+-- they without that of a key
+abbrev pub without_shelved : CoreData → ℕ → CoreData
+without_shelved c key = record c { shelf = filter (λ s. not (has_key key s)) c.shelf }
+
+-- an attempt, which isn't out any more where it is this one
+abbrev pub as_in : AttemptId → Running → Running
+as_in a r = if is_of a r then record r { is_out = false } else r
+
+-- when a report is due that comes so many tellings late, while the count fits
+abbrev pub due_by : ℕ → ℕ → ℕ
+due_by told delay = min (told + delay) (2 ^ 64 - 1)
+
+abbrev pub to_be_told : CoreData → AttemptId → Outcome → ℕ → Shelved
+to_be_told c a outcome delay =
+    record {
+      key = c.next_key;
+      due = due_by c.told delay;
+      attempt = a;
+      outcome = outcome;
+    }
+
+-- a report that is to be told later: its attempt isn't out any more
+abbrev pub shelved : CoreData → AttemptId → Outcome → ℕ → CoreData
+shelved c a outcome delay =
+    record c {
+      running = map (as_in a) c.running;
+      shelf = c.shelf ++ to_be_told c a outcome delay ∷ [];
+      next_key = c.next_key + 1;
+    }
+
+-- the same where one is to be told at all
+abbrev pub shelved_if : Bool → CoreData → AttemptId → Outcome → ℕ → CoreData
+shelved_if false c a outcome delay = c
+shelved_if true c a outcome delay = shelved c a outcome delay
+
+-- ---- reports that are told
 
 -- a report told: its attempt runs no more
 abbrev pub taken_off : CoreData → AttemptId → CoreData

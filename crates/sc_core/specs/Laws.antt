@@ -1,30 +1,34 @@
 -- Laws of cores: what holds whatever happens to them.
-use Rattle.std.specs.Prelude.{ℕ, ◌+◌, ◌-◌, ◌*◌, ◌<◌, ◌≤◌, ◌≡◌, ◌≢◌, List, Bool, true, false, Option, Some, None, IfSome, length}
+use Rattle.std.specs.Prelude.{ℕ, ◌+◌, ◌-◌, ◌*◌, ◌<◌, ◌≤◌, ◌≡◌, ◌≢◌, List, Bool, true, false, not, Option, Some, None, IfSome, filter, length}
 use Rattle.std.specs.List.{AllPairs}
-use Rattle.sc_dag.specs.DagData.{stage_at}
+use Rattle.sc_dag.specs.DagData.{DagData, stage_at}
 use Rattle.sc_dag.specs.Offers.{HasNone}
 use Rattle.sc_dag.specs.Openings.{FitsJob, IsJob}
 use Rattle.sc_dag.specs.Outputs.{is_done}
-use Rattle.sc_dag.specs.Reports.{set_of}
+use Rattle.sc_dag.specs.Reports.{has_failed_often, set_of}
 use Rattle.sc_ids.specs.Graphs.{StageData}
 use Rattle.sc_ids.specs.declared.attempts.AttemptId.{AttemptId}
 use Rattle.sc_ids.specs.declared.limits.Limits.{Limits}
+use Rattle.sc_plan.specs.declared.lines.PlanLine.{PlanLine}
+use Rattle.sc_plan.specs.declared.lines.PlanLine.TheVariants as lines
 use Rattle.sc_taskset.specs.Lookups.{task_at}
 use Rattle.sc_taskset.specs.TaskSetData.{TaskData, TaskSetData}
-use Rattle.sc_core.specs.CoreData.{CoreData, job_runs, result_stage, under_way}
+use Rattle.sc_tracker.specs.TrackerData.{TrackerData, trust_of}
+use Rattle.sc_tracker.specs.Trust.{are_lost}
+use Rattle.sc_core.specs.CoreData.{CoreData, job_runs, result_stage, running_of, under_way}
 use Rattle.sc_core.specs.Journals.{Replays}
 use Rattle.sc_core.specs.Openings.{IsOpening, tracker_behind}
 use Rattle.sc_core.specs.Sound.{IsSoundCore}
 use Rattle.sc_core.specs.Steps.{Steps, is_enabled}
 use Rattle.sc_core.specs.Takes.{IsAsking}
-use Rattle.sc_core.specs.declared.answers.Abort.TheVariants.{Budget, TaskLimit}
+use Rattle.sc_core.specs.declared.answers.Abort.TheVariants.{Budget, NoExecutor, StageLimit, TaskLimit}
 use Rattle.sc_core.specs.declared.answers.Answer.{Answer}
 use Rattle.sc_core.specs.declared.answers.Answer.TheVariants as says
 use Rattle.sc_core.specs.declared.answers.Job.TheVariants as jobs
 use Rattle.sc_core.specs.declared.entries.Entry.{Entry}
 use Rattle.sc_core.specs.declared.events.Event.{Event}
-use Rattle.sc_core.specs.declared.events.Event.TheVariants.{Post, Take}
-use Rattle.sc_core.specs.declared.events.Outcome.{Outcome}
+use Rattle.sc_core.specs.declared.events.Event.TheVariants.{Post, Release, Take, TellLost}
+use Rattle.sc_core.specs.declared.running.Running.{Running}
 
 -- an event has one answer in a state, and leaves one state
 abbrev pub StepsAgree : Type 0
@@ -47,9 +51,10 @@ ReplaysKeepSound =
 -- the core of a job that begins is sound
 abbrev pub OpeningsAreSound : Type 0
 OpeningsAreSound =
-    (graph : List StageData) (limits : Limits) (saved : ℕ) (last : Option CoreData) (c : CoreData)
+    (graph : List StageData) (limits : Limits) (saved : ℕ) (plan : List PlanLine)
+    (last : Option CoreData) (c : CoreData)
     → IsJob graph → FitsJob (tracker_behind last limits) graph → IfSome last IsSoundCore
-    → IsOpening graph limits saved last c → IsSoundCore c
+    → IsOpening graph limits saved plan last c → IsSoundCore c
 
 -- and a journal leaves one state
 abbrev pub ReplaysAgree : Type 0
@@ -88,7 +93,7 @@ DoneJobsAreWhole =
     (c : CoreData) (p : ℕ) → IsSoundCore c → c.job ≡ jobs.Done
     → p < (stage_at c.dag (result_stage c.dag)).tasks → is_done c.dag (result_stage c.dag) p ≡ true
 
--- so many failures of a partition were counted in its task set, each of another attempt
+-- so many failures of a partition were counted in a task set, each of another attempt
 abbrev pub HasFailedOften : Option TaskSetData → ℕ → Type 0
 HasFailedOften None p = ⊥
 HasFailedOften (Some set) p = HasFailedSo set.limits.task_failures (task_at p set.tasks)
@@ -98,18 +103,48 @@ HasFailedOften (Some set) p = HasFailedSo set.limits.task_failures (task_at p se
     HasFailedSo limit (Some task) =
         (limit ≤ length task.failures) × AllPairs (λ m n. m ≢ n) task.failures
 
+-- the same in the task set of a number
+abbrev pub HasFailedAt : DagData → ℕ → ℕ → ℕ → Type 0
+HasFailedAt d stage number p =
+    HasFailedOften (set_of d (record {
+      stage = stage;
+      stage_attempt = number;
+      partition = p;
+      nth = 0;
+    })) p
+
 -- a job is aborted for the failures of a partition only where there are as many as that
 abbrev pub TaskLimitsAreReached : Type 0
 TaskLimitsAreReached =
-    (c after : CoreData) (a : AttemptId) (outcome : Outcome) (stage number p : ℕ)
+    (c after : CoreData) (event : Event) (stage number p : ℕ)
     → IsSoundCore c
-    → Steps c (Post a outcome) (says.Aborted (TaskLimit stage number p)) after
-    → (stage ≡ a.stage) × (number ≡ a.stage_attempt) × (p ≡ a.partition)
-    × HasFailedOften (set_of after.dag a) p
+    → Steps c event (says.Aborted (TaskLimit stage number p)) after
+    → HasFailedAt after.dag stage number p
 
--- how much may still happen: hand-outs that are left, twice, and attempts that run
+-- a job is aborted for failed attempts of a stage only where there are as many as that
+abbrev pub StageLimitsAreReached : Type 0
+StageLimitsAreReached =
+    (c after : CoreData) (event : Event) (stage : ℕ)
+    → Steps c event (says.Aborted (StageLimit stage)) after
+    → has_failed_often after.dag stage ≡ true
+
+-- and for want of executors only where every one was told lost
+abbrev pub NoExecutorsAreLeft : Type 0
+NoExecutorsAreLeft =
+    (c after : CoreData) (event : Event) → Steps c event (says.Aborted NoExecutor) after
+    → are_lost after.dag.tracker.trust ≡ true
+
+-- a line of a plan loses an executor that wasn't told lost yet
+abbrev pub is_untold : TrackerData → PlanLine → Bool
+is_untold t (lines.Lose exec after told) = not (trust_of t exec).lost
+is_untold t line = false
+
+-- how much may still happen: hand-outs that are left, attempts that are out, reports that are to
+-- be told later, and losses; of a report that is posted there are two at most
 abbrev pub left_to_do : CoreData → ℕ
-left_to_do c = 2 * (c.dag.limits.hand_outs - c.handed) + length c.running
+left_to_do c =
+    4 * (c.dag.limits.hand_outs - c.handed) + 3 * length (filter (λ r. r.is_out) c.running)
+    + length c.shelf + length (filter (is_untold c.dag.tracker) c.plan)
 
 -- an answer that only says how things are
 abbrev pub changes_nothing : Answer → Bool
@@ -121,9 +156,21 @@ changes_nothing says.Ended = true
 changes_nothing says.Ignored = true
 changes_nothing answer = false
 
--- in a job that goes on, every other answer leaves less to do
+-- an event only asks how things are, or is a report that nobody waits for: what isn't out has
+-- reported before
+abbrev pub spends_nothing : CoreData → Event → Answer → Bool
+spends_nothing c (Take exec) answer = changes_nothing answer
+spends_nothing c (Post a outcome) answer = not (is_out_in (running_of c a))
+  where
+    is_out_in : Option Running → Bool
+    is_out_in None = false
+    is_out_in (Some r) = r.is_out
+spends_nothing c (Release key) answer = false
+spends_nothing c (TellLost exec) answer = false
+
+-- in a job that goes on, every other event leaves less to do
 abbrev pub StepsAreSpent : Type 0
 StepsAreSpent =
     (c after : CoreData) (event : Event) (answer : Answer) → IsSoundCore c
-    → Steps c event answer after → changes_nothing answer ≡ false → job_runs after ≡ true
+    → Steps c event answer after → spends_nothing c event answer ≡ false → job_runs after ≡ true
     → left_to_do after < left_to_do c

@@ -5,6 +5,8 @@ pub mod CoreData
 pub mod Takes
 pub mod Tells
 pub mod Posts
+pub mod Releases
+pub mod Losses
 pub mod Rooms
 pub mod Steps
 pub mod Openings

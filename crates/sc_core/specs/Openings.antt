@@ -7,6 +7,7 @@ use Rattle.sc_dag.specs.Openings.{Opens}
 use Rattle.sc_dag.specs.Submission.{IsSubmitted, this_stage}
 use Rattle.sc_ids.specs.Graphs.{StageData}
 use Rattle.sc_ids.specs.declared.limits.Limits.{Limits}
+use Rattle.sc_plan.specs.declared.lines.PlanLine.{PlanLine}
 use Rattle.sc_tracker.specs.TrackerData.{TrackerData, tracker_data}
 use Rattle.sc_tracker.specs.Trust.{untold}
 use Rattle.sc_core.specs.CoreData.{CoreData, result_stage}
@@ -26,10 +27,16 @@ abbrev pub now_before : Option CoreData → ℕ
 now_before None = 0
 now_before (Some last) = last.now
 
--- The core of a job with these stages, which saves so many partitions or none, behind another job
--- or none: its result stage is submitted, and nothing else has happened.
+-- the plan of the run, which is carried on from the job before
+abbrev pub plan_behind : Option CoreData → List PlanLine → List PlanLine
+plan_behind None plan = plan
+plan_behind (Some last) plan = last.plan
+
+-- The core of a job with these stages, which saves so many partitions or none, in a run under this
+-- plan, behind another job of the run or none: its result stage is submitted, and nothing else has
+-- happened.
 pub record IsOpening (graph : List StageData) (limits : Limits) (saved : ℕ)
-    (last : Option CoreData) (c : CoreData) : Type 0 where
+    (plan : List PlanLine) (last : Option CoreData) (c : CoreData) : Type 0 where
   pub dag : DagData
   pub opens : Opens graph (option_map (λ l. l.dag) last) (tracker_behind last limits) dag
   pub limits_are : dag.limits ≡ limits
@@ -43,6 +50,7 @@ pub record IsOpening (graph : List StageData) (limits : Limits) (saved : ℕ)
   pub shelf : c.shelf ≡ []
   pub next_key : c.next_key ≡ 0
   pub committers : c.committers ≡ replicate saved Nobody
+  pub plan_is : c.plan ≡ plan_behind last plan
 
 -- The stages of a job that begins with these limits, behind those of another job or none, once the
 -- result stage is submitted.

@@ -1,5 +1,5 @@
 -- What a report is answered that is posted, and what that leaves.
-use Rattle.std.specs.Prelude.{◌≡◌, ◌==◌, ◌&&◌, ◌||◌, not, List, [], ◌∷◌, Bool, true, false, Option, Some, None, nat_lt}
+use Rattle.std.specs.Prelude.{ℕ, ◌≡◌, ◌==◌, ◌&&◌, ◌||◌, not, List, [], ◌∷◌, Bool, true, false, Option, Some, None, nat_lt}
 use Rattle.std.specs.List.{list_any}
 use Rattle.sc_commit.specs.declared.committers.Committer.{Committer}
 use Rattle.sc_dag.specs.DagData.{stage_at}
@@ -10,10 +10,12 @@ use Rattle.sc_ids.specs.declared.failures.Counts.{Counts}
 use Rattle.sc_ids.specs.declared.failures.FailureCause.{FailureCause}
 use Rattle.sc_ids.specs.declared.failures.FailureCause.TheVariants as causes
 use Rattle.sc_ids.specs.declared.failures.Fault.{Fault}
+use Rattle.sc_plan.specs.Attempts.{delay_of, is_doubled}
+use Rattle.sc_plan.specs.PlanLines.{place_of}
 use Rattle.sc_tracker.specs.declared.outputs.Location.{Location}
 use Rattle.sc_tracker.specs.declared.outputs.Location.TheVariants.{Here, Missing}
-use Rattle.sc_core.specs.CoreData.{CoreData, job_runs, running_of, taken_off, told_once}
-use Rattle.sc_core.specs.Tells.{Tells}
+use Rattle.sc_core.specs.CoreData.{CoreData, job_runs, running_of, shelved, shelved_if, told_once}
+use Rattle.sc_core.specs.Tells.{TellsTo}
 use Rattle.sc_core.specs.declared.answers.Answer.{Answer}
 use Rattle.sc_core.specs.declared.answers.Answer.TheVariants as says
 use Rattle.sc_core.specs.declared.events.Outcome.{Outcome}
@@ -82,11 +84,32 @@ fits c r outcomes.Result =
     && (not (is_save c.committers) || has_moved r.phase)
 fits c r (outcomes.Failed cause) = fits_failure r cause
 
--- a report of an attempt that may run
+-- how many more reports are told before that of an attempt, where it comes late
+abbrev pub delay_for : CoreData → AttemptId → Option ℕ
+delay_for c a = delay_of c.plan (place_of a)
+
+-- a second copy of its report comes
+abbrev pub comes_twice : CoreData → AttemptId → Bool
+comes_twice c a = is_doubled c.plan (place_of a)
+
+-- a report is told to its attempt
+abbrev pub TellsNow : CoreData → AttemptId → Outcome → Answer → CoreData → Type 0
+TellsNow c a outcome answer after = TellsTo (running_of c a) c a outcome answer after
+
+-- A report of a running attempt that fits it: a late one is to be told later, and any other one is
+-- told. A second copy is to be told later too, due with the first one's delay.
+abbrev pub PostsBy : Option ℕ → CoreData → AttemptId → Outcome → Answer → CoreData → Type 0
+PostsBy None c a outcome answer after =
+    TellsNow (shelved_if (comes_twice c a) c a outcome 0) a outcome answer after
+PostsBy (Some delay) c a outcome answer after =
+    (answer ≡ says.Shelved)
+    × (after ≡ shelved_if (comes_twice c a) (shelved c a outcome delay) a outcome delay)
+
+-- a report of an attempt that may run: of one that doesn't it is counted, and told to nobody
 abbrev pub PostsOf : Option Running → CoreData → AttemptId → Outcome → Answer → CoreData → Type 0
 PostsOf None c a outcome answer after = (answer ≡ says.Ignored) × (after ≡ told_once c)
 PostsOf (Some r) c a outcome answer after =
-    (fits c r outcome ≡ true) × Tells (taken_off c a) r outcome answer after
+    (fits c r outcome ≡ true) × PostsBy (delay_for c a) c a outcome answer after
 
 -- a report in a job that may run: after its end nothing is told
 abbrev pub PostsIf : Bool → CoreData → AttemptId → Outcome → Answer → CoreData → Type 0

@@ -1,30 +1,35 @@
 -- What holds of every core.
-use Rattle.std.specs.Prelude.{ℕ, ◌≤◌, ◌≡◌, ◌≢◌, ◌⊎◌, [], true, false, Some, None, All}
-use Rattle.std.specs.List.{AllPairs}
+use Rattle.std.specs.Prelude.{ℕ, ◌^◌, ◌<◌, ◌≤◌, ◌≡◌, ◌≢◌, ◌⊎◌, List, Bool, true, false, Option, Some, None, All, nat_lt}
+use Rattle.std.specs.List.{AllPairs, list_any}
 use Rattle.sc_commit.specs.Committing.{is_same}
-use Rattle.sc_dag.specs.DagData.{no_stage, stage_at}
+use Rattle.sc_dag.specs.DagData.{DagData, no_stage, stage_at}
 use Rattle.sc_dag.specs.Outputs.{is_complete}
+use Rattle.sc_dag.specs.Reports.{set_of}
 use Rattle.sc_dag.specs.Settled.{IsSettled, IsUnderWay}
 use Rattle.sc_dag.specs.Sound.{IsSoundDag, attempts_of, runner_of}
 use Rattle.sc_dag.specs.Submission.{is_map}
 use Rattle.sc_dag.specs.declared.attempts.StageAttempt.{StageAttempt}
 use Rattle.sc_ids.specs.declared.attempts.AttemptId.{AttemptId}
+use Rattle.sc_plan.specs.Orders.{loss_of}
+use Rattle.sc_taskset.specs.Lookups.{task_at}
+use Rattle.sc_taskset.specs.TaskSetData.{TaskData, TaskSetData}
 use Rattle.sc_tracker.specs.TrackerData.{trust_of}
-use Rattle.sc_core.specs.CoreData.{CoreData, job_runs, result_stage, running_of}
+use Rattle.sc_core.specs.CoreData.{CoreData, is_of, job_runs, result_stage, running_of}
 use Rattle.sc_core.specs.declared.answers.Job.TheVariants as jobs
+use Rattle.sc_core.specs.Losses.{is_due_after}
+use Rattle.sc_core.specs.Posts.{fits}
 use Rattle.sc_core.specs.declared.running.Running.{Running}
+use Rattle.sc_core.specs.declared.running.Shelved.{Shelved}
 
 -- a running attempt runs in its task set too, on its executor, which isn't lost
 pub record RunsWell (c : CoreData) (r : Running) : Type 0 where
   pub in_set : runner_of c.dag r.hand_out.attempt ≡ Some r.exec
   pub live : (trust_of c.dag.tracker r.exec).lost ≡ false
-  -- until reports can be told later, each is out until it is told
-  pub out : r.is_out ≡ true
 
--- two running attempts are different ones, on different executors
+-- two running attempts are different ones, and where both are out on different executors
 pub record AreTwo (q r : Running) : Type 0 where
   pub attempts : is_same q.hand_out.attempt r.hand_out.attempt ≡ false
-  pub execs : q.exec ≢ r.exec
+  pub execs : q.is_out ≡ true → r.is_out ≡ true → q.exec ≢ r.exec
 
 -- a job that runs goes on
 pub record GoesOn (c : CoreData) : Type 0 where
@@ -37,8 +42,10 @@ pub record GoesOn (c : CoreData) : Type 0 where
 abbrev pub IsUnheld : StageAttempt → Type 0
 IsUnheld a = All (λ task. task.denied ≡ false) a.set.tasks
 
--- every core
-pub record IsSoundCore (c : CoreData) : Type 0 where
+-- ---- what runs
+
+-- what runs, and how far the job is
+pub record IsSoundJob (c : CoreData) : Type 0 where
   pub dag : IsSoundDag c.dag
   -- the last stage is the result stage, and all others of the job are map stages
   pub result : is_map (stage_at c.dag (result_stage c.dag)).target ≡ false
@@ -48,12 +55,70 @@ pub record IsSoundCore (c : CoreData) : Type 0 where
   pub running : All (RunsWell c) c.running
   pub known : (a : AttemptId) (exec : ℕ) → runner_of c.dag a ≡ Some exec
       → running_of c a ≢ None
+  -- an executor has one attempt out
   pub apart : AllPairs AreTwo c.running
-  -- nothing is shelved or denied yet
-  pub shelf : c.shelf ≡ []
+  -- nothing is denied yet
   pub unheld : (s : ℕ) → All IsUnheld (attempts_of c.dag s)
   -- no more was handed out than is allowed
   pub budget : c.handed ≤ c.dag.limits.hand_outs
   -- a job that runs goes on, and one that is done has all its results
   pub goes_on : job_runs c ≡ true → GoesOn c
   pub done : c.job ≡ jobs.Done → is_complete c.dag (result_stage c.dag) ≡ true
+
+-- ---- what is to be told later
+
+-- a task was handed out under a number
+abbrev pub given_among : Option TaskData → ℕ → Bool
+given_among None nth = false
+given_among (Some task) nth = nat_lt nth task.given
+
+abbrev pub given_in : Option TaskSetData → AttemptId → Bool
+given_in None a = false
+given_in (Some set) a = given_among (task_at a.partition set.tasks) a.nth
+
+-- an attempt was handed out
+abbrev pub was_given : DagData → AttemptId → Bool
+was_given d a = given_in (set_of d a) a
+
+-- a report of an attempt is to be told later
+abbrev pub is_shelved : List Shelved → AttemptId → Bool
+is_shelved shelf a = list_any (λ s. is_same s.attempt a) shelf
+
+-- a running attempt of which this report is to be told isn't out, and the report fits it
+pub record AwaitsTelling (c : CoreData) (s : Shelved) (r : Running) : Type 0 where
+  pub is_in : r.is_out ≡ false
+  pub fit : fits c r s.outcome ≡ true
+
+-- a report that is to be told later
+pub record IsShelvedWell (c : CoreData) (s : Shelved) : Type 0 where
+  -- its key isn't given again
+  pub below : s.key < c.next_key
+  -- its attempt was handed out, so none that comes is of its numbers
+  pub given : was_given c.dag s.attempt ≡ true
+  -- its attempt, where it runs still, waits for it
+  pub runs : All (λ r. is_of s.attempt r ≡ true → AwaitsTelling c s r) c.running
+
+-- the reports that are to be told later
+pub record IsSoundShelf (c : CoreData) : Type 0 where
+  -- an attempt that runs is out, or its report is to be told later
+  pub out : All (λ r. r.is_out ≡ false → is_shelved c.shelf r.hand_out.attempt ≡ true) c.running
+  pub each : All (IsShelvedWell c) c.shelf
+  pub rising : AllPairs (λ s t. s.key < t.key) c.shelf
+
+-- ---- what was told
+
+-- who was told lost was planned to be, and as many reports were told as come before that
+abbrev pub AreLostAsPlanned : CoreData → Type 0
+AreLostAsPlanned c =
+    (exec : ℕ) → (trust_of c.dag.tracker exec).lost ≡ true
+    → is_due_after (loss_of c.plan exec) c.told ≡ true
+
+-- ---- every core
+
+pub record IsSoundCore (c : CoreData) : Type 0 where
+  pub job : IsSoundJob c
+  -- after the job's end nothing is told any more
+  pub shelf : job_runs c ≡ true → IsSoundShelf c
+  pub lost : AreLostAsPlanned c
+  -- the count of what was told is within its type
+  pub told : c.told < 2 ^ 64

@@ -19,7 +19,7 @@ use Rattle.sc_taskset.specs.TaskSetData.{TaskSetData}
 use Rattle.sc_taskset.specs.declared.tasks.Verdict.{Verdict}
 use Rattle.sc_taskset.specs.declared.tasks.Verdict.TheVariants as verdicts
 use Rattle.sc_tracker.specs.Trust.{is_newer}
-use Rattle.sc_core.specs.CoreData.{CoreData, ended, with_dag}
+use Rattle.sc_core.specs.CoreData.{CoreData, ended, taken_off, told_once, with_dag}
 use Rattle.sc_core.specs.declared.answers.Abort.{Abort}
 use Rattle.sc_core.specs.declared.answers.Abort.TheVariants.{StageLimit, TaskLimit}
 use Rattle.sc_core.specs.declared.answers.Answer.{Answer}
@@ -159,3 +159,9 @@ abbrev pub Tells : CoreData → Running → Outcome → Answer → CoreData → 
 Tells c r (outcomes.Map loc) answer after = TellsMap c r loc answer after
 Tells c r outcomes.Result answer after = TellsResult c r answer after
 Tells c r (outcomes.Failed cause) answer after = TellsFailure c r cause answer after
+
+-- a report of an attempt that may run is told to it: of one that doesn't it is counted alone
+abbrev pub TellsTo :
+    Option Running → CoreData → AttemptId → Outcome → Answer → CoreData → Type 0
+TellsTo None c a outcome answer after = (answer ≡ says.Ignored) × (after ≡ told_once c)
+TellsTo (Some r) c a outcome answer after = Tells (taken_off c a) r outcome answer after

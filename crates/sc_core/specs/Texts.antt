@@ -17,7 +17,7 @@ use Rattle.sc_core.specs.declared.answers.Answer.{Answer}
 use Rattle.sc_core.specs.declared.answers.Answer.TheVariants as says
 use Rattle.sc_core.specs.declared.entries.Entry.{Entry}
 use Rattle.sc_core.specs.declared.events.Event.{Event}
-use Rattle.sc_core.specs.declared.events.Event.TheVariants.{Post, Take}
+use Rattle.sc_core.specs.declared.events.Event.TheVariants.{Post, Release, Take, TellLost}
 use Rattle.sc_core.specs.declared.events.Outcome.{Outcome}
 use Rattle.sc_core.specs.declared.events.Outcome.TheVariants as outcomes
 
@@ -72,6 +72,8 @@ abbrev pub event_text : Event → List ℕ
 event_text (Take exec) = codes "take"
 event_text (Post attempt outcome) =
     codes "post " ++ attempt_text attempt ++ codes " " ++ outcome_text outcome
+event_text (Release key) = codes "release " ++ decimal key
+event_text (TellLost exec) = codes "lost " ++ decimal exec
 
 -- a partition that failed as often as is allowed in an attempt of its stage
 abbrev pub limit_text : ℕ → ℕ → ℕ → List ℕ
@@ -94,6 +96,8 @@ answer_text (says.Stopped exec) = codes "stopped by " ++ decimal exec
 answer_text says.Ended = codes "ended"
 answer_text (says.Aborted why) = codes "aborted: " ++ abort_text why
 answer_text says.Ignored = codes "ignored"
+answer_text says.Shelved = codes "shelved"
+answer_text says.Told = codes "told"
 answer_text says.Repeated = codes "repeated"
 answer_text says.Registered = codes "registered"
 answer_text says.Bogus = codes "bogus"

@@ -70,6 +70,10 @@ pub enum Answer {
     Aborted(Abort),
     /// The report was of no running attempt, or came after the job's end.
     Ignored,
+    /// The executor is told lost.
+    Told,
+    /// The report is to be told later.
+    Shelved,
     /// The success changes nothing but that its attempt has ended.
     Repeated,
     /// The map output is registered.
@@ -84,7 +88,8 @@ pub enum Answer {
     Resubmitted,
 }
 
-/// The answer to an event that isn't enabled: a report that doesn't fit its running attempt.
+/// The answer to an event that isn't enabled: a report that doesn't fit its running attempt, a release
+/// where no report of the key is to be told later, or a loss that isn't due.
 #[derive(Clone, Copy, Debug, PartialEq, Eq)]
 pub struct NotEnabled;
 
@@ -114,6 +119,8 @@ fn copied(answer: &Answer) -> Answer
         Answer::Ended => Answer::Ended,
         Answer::Aborted(why) => Answer::Aborted(*why),
         Answer::Ignored => Answer::Ignored,
+        Answer::Told => Answer::Told,
+        Answer::Shelved => Answer::Shelved,
         Answer::Repeated => Answer::Repeated,
         Answer::Registered => Answer::Registered,
         Answer::Bogus => Answer::Bogus,

@@ -39,7 +39,7 @@ pub(crate) fn first_out(running: &[Running]) -> Option<AttemptId>
 }
 
 /// Whether a running attempt has these numbers.
-fn is_of(running: &Running, attempt: AttemptId) -> bool
+pub(crate) fn is_of(running: &Running, attempt: AttemptId) -> bool
     ensures { result ≡ is_of attempt running.now }
 {
     running.hand_out.attempt() == attempt

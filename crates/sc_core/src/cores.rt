@@ -14,10 +14,11 @@ ghost use Rattle.sc_core.specs.declared.answers.NotEnabled.{NotEnabled};
 
 use crate::answers::{Job, NotEnabled, Stepped};
 use crate::events::Event;
-use crate::running::Running;
+use crate::running::{Running, Shelved};
 use crate::states::State;
 use sc_base::OrMemory;
 use sc_ids::{Limits, StageGraph, StageId};
+use sc_plan::Plan;
 use std::alloc::{AllocError, Global};
 use std::marker::Model;
 
@@ -39,21 +40,24 @@ impl Model for Core {
 }
 
 impl Core {
-    /// The core of a job with these stages, which saves so many partitions or none, behind another
-    /// job or none. What that one's tracker knows of shuffles is carried on.
+    /// The core of a job with these stages, which saves so many partitions or none, in a run under
+    /// this plan, behind another job of the run or none. What that one's tracker knows of shuffles
+    /// is carried on, and so is its plan.
     pub fn open(
         alloc: Global,
         graph: &StageGraph,
         limits: Limits,
         saved: u32,
+        plan: &Plan,
         last: Option<&Core>,
     ) -> Result<Core, AllocError>
         requires job { IsJob graph.now }
         requires fits { FitsJob (tracker_behind (option_map (λ l. l.now) last) limits) graph.now }
         ensures { IfOk result
-            (λ c. IsOpening graph.now limits saved (option_map (λ l. l.now) last.entry) c) }
+            (λ c. IsOpening graph.now limits saved plan.now (option_map (λ l. l.now) last.entry)
+            c) }
     {
-        let state = State::open(alloc, graph, limits, saved, state_behind(last))?;
+        let state = State::open(alloc, graph, limits, saved, plan, state_behind(last))?;
         Ok(Core { state })
     }
 
@@ -69,6 +73,8 @@ impl Core {
         match *event {
             Event::Take { exec } => Ok(self.state.take(exec)?),
             Event::Post { attempt, outcome } => self.state.post(attempt, outcome),
+            Event::Release { key } => self.state.release_key(key),
+            Event::TellLost { exec } => self.state.tell_lost(exec),
         }
     }
 
@@ -105,6 +111,13 @@ impl Core {
         ensures { result.now ≡ self.now.running }
     {
         self.state.running.as_slice()
+    }
+
+    /// The reports that are to be told later, by rising keys.
+    pub fn shelf(&self) -> &[Shelved]
+        ensures { result.now ≡ self.now.shelf }
+    {
+        self.state.shelf.as_slice()
     }
 
     /// The number of the result stage.

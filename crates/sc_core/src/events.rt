@@ -29,4 +29,14 @@ pub enum Event {
         /// What it reports.
         outcome: Outcome,
     },
+    /// A report that was to be told later is told.
+    Release {
+        /// Its key.
+        key: u32,
+    },
+    /// An executor is told lost.
+    TellLost {
+        /// The executor.
+        exec: ExecId,
+    },
 }

@@ -1,7 +1,7 @@
 //! Laws of cores, as functions that do nothing.
 #![tactic(auto)]
 
-ghost use Rattle.sc_core.specs.Laws.{DoneJobsAreWhole, EventsAreAnswered, NeverStuck, OpeningsAreSound, ReplaysAgree, ReplaysKeepSound, StepsAgree, StepsAreSpent, StepsKeepSound, TaskLimitsAreReached, WaitsHaveCause};
+ghost use Rattle.sc_core.specs.Laws.{DoneJobsAreWhole, EventsAreAnswered, NeverStuck, NoExecutorsAreLeft, OpeningsAreSound, ReplaysAgree, ReplaysKeepSound, StageLimitsAreReached, StepsAgree, StepsAreSpent, StepsKeepSound, TaskLimitsAreReached, WaitsHaveCause};
 
 /// An event has one answer and leaves one state, and so a journal does. A call does nothing.
 pub fn steps_have_one_answer()
@@ -25,9 +25,11 @@ pub fn jobs_never_stick()
     ensures spent { StepsAreSpent }
 {}
 
-/// A job ends as it says: done with the result of each partition, or aborted for so many failures.
-/// A call does nothing.
+/// A job ends as it says: done with the result of each partition, or aborted for so many failures,
+/// or for want of executors. A call does nothing.
 pub fn ends_are_as_told()
     ensures done { DoneJobsAreWhole }
     ensures task_limit { TaskLimitsAreReached }
+    ensures stage_limit { StageLimitsAreReached }
+    ensures no_executor { NoExecutorsAreLeft }
 {}

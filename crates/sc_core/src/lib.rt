@@ -1,14 +1,17 @@
 //! The scheduler's core: a machine that answers events, and whose whole state is plain data.
 //!
 //! [`Core::step`] is the only way in. An [`Event`] is what an executor asks ([`Event::Take`]) or
-//! reports ([`Event::Post`]); what it is answered and what it leaves is one relation, `Steps` of
-//! `specs/Steps.antt`, with a file for each event. A [`Journal`] keeps the events with their
-//! answers, so that its state is the replay of its entries.
+//! reports ([`Event::Post`]), that a report is told which the fault plan lets come late
+//! ([`Event::Release`]), or that an executor is told lost ([`Event::TellLost`]); what it is
+//! answered and what it leaves is one relation, `Steps` of `specs/Steps.antt`, with a file for each
+//! event. A [`Journal`] keeps the events with their answers, so that its state is the replay of its
+//! entries.
 //!
 //! Contracts see a [`Core`] as the record `CoreData` of `specs/CoreData.antt`; what holds of every
 //! core stands in `specs/Sound.antt`, and what follows for every list of events in
 //! `specs/Laws.antt`. The core holds no row, no block and no work: results are known by their
-//! partitions alone. Below it lie `sc_dag` and `sc_commit`.
+//! partitions alone. Below it lie `sc_dag`,
+//! `sc_commit` and `sc_plan`.
 #![tactic(auto)]
 
 mod answers;
@@ -21,9 +24,12 @@ mod inputs;
 mod journals;
 mod kept;
 mod laws;
+mod losses;
 mod openings;
 mod posts;
+mod releases;
 mod running;
+mod shelves;
 mod stages;
 mod states;
 mod stories;

@@ -4,13 +4,14 @@
 ghost use Rattle.std.specs.Prelude.{◌≡◌, IfOk};
 ghost use Rattle.std.specs.Option.{option_map};
 ghost use Rattle.sc_dag.specs.Openings.{FitsJob, IsJob};
-ghost use Rattle.sc_core.specs.Openings.{BeginsWith, IsOpening, now_before, told_before, tracker_behind};
+ghost use Rattle.sc_core.specs.Openings.{BeginsWith, IsOpening, now_before, plan_behind, told_before, tracker_behind};
 
 use crate::answers::Job;
 use crate::stages::Stages;
 use crate::states::State;
 use sc_commit::Commit;
 use sc_ids::{Limits, StageGraph};
+use sc_plan::Plan;
 use sc_tracker::Tracker;
 use std::alloc::{AllocError, Global};
 
@@ -21,17 +22,20 @@ impl State {
         graph: &StageGraph,
         limits: Limits,
         saved: u32,
+        plan: &Plan,
         last: Option<&State>,
     ) -> Result<State, AllocError>
         requires job { IsJob graph.now }
         requires fits { FitsJob (tracker_behind (option_map (λ l. l.now.0) last) limits)
             graph.now }
         ensures { IfOk result
-            (λ s. IsOpening graph.now limits saved (option_map (λ l. l.now.0) last.entry) s.0) }
+            (λ s. IsOpening graph.now limits saved plan.now
+            (option_map (λ l. l.now.0) last.entry) s.0) }
     {
         let told = told_before(last);
         let tick = now_before(last);
         let commit = Commit::begin(alloc, saved)?;
+        let plan = plan_behind(plan, last).copied(alloc)?;
         let tracker = tracker_behind(alloc, limits, last)?;
         let stages = submitted(alloc, graph, limits, last, tracker)?;
         Ok(State {
@@ -45,6 +49,7 @@ impl State {
             next_key: 0,
             commit,
             stages,
+            plan,
         })
     }
 }
@@ -90,6 +95,16 @@ fn tracker_behind(
     match last {
         Some(state) => state.stages.dag().tracker().copied(),
         None => Tracker::new(alloc, limits.executors),
+    }
+}
+
+/// The plan of the run, which is carried on from the job before.
+fn plan_behind<'a>(plan: &'a Plan, last: Option<&'a State>) -> &'a Plan
+    ensures { result.now ≡ plan_behind (option_map (λ l. l.now.0) last.entry) plan.now }
+{
+    match last {
+        Some(state) => &state.plan,
+        None => plan,
     }
 }
 

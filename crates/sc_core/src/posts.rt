@@ -1,13 +1,13 @@
 //! A report is posted.
 #![tactic(auto)]
 
-ghost use Rattle.std.specs.Prelude.{◌≡◌, IfOk, OnErr, OnOk, true};
+ghost use Rattle.std.specs.Prelude.{◌≡◌, IfOk, None, OnErr, OnOk, Some, false, true};
 ghost use Rattle.std.specs.List.{AllPairs};
 ghost use Rattle.sc_ids.specs.declared.attempts.AttemptId.{AttemptId};
 ghost use Rattle.sc_core.specs.declared.answers.NotEnabled.{NotEnabled};
-ghost use Rattle.sc_core.specs.CoreData.{running_of, taken_off, told_once};
-ghost use Rattle.sc_core.specs.Owners.{IsThrice};
-ghost use Rattle.sc_core.specs.Posts.{Posts, PostsOf, fits, is_misfit, misfits};
+ghost use Rattle.sc_core.specs.CoreData.{running_of, shelved_if, taken_off, told_once};
+ghost use Rattle.sc_core.specs.Owners.{IsThrice, has_task};
+ghost use Rattle.sc_core.specs.Posts.{Posts, PostsBy, PostsOf, TellsNow, fits, is_misfit, misfits};
 ghost use Rattle.sc_dag.specs.DagData.{stage_at};
 ghost use Rattle.sc_dag.specs.Submission.{is_map};
 ghost use Rattle.sc_core.specs.Sound.{AreTwo};
@@ -67,13 +67,46 @@ impl State {
         if !self.fits(&self.running[place], outcome) {
             return Err(OrMemory::Fault(NotEnabled));
         }
+        match self.plan.late(&attempt) {
+            Some(delay) => {
+                self.shelve_late(attempt, outcome, delay)?;
+                Ok(Stepped::plain(Answer::Shelved))
+            }
+            None => Ok(Stepped::plain(self.post_now(place, attempt, outcome)?)),
+        }
+    }
+
+    /// A report of a running attempt comes that is told at once.
+    fn post_now(
+        &mut self,
+        place: usize,
+        attempt: AttemptId,
+        outcome: Outcome,
+    ) -> Result<Answer, AllocError>
+        requires { IsRunningAt self.old.0.running attempt place }
+        ensures ok { IfOk result
+            (λ answer. PostsBy None self.old.0 attempt outcome answer self.new.0) }
+        ensures plain { IfOk result (λ answer. has_task answer ≡ false) }
+        ensures err { OnErr result (self.new.0 ≡ self.old.0) }
+    {
         self.make_room(outcome)?;
+        self.shelve_copy(attempt, outcome)?;
+        Ok(self.tell_at(place, attempt, outcome))
+    }
+
+    /// A report of a running attempt is told.
+    pub fn tell_at(&mut self, place: usize, attempt: AttemptId, outcome: Outcome) -> Answer
+        requires runs { IsRunningAt self.old.0.running attempt place }
+        requires room { wants_room outcome ≡ true → self.old.1 ≡ true }
+        ensures tells { TellsNow self.old.0 attempt outcome result self.new.0 }
+        ensures plain { has_task result ≡ false }
+    {
         let running = self.take_off(place);
-        Ok(Stepped::plain(self.tell(&running, outcome)))
+        self.tell(&running, outcome)
     }
 
     /// Makes room for what may be submitted for a report. Nothing that is seen changes.
-    fn make_room(&mut self, outcome: Outcome) -> Result<(), AllocError>
+    pub fn make_room(&mut self, outcome: Outcome) -> Result<(), AllocError>
         ensures same { self.new.0 ≡ self.old.0 }
         ensures ready { OnOk result (wants_room outcome ≡ true → self.new.1 ≡ true) }
     {
@@ -110,7 +143,7 @@ impl State {
     }
 
     /// Takes an attempt off those that run, as its report is told.
-    fn take_off(&mut self, place: usize) -> Running
+    pub fn take_off(&mut self, place: usize) -> Running
         requires { (attempt : AttemptId) × IsRunningAt self.old.0.running attempt place }
         ensures running { (attempt : AttemptId) → IsRunningAt self.old.0.running attempt place
             → running_of self.old.0 attempt ≡ Some result }
@@ -123,7 +156,7 @@ impl State {
     }
 
     /// Counts a report that is of no running attempt.
-    fn count(&mut self)
+    pub fn count(&mut self)
         ensures { self.new.0 ≡ told_once self.old.0 }
     {
         self.told = self.told.saturating_add(1);

@@ -7,7 +7,7 @@ ghost use Rattle.sc_core.specs.CoreData.{result_stage};
 ghost use Rattle.sc_core.specs.HandOuts.{inputs_of};
 ghost use Rattle.sc_core.specs.Tells.{FollowsUp, LooksAgain};
 ghost use Rattle.sc_dag.specs.DagData.{DagData, newest_at};
-ghost use Rattle.sc_dag.specs.Losses.{after_seen};
+ghost use Rattle.sc_dag.specs.Losses.{after_lost, after_seen};
 ghost use Rattle.sc_dag.specs.Offers.{handed_out, may_be_given_in};
 ghost use Rattle.sc_dag.specs.Openings.{FitsJob, IsJob, Opens};
 ghost use Rattle.sc_dag.specs.Outputs.{is_complete};
@@ -188,6 +188,15 @@ impl Stages {
         ensures ready { self.new.1 ≡ self.old.1 }
     {
         self.dag.raise_seen(exec, found);
+        self.kept.forget();
+    }
+
+    /// An executor is told lost.
+    pub fn tell_lost(&mut self, exec: ExecId)
+        ensures state { self.new.0 ≡ after_lost self.old.0 exec }
+        ensures ready { self.new.1 ≡ self.old.1 }
+    {
+        self.dag.tell_lost(exec);
         self.kept.forget();
     }
 

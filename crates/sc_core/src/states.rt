@@ -14,6 +14,7 @@ use crate::running::{Running, Shelved};
 use crate::stages::Stages;
 use sc_commit::{Commit, Ending};
 use sc_ids::{AttemptId, ExecId};
+use sc_plan::Plan;
 use std::marker::Model;
 
 /// The scheduler of one job. Its calls are held to what one event answers and leaves, from any
@@ -30,6 +31,7 @@ pub(crate) struct State {
     pub next_key: u32,
     pub commit: Commit,
     pub stages: Stages,
+    pub plan: Plan,
 }
 
 impl Model for State {
@@ -40,7 +42,7 @@ impl Model for State {
 
     ghost view = { λ s. (
       core_data s.told s.tick s.handed s.job s.left_first s.running.items
-          s.shelf.items s.next_key s.commit s.stages.0,
+          s.shelf.items s.next_key s.commit s.stages.0 s.plan,
       s.stages.1,
     ) };
 }

@@ -71,6 +71,8 @@ impl fmt::Display for Event {
         match *self {
             Event::Take { .. } => write!(f, "take"),
             Event::Post { attempt, outcome } => write!(f, "post {attempt} {outcome}"),
+            Event::Release { key } => write!(f, "release {key}"),
+            Event::TellLost { exec } => write!(f, "lost {exec}"),
         }
     }
 }
@@ -118,6 +120,8 @@ impl fmt::Display for Answer {
             Answer::Ended => write!(f, "ended"),
             Answer::Aborted(why) => write!(f, "aborted: {why}"),
             Answer::Ignored => write!(f, "ignored"),
+            Answer::Told => write!(f, "told"),
+            Answer::Shelved => write!(f, "shelved"),
             Answer::Repeated => write!(f, "repeated"),
             Answer::Registered => write!(f, "registered"),
             Answer::Bogus => write!(f, "bogus"),

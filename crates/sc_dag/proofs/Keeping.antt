@@ -12,6 +12,7 @@ use Rattle.sc_dag.specs.Offers.{handed_out, may_be_given_in}
 use Rattle.sc_dag.specs.Reports.{after_failed, after_hold, completed, ended_in_own, failed_attempt, forgiven, with_failed}
 use Rattle.sc_dag.specs.Sound.{IsSoundDag}
 use Rattle.sc_dag.specs.declared.attempts.StageAttempt.{StageAttempt}
+use Rattle.sc_dag.proofs.Births.{births_changed, births_mapped}
 use Rattle.sc_dag.proofs.Moving.{newest_among}
 use Rattle.sc_dag.proofs.Sets.{KeepsSet, SameFinish, keeps_end, keeps_failure, keeps_handed, keeps_hold, keeps_zombie, same_end, same_failure, same_handed, same_hold, same_zombie}
 use Rattle.sc_dag.proofs.SoundAttempts.{KeepsAttempt, attempts_mapped, keeps_with, set_kept, state_quiet}
@@ -29,7 +30,8 @@ pub handed_sound :
     → may_be_given_in (newest_at d a.stage) exec a.partition ≡ true
     → IsSoundDag (handed_out d a exec now)
 handed_sound d a exec now sound may =
-    sound_with d a.stage _ sound (λ state at is.
+    sound_with d a.stage _ (λ state. births_changed state.attempts (length state.attempts - 1)
+    (with_set (λ set. handed set a.partition exec now)) (λ x. refl)) sound (λ state at is.
     state_quiet d.tracker (stage_at d a.stage) state (length state.attempts - 1)
     (with_set (λ set. handed set a.partition exec now))
     (λ x newest. quiet (stage_at d a.stage) x (λ set. handed set a.partition exec now)
@@ -45,7 +47,9 @@ handed_sound d a exec now sound may =
 
 pub ended_sound : (d : DagData) (a : AttemptId) → IsSoundDag d → IsSoundDag (ended_in_own d a)
 ended_sound d a sound =
-    sound_with d a.stage _ sound (λ state at is.
+    sound_with d a.stage _
+    (λ state. births_changed state.attempts (place_of_attempt state a.stage_attempt)
+    (with_set (λ set. after_end set a.partition a.nth)) (λ x. refl)) sound (λ state at is.
     state_quiet d.tracker (stage_at d a.stage) state (place_of_attempt state a.stage_attempt)
     (with_set (λ set. after_end set a.partition a.nth))
     (λ x there. quiet (stage_at d a.stage) x (λ set. after_end set a.partition a.nth)
@@ -55,7 +59,10 @@ pub failed_sound :
     (d : DagData) (a : AttemptId) (cause : FailureCause) → IsSoundDag d
     → IsSoundDag (after_failed d a cause)
 failed_sound d a cause sound =
-    sound_with d a.stage _ sound (λ state at is.
+    sound_with d a.stage _
+    (λ state. births_changed state.attempts (place_of_attempt state a.stage_attempt)
+    (with_set (λ set. after_failure set a.partition a.nth cause)) (λ x. refl)) sound
+    (λ state at is.
     state_quiet d.tracker (stage_at d a.stage) state (place_of_attempt state a.stage_attempt)
     (with_set (λ set. after_failure set a.partition a.nth cause))
     (λ x there. quiet (stage_at d a.stage) x (λ set. after_failure set a.partition a.nth cause)
@@ -65,7 +72,8 @@ failed_sound d a cause sound =
 pub hold_sound :
     (d : DagData) (s p : ℕ) (denied : Bool) → IsSoundDag d → IsSoundDag (after_hold d s p denied)
 hold_sound d s p denied sound =
-    sound_with d s _ sound (λ state at is.
+    sound_with d s _ (λ state. births_changed state.attempts (length state.attempts - 1)
+    (with_set (λ set. after_held set p denied)) (λ x. refl)) sound (λ state at is.
     state_quiet d.tracker (stage_at d s) state (length state.attempts - 1)
     (with_set (λ set. after_held set p denied))
     (λ x newest. quiet (stage_at d s) x (λ set. after_held set p denied)
@@ -76,7 +84,9 @@ pub with_failed_sound :
     (d : DagData) (s number : ℕ) → IsSoundDag d
     → IsSoundDag (with_state d s (with_failed number))
 with_failed_sound d s number sound =
-    sound_with d s (with_failed number) sound (λ state at is.
+    sound_with d s (with_failed number)
+    (λ state. births_changed state.attempts (place_of_attempt state number) failed_attempt
+    (λ x. refl)) sound (λ state at is.
     state_quiet d.tracker (stage_at d s) state (place_of_attempt state number) failed_attempt
     (λ x there. (
       record {
@@ -107,7 +117,8 @@ newest_mapped attempts h =
 pub completed_sound :
     (d : DagData) (s : ℕ) → IsSoundDag d → IsSoundDag (with_state d s completed)
 completed_sound d s sound =
-    sound_with d s completed sound (λ state at is. record {
+    sound_with d s completed
+    (λ state. births_mapped state.attempts forgiven (λ x. refl)) sound (λ state at is. record {
       results = is.results;
       attempts = attempts_mapped (stage_at d s) state.attempts forgiven
           (λ x. record {

@@ -1,3 +1,4 @@
+pub mod Births
 pub mod AttemptLemmas
 pub mod Calm
 pub mod CalmCalls

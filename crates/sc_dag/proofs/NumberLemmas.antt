@@ -1,17 +1,11 @@
 -- The numbers below a bound, in order.
-use Rattle.std.proofs.Common.{◌≡◌, ℕ, ◌+◌, ◌-◌, ◌<◌, ◌≤◌, zero, suc, Bool, true, false, not, List, [], ◌∷◌, ◌++◌, length, refl, ap, sym, ◌∙◌, arith, rules}
-use Rattle.std.specs.List.{All, filter, list_all, range_with_len}
+use Rattle.std.proofs.Common.{◌≡◌, ℕ, ◌+◌, ◌-◌, ◌<◌, ◌≤◌, zero, suc, Bool, true, false, cond, not, List, [], ◌∷◌, ◌++◌, length, get_or, set, refl, ap, sym, ◌∙◌, arith, rules}
+use Rattle.std.specs.List.{All, count_by, filter, list_all}
 use Rattle.std.proofs.lemmas.List.{append-nil, length-append}
+use Rattle.std.proofs.lemmas.List.Sums.{sum_by-set}
 use Rattle.std.proofs.lemmas.List.Elements.{All-nil, All-cons, filter-append}
 use Rattle.sc_base.specs.Lists.{numbers_below, numbers_from}
 use Rattle.sc_taskset.specs.Rooms.{RoomData, room_of}
-
--- the numbers of a range
-pub range_numbers : (a n : ℕ) → range_with_len a n ≡ numbers_from a n
-range_numbers a zero = refl
-range_numbers a (suc n) =
-    let one : a + 1 ≡ suc a = omega arith in
-    ap (λ b. a ∷ range_with_len b n) one ∙ ap (λ ks. a ∷ ks) (range_numbers (suc a) n)
 
 -- one more number behind the others
 numbers_from_more : (a n : ℕ) → numbers_from a (suc n) ≡ numbers_from a n ++ (a + n) ∷ []
@@ -119,3 +113,15 @@ pub room_full : (p : ℕ → Bool) (tasks k : ℕ) (room : RoomData)
     → room ≡ room_below p tasks k → k ≡ tasks
     → room.partitions ≡ filter p (numbers_below tasks)
 room_full p tasks k room is e = rw is (ap (λ n. filter p (numbers_below n)) e)
+
+-- one more result, unless it was there
+pub result_counted : (results : List Bool) (place : ℕ) (was : Bool) → place < length results
+    → was ≡ get_or results place was
+    → count_by (λ b. b) (set results place true)
+    ≡ count_by (λ b. b) results + cond (not was) 1 0
+result_counted results place true l e =
+    let h = sum_by-set (λ b. cond b 1 0) results place true true l in
+    omega (arith, rw (sym e) at h)
+result_counted results place false l e =
+    let h = sum_by-set (λ b. cond b 1 0) results place true false l in
+    omega (arith, rw (sym e) at h)

@@ -1,5 +1,5 @@
 -- A job begins sound and settled.
-use Rattle.std.proofs.Common.{◌≡◌, ℕ, zero, suc, ◌+◌, ◌<◌, true, false, if◌then◌else◌, List, [], ◌∷◌, Contains, length, replicate, Option, Some, slice_get, refl, ap, sym, subst, ◌∙◌, arith, rules}
+use Rattle.std.proofs.Common.{◌≡◌, ℕ, zero, suc, ◌+◌, ◌<◌, ◌≤◌, true, false, if◌then◌else◌, List, [], ◌∷◌, Contains, length, replicate, Option, Some, slice_get, refl, ap, sym, subst, ◌∙◌, arith, rules}
 use Rattle.std.specs.List.{list_all}
 use Rattle.std.proofs.lemmas.List.{length-replicate}
 use Rattle.std.proofs.lemmas.List.Elements.{All-contains, All-nil, Contains-push}
@@ -12,10 +12,11 @@ use Rattle.sc_tracker.specs.TrackerFacts.{IsSoundTracker}
 use Rattle.sc_dag.specs.DagData.{DagData, no_stage, stage_at}
 use Rattle.sc_dag.specs.Laws.{OpeningsAreSound}
 use Rattle.sc_dag.specs.Openings.{attempts_so_far, blank_state, blank_states}
-use Rattle.sc_dag.specs.Outputs.{is_complete_by, is_done_by, results_in}
+use Rattle.sc_dag.specs.Births.{WasThere, births_of}
+use Rattle.sc_dag.specs.Outputs.{block_of, is_complete_by, is_done_by, results_in}
 use Rattle.sc_dag.specs.Reports.{failed_count}
 use Rattle.sc_dag.specs.Settled.{IsSettled}
-use Rattle.sc_dag.specs.Sound.{AreSoundStages, IsAttemptOf}
+use Rattle.sc_dag.specs.Sound.{AreSoundStages, IsAttemptOf, attempts_in, attempts_of}
 use Rattle.sc_dag.specs.Submission.{is_map, waits_in}
 use Rattle.sc_dag.proofs.JobStages.{stages_sound}
 use Rattle.sc_dag.proofs.Sizing.{all_sized_sound}
@@ -50,6 +51,14 @@ blank_length :
     → length (blank_states last n stages) ≡ length stages
 blank_length last n [] = refl
 blank_length last n (stage ∷ stages) = ap suc (blank_length last (n + 1) stages)
+
+-- none has an attempt
+blank_births :
+    (last : Option DagData) (n : ℕ) (stages : List StageData) (s : ℕ)
+    → births_of (attempts_in (slice_get (blank_states last n stages) s)) ≡ []
+blank_births last n [] s = refl
+blank_births last n (stage ∷ stages) zero = refl
+blank_births last n (stage ∷ stages) (suc s) = blank_births last (n + 1) stages s
 
 -- none waits
 blank_waits :
@@ -100,6 +109,14 @@ openings_are_sound graph last t d job fits tracker opens = (
       (subst (AreSoundStages d.stages) (sym opens.tracker)
       (stages_sound graph job d.stages opens.numbered t fits))
       (ap length opens.states ∙ blank_length last 0 d.stages)
+      (record {
+        turn = λ s. rw (none s) (record {
+          rising = λ i j e lt l. absurd (omega (arith, l));
+          past = All-nil (λ b. b ≤ d.tracker.epoch);
+        });
+        there = λ s p shuffle reads.
+            rw (none s) (All-nil (WasThere d.tracker (block_of shuffle p)));
+      })
       (λ s. subst (λ states. IsSoundAt d.tracker (stage_at d s) (slice_get states s))
       (sym opens.states) (blank_at d.tracker last 0 d.stages s)),
   settled,
@@ -111,6 +128,10 @@ openings_are_sound graph last t d job fits tracker opens = (
       (Contains-push job.maps job.result))) job.is_result job.some),
 )
   where
+    none : (s : ℕ) → births_of (attempts_of d s) ≡ []
+    none s = ap (λ states. births_of (attempts_in (slice_get states s))) opens.states
+        ∙ blank_births last 0 d.stages s
+
     waits : (s : ℕ) → waits_in (slice_get d.states s) ≡ false
     waits s = ap (λ states. waits_in (slice_get states s)) opens.states
         ∙ blank_waits last 0 d.stages s

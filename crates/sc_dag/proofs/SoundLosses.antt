@@ -2,8 +2,9 @@
 use Rattle.std.proofs.Common.{◌≡◌, ◌⊎◌, inl, inr, ℕ, ◌-◌, ◌≤◌, Bool, true, false, if◌then◌else◌, List, length, map, Option, Some, None, IfSome, is_some, option_map, slice_get, refl, ap, sym, subst, ◌∙◌, arith, rules, true≢false}
 use Rattle.std.proofs.lemmas.Bool.Decides.{nat_tests}
 use Rattle.std.proofs.lemmas.List.{length-map}
-use Rattle.std.proofs.lemmas.Option.{slice_get-map}
+use Rattle.std.proofs.lemmas.Option.{slice_get-map, slice_get_within}
 use Rattle.sc_ids.specs.Graphs.{StageData}
+use Rattle.sc_ids.proofs.ChangeLemmas.{at_or_change_same}
 use Rattle.sc_ids.specs.declared.blocks.BlockId.{BlockId}
 use Rattle.sc_ids.specs.declared.blocks.Loc.{Loc}
 use Rattle.sc_ids.specs.declared.blocks.ShuffleId.{ShuffleId}
@@ -13,20 +14,24 @@ use Rattle.sc_taskset.specs.Reports.{after_loss}
 use Rattle.sc_taskset.specs.TaskSetData.{TaskSetData}
 use Rattle.sc_taskset.specs.declared.tasks.Finish.TheVariants.{OnExecutor}
 use Rattle.sc_tracker.specs.Outputs.{forgotten, forgotten_on, is_on}
-use Rattle.sc_tracker.specs.TrackerData.{TrackerData, output_of, outputs_of}
+use Rattle.sc_tracker.specs.TrackerData.{TrackerData, output_of, outputs_of, trust_of}
 use Rattle.sc_tracker.specs.TrackerFacts.{IsSoundTracker}
 use Rattle.sc_tracker.specs.Tracking.{after_executor_lost, after_gone}
-use Rattle.sc_tracker.specs.Trust.{is_live as is_live_executor, is_newer}
+use Rattle.sc_tracker.specs.Trust.{is_live as is_live_executor, is_newer, lost_at, seen_at, untold}
 use Rattle.sc_tracker.specs.declared.outputs.Output.{Output}
+use Rattle.sc_tracker.specs.declared.trust.Trust.{Trust}
 use Rattle.sc_tracker.proofs.BlockLemmas.{forgets_on_one, under_mapped}
 use Rattle.sc_tracker.proofs.TrackerLemmas.{gone_sound, lost_sound}
+use Rattle.sc_tracker.proofs.TrustLemmas.{calls_go_forward}
 use Rattle.sc_dag.specs.DagData.{DagData, StageState, set_in, stage_at, with_set, with_tracker}
 use Rattle.sc_dag.specs.Losses.{after_lost, after_seen, without_executor}
 use Rattle.sc_dag.specs.Outputs.{block_of, is_done_by}
 use Rattle.sc_dag.specs.Reports.{wants_in}
-use Rattle.sc_dag.specs.Sound.{IsAttemptOf, IsSoundDag, finish_in}
+use Rattle.sc_dag.specs.Births.{births_of}
+use Rattle.sc_dag.specs.Sound.{IsAttemptOf, IsSoundDag, attempts_in, attempts_of, finish_in}
 use Rattle.sc_dag.specs.Submission.{is_map}
 use Rattle.sc_dag.specs.declared.attempts.StageAttempt.{StageAttempt}
+use Rattle.sc_dag.proofs.Births.{Ages, births_in, births_kept, births_mapped, births_state, event_ages}
 use Rattle.sc_dag.proofs.Finishes.{loss_finish, loss_wanted, loss_wants}
 use Rattle.sc_dag.proofs.Items.{all_at}
 use Rattle.sc_dag.proofs.Keeping.{newest_mapped}
@@ -68,6 +73,37 @@ lost_forgets t exec e =
         length-map (outputs_of t shuffle) (forgotten_on exec),
       ) (omega arith);
     }
+
+-- an event loses nothing that it doesn't mark
+gone_ages :
+    (t : TrackerData) (exec found : ℕ) → IsSoundTracker t
+    → is_newer (slice_get t.trust exec) found ≡ true → Ages t (after_gone t exec found)
+gone_ages t exec found sound e =
+    event_ages t (after_gone t exec found) exec sound
+    ((calls_go_forward t sound).2 exec found).epoch (gone_forgets t exec found e).outputs
+    (by (slice_get t.trust exec) refl e) ((calls_go_forward t sound).2 exec found).trust
+  where
+    by : (o : Option Trust) → slice_get t.trust exec ≡ o → is_newer o found ≡ true
+        → (trust_of (after_gone t exec found) exec).mark ≡ Some t.epoch
+    by None is new = absurd (search (rules, new))
+    by (Some x) is new =
+        rw (e, at_or_change_same t.trust exec untold (seen_at found t.epoch)
+        (slice_get_within t.trust exec x is)) refl
+
+lost_ages :
+    (t : TrackerData) (exec : ℕ) → IsSoundTracker t
+    → is_live_executor (slice_get t.trust exec) ≡ true → Ages t (after_executor_lost t exec)
+lost_ages t exec sound e =
+    event_ages t (after_executor_lost t exec) exec sound
+    ((calls_go_forward t sound).3 exec).epoch (lost_forgets t exec e).outputs
+    (by (slice_get t.trust exec) refl e) ((calls_go_forward t sound).3 exec).trust
+  where
+    by : (o : Option Trust) → slice_get t.trust exec ≡ o → is_live_executor o ≡ true
+        → (trust_of (after_executor_lost t exec) exec).mark ≡ Some t.epoch
+    by None is live = absurd (search (rules, live))
+    by (Some x) is live =
+        rw (e, at_or_change_same t.trust exec untold (lost_at t.epoch)
+        (slice_get_within t.trust exec x is)) refl
 
 -- ---- an output that may be forgotten
 
@@ -155,6 +191,9 @@ seen_sound d exec found sound = by (is_newer (slice_get d.tracker.trust exec) fo
         let u = after_gone d.tracker exec found in
         sound_from (with_tracker d u) (f.sound sound.tracker)
         (stages_moved d.stages d.tracker u f.room sound.stages) sound.states
+        (births_kept d.stages d.tracker u (λ s. births_of (attempts_of d s))
+        (λ s. births_of (attempts_of d s)) (λ s. refl)
+        (gone_ages d.tracker exec found sound.tracker e) (births_in d sound))
         (λ s. sound_forgotten d.tracker u exec (stage_at d s) (slice_get d.states s) f
         (sound_at d s sound))
     by false e = rw e sound
@@ -230,6 +269,12 @@ lost_sound_dag d exec sound live =
     sound_from (after_lost d exec) (f.sound sound.tracker)
     (stages_moved d.stages d.tracker u f.room sound.stages)
     (length-map d.states (without_executor exec) ∙ sound.states)
+    (births_kept d.stages d.tracker u (λ s. births_of (attempts_of d s))
+    (λ s. births_of (attempts_in (slice_get (map (without_executor exec) d.states) s)))
+    (λ s. ap (λ o. births_of (attempts_in o)) (slice_get-map (without_executor exec) d.states s)
+    ∙ births_state (without_executor exec) (slice_get d.states s)
+    (λ state. births_mapped state.attempts (with_set (λ set. after_loss set exec)) (λ x. refl)))
+    (lost_ages d.tracker exec sound.tracker live) (births_in d sound))
     (λ s. at s f)
   where
     at : (s : ℕ) → Forgets d.tracker (after_executor_lost d.tracker exec) exec

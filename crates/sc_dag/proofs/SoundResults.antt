@@ -12,6 +12,7 @@ use Rattle.sc_dag.specs.Outputs.{is_complete, is_done_by}
 use Rattle.sc_dag.specs.Reports.{after_result_success, completed, completed_if, ended_in_own, is_of_newest, is_repeat, succeeded_in_both, succeeded_in_own, wants_in, with_result}
 use Rattle.sc_dag.specs.Sound.{IsSoundDag, runner_of}
 use Rattle.sc_dag.specs.Submission.{is_map}
+use Rattle.sc_dag.proofs.Births.{KeepsBirths, births_newest, births_own}
 use Rattle.sc_dag.proofs.Items.{change_twice}
 use Rattle.sc_dag.proofs.Keeping.{completed_sound, ended_sound}
 use Rattle.sc_dag.proofs.Runners.{newest_place, older_place, runs_in, wanted_in}
@@ -37,6 +38,11 @@ module _ (d : DagData) (a : AttemptId) (exec now : ℕ) (sound : IsSoundDag d)
 
       newest_too : StageState → StageState
       newest_too = changed_newest (λ set. after_success set a.partition None now)
+
+      own_births : KeepsBirths own_set
+      own_births =
+          births_own a.stage_attempt (λ set. after_success set a.partition (Some a.nth) now)
+          (λ set. refl)
 
       results : StageState → List Bool
       results state = change_at state.results a.partition (λ _. true)
@@ -78,7 +84,7 @@ module _ (d : DagData) (a : AttemptId) (exec now : ℕ) (sound : IsSoundDag d)
       by true e =
           subst (λ states. IsSoundDag (dag_data d.stages states d.tracker d.limits))
           (sym (change_twice d.states a.stage own_set (with_result a.partition)))
-          (sound_with d a.stage (λ state. with_result a.partition (own_set state)) sound
+          (sound_with d a.stage (λ state. with_result a.partition (own_set state)) own_births sound
           (λ state at is.
           success_in_newest d.tracker d.tracker stage state (results state) a exec now is
           (runs_in d a exec state at runs) (wanted_in d a exec now sound runs wants state at)
@@ -91,7 +97,9 @@ module _ (d : DagData) (a : AttemptId) (exec now : ℕ) (sound : IsSoundDag d)
           ∙ change_twice d.states a.stage (λ state. newest_too (own_set state))
           (with_result a.partition)))
           (sound_with d a.stage
-          (λ state. with_result a.partition (newest_too (own_set state))) sound
+          (λ state. with_result a.partition (newest_too (own_set state)))
+          (λ state. births_newest (λ set. after_success set a.partition None now) (λ set. refl)
+          (own_set state) ∙ own_births state) sound
           (λ state at is.
           success_in_both d.tracker d.tracker stage state (results state) a exec now is
           (wanted_in d a exec now sound runs wants state at)

@@ -14,9 +14,11 @@ use Rattle.sc_tracker.specs.TrackerFacts.{IsSoundTracker}
 use Rattle.sc_dag.specs.DagData.{DagData, StageState, dag_data, newest_set, stage_at, with_state}
 use Rattle.sc_dag.specs.Outputs.{block_of, is_done_by, results_in}
 use Rattle.sc_dag.specs.Reports.{wants_in}
-use Rattle.sc_dag.specs.Sound.{AreSoundStages, IsAttemptOf, IsSoundDag, attempts_in, finish_in}
+use Rattle.sc_dag.specs.Births.{births_of}
+use Rattle.sc_dag.specs.Sound.{AreSoundStages, IsAttemptOf, IsSoundDag, attempts_in, attempts_of, finish_in}
 use Rattle.sc_dag.specs.Submission.{is_map}
 use Rattle.sc_dag.specs.declared.attempts.StageAttempt.{StageAttempt}
+use Rattle.sc_dag.proofs.Births.{Ages, AreBirths, KeepsBirths, ages_same, births_in, births_kept, births_with}
 use Rattle.sc_dag.proofs.Moving.{newest_among}
 
 -- the attempts of a stage
@@ -94,8 +96,9 @@ newest_of t stage (Some state) is = is.newest
 pub sound_from :
     (d : DagData) → IsSoundTracker d.tracker → AreSoundStages d.stages d.tracker
     → length d.states ≡ length d.stages
+    → AreBirths d.stages d.tracker (λ s. births_of (attempts_of d s))
     → ((s : ℕ) → IsSoundAt d.tracker (stage_at d s) (slice_get d.states s)) → IsSoundDag d
-sound_from d tracker stages long at =
+sound_from d tracker stages long births at =
     record {
       tracker = tracker;
       stages = stages;
@@ -107,6 +110,8 @@ sound_from d tracker stages long at =
       made = λ s. (newest_of d.tracker (stage_at d s) (slice_get d.states s) (at s)).made;
       wanted = λ s. (newest_of d.tracker (stage_at d s) (slice_get d.states s) (at s)).wanted;
       covered = λ s. (newest_of d.tracker (stage_at d s) (slice_get d.states s) (at s)).covered;
+      born = births.turn;
+      inputs = births.there;
     }
 
 -- a change of the state of a stage
@@ -135,7 +140,7 @@ stages_moved stages t u more sound =
 -- one stage changed, and the tracker
 pub sound_changed :
     (d : DagData) (u : TrackerData) (s : ℕ) (f : StageState → StageState)
-    → IsSoundDag d → IsSoundTracker u
+    → KeepsBirths f → Ages d.tracker u → IsSoundDag d → IsSoundTracker u
     → ((shuffle : ShuffleId)
     → length (outputs_of d.tracker shuffle) ≤ length (outputs_of u shuffle))
     → ((k : ℕ) → (k ≡ s → ⊥) → IsSoundAt d.tracker (stage_at d k) (slice_get d.states k)
@@ -143,10 +148,14 @@ pub sound_changed :
     → ((state : StageState) → slice_get d.states s ≡ Some state
     → IsSoundState d.tracker (stage_at d s) state → IsSoundState u (stage_at d s) (f state))
     → IsSoundDag (dag_data d.stages (change_at d.states s f) u d.limits)
-sound_changed d u s f sound tracker room others own =
+sound_changed d u s f keeps ages sound tracker room others own =
     sound_from (dag_data d.stages (change_at d.states s f) u d.limits) tracker
     (stages_moved d.stages d.tracker u room sound.stages)
-    (length_change_at d.states s f ∙ sound.states) (λ k. by k (cases_eq k s))
+    (length_change_at d.states s f ∙ sound.states)
+    (births_kept d.stages d.tracker u (λ k. births_of (attempts_of d k))
+    (λ k. births_of (attempts_in (slice_get (change_at d.states s f) k)))
+    (λ k. births_with d.states s k f keeps) ages (births_in d sound))
+    (λ k. by k (cases_eq k s))
   where
     here : IsSoundAt u (stage_at d s) (slice_get (change_at d.states s f) s)
     here = rw (slice_get_change_same d.states s f)
@@ -162,10 +171,11 @@ sound_changed d u s f sound tracker room others own =
 
 -- one stage changed alone
 pub sound_with :
-    (d : DagData) (s : ℕ) (f : StageState → StageState) → IsSoundDag d
+    (d : DagData) (s : ℕ) (f : StageState → StageState) → KeepsBirths f → IsSoundDag d
     → ((state : StageState) → slice_get d.states s ≡ Some state
     → IsSoundState d.tracker (stage_at d s) state
     → IsSoundState d.tracker (stage_at d s) (f state))
     → IsSoundDag (with_state d s f)
-sound_with d s f sound own =
-    sound_changed d d.tracker s f sound sound.tracker (λ shuffle. omega arith) (λ k ne is. is) own
+sound_with d s f keeps sound own =
+    sound_changed d d.tracker s f keeps (ages_same d.tracker) sound sound.tracker
+    (λ shuffle. omega arith) (λ k ne is. is) own

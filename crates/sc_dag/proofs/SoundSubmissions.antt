@@ -1,5 +1,5 @@
 -- A submission keeps what holds of every job.
-use Rattle.std.proofs.Common.{◌≡◌, ℕ, zero, suc, ◌+◌, ◌-◌, ◌<◌, ◌≤◌, ◌==◌, ◌||◌, ◌&&◌, not, Bool, true, false, cond, if◌then◌else◌, List, [], ◌∷◌, All, filter, length, map, take, Some, slice_get, refl, ap, sym, subst, ◌∙◌, arith, rules, true≢false}
+use Rattle.std.proofs.Common.{◌≡◌, ◌⊎◌, inl, inr, ℕ, zero, suc, ◌+◌, ◌-◌, ◌<◌, ◌≤◌, ◌==◌, ◌||◌, ◌&&◌, not, Bool, true, false, cond, if◌then◌else◌, List, [], ◌∷◌, ◌++◌, All, filter, length, map, take, Option, Some, None, option_map, slice_get, refl, ap, sym, subst, ◌∙◌, arith, rules, true≢false}
 use Rattle.std.proofs.lemmas.Bool.{or_right}
 use Rattle.std.specs.List.{list_all}
 use Rattle.std.proofs.lemmas.Bool.Decides.{nat_tests}
@@ -18,9 +18,11 @@ use Rattle.sc_taskset.proofs.RoomLemmas.{held_fresh}
 use Rattle.sc_tracker.specs.TrackerData.{TrackerData}
 use Rattle.sc_dag.specs.DagData.{DagData, StageState, stage_at, stage_attempt, with_set}
 use Rattle.sc_dag.specs.Outputs.{has_inputs, is_complete_by, is_done_by, missing_by, results_in}
-use Rattle.sc_dag.specs.Sound.{IsAttemptOf, IsSetOf, IsSoundDag, finish_among}
+use Rattle.sc_dag.specs.Births.{births_of}
+use Rattle.sc_dag.specs.Sound.{IsAttemptOf, IsSetOf, IsSoundDag, attempts_in, attempts_of, finish_among}
 use Rattle.sc_dag.specs.Submission.{AreLookedAt, IsSubmitted, as_waiting, is_map, moved_if, new_set, started}
 use Rattle.sc_dag.specs.declared.attempts.StageAttempt.{StageAttempt}
+use Rattle.sc_dag.proofs.Births.{births_changed, births_in, births_moved, births_pushed}
 use Rattle.sc_dag.proofs.Items.{by_number_length, take_push}
 use Rattle.sc_dag.proofs.Looking.{looked_lacks}
 use Rattle.sc_dag.proofs.Moving.{after_looking, newest_started, state_after}
@@ -208,8 +210,41 @@ pub looking_sound :
     → AreLookedAt d submitted looked → IsSoundDag (after_looking d looked)
 looking_sound d submitted looked sound are =
     sound_from (after_looking d looked) sound.tracker sound.stages
-    (by_number_length (moved_if d looked) 0 d.states ∙ sound.states) at
+    (by_number_length (moved_if d looked) 0 d.states ∙ sound.states)
+    (births_moved d (λ s. births_of (attempts_of d s))
+    (λ s. births_of (attempts_of (after_looking d looked) s)) births (births_in d sound)) at
   where
+    begun : (s : ℕ) (state : StageState)
+        → births_of (started d.tracker d.limits (stage_at d s) state).attempts
+        ≡ births_of state.attempts ++ d.tracker.epoch ∷ []
+    begun s state =
+        births_pushed (change_at state.attempts (length state.attempts - 1) (with_set as_zombie))
+        (stage_attempt (new_set d.tracker d.limits (stage_at d s) state.results) false)
+        ∙ ap (λ bs. bs ++ d.tracker.epoch ∷ [])
+        (births_changed state.attempts (length state.attempts - 1) (with_set as_zombie)
+        (λ a. refl))
+
+    more : (s : ℕ) (o : Option StageState) (b c : Bool) → has_inputs d s ≡ c
+        → (births_of (attempts_in (option_map (λ state.
+        if b then (if c then started d.tracker d.limits (stage_at d s) state
+        else as_waiting state) else state) o)) ≡ births_of (attempts_in o))
+        ⊎ ((births_of (attempts_in (option_map (λ state.
+        if b then (if c then started d.tracker d.limits (stage_at d s) state
+        else as_waiting state) else state) o))
+        ≡ births_of (attempts_in o) ++ d.tracker.epoch ∷ []) × (has_inputs d s ≡ true))
+    more s None b c e = inl refl
+    more s (Some state) true true e = inr (begun s state, e)
+    more s (Some state) true false e = inl refl
+    more s (Some state) false c e = inl refl
+
+    births : (s : ℕ)
+        → (births_of (attempts_of (after_looking d looked) s) ≡ births_of (attempts_of d s))
+        ⊎ ((births_of (attempts_of (after_looking d looked) s)
+        ≡ births_of (attempts_of d s) ++ d.tracker.epoch ∷ []) × (has_inputs d s ≡ true))
+    births s =
+        rw (state_after d looked s)
+        (more s (slice_get d.states s) (looked s) (has_inputs d s) refl)
+
     own : (s : ℕ) (state : StageState) → slice_get d.states s ≡ Some state
         → IsSoundState d.tracker (stage_at d s) state → (b : Bool) → looked s ≡ b
         → (c : Bool)

@@ -10,6 +10,7 @@ use Rattle.sc_ids.specs.declared.blocks.Target.TheVariants as targets
 use Rattle.sc_taskset.specs.Reports.{after_success}
 use Rattle.sc_tracker.specs.TrackerData.{TrackerData, output_of, outputs_of}
 use Rattle.sc_tracker.specs.TrackerFacts.{IsSoundTracker}
+use Rattle.sc_tracker.specs.TrackerLaws.{HasRoomFor}
 use Rattle.sc_tracker.specs.Tracking.{is_bogus, registered}
 use Rattle.sc_tracker.proofs.BlockLemmas.{registers_one}
 use Rattle.sc_tracker.proofs.TrackerLemmas.{registered_sound}
@@ -18,13 +19,14 @@ use Rattle.sc_dag.specs.Outputs.{block_of, is_done_by}
 use Rattle.sc_dag.specs.Reports.{after_map_success, block_by, ended_in_own, is_of_newest, is_repeat, registered_by, succeeded_in_both, succeeded_in_own, wants_in, with_output}
 use Rattle.sc_dag.specs.Sound.{IsSoundDag, runner_of}
 use Rattle.sc_dag.specs.Submission.{is_map}
+use Rattle.sc_dag.proofs.Births.{Ages, KeepsBirths, births_newest, births_own, registered_ages}
 use Rattle.sc_dag.proofs.Items.{change_twice}
 use Rattle.sc_dag.proofs.Keeping.{ended_sound}
 use Rattle.sc_dag.proofs.Runners.{newest_place, older_place, runs_in, wanted_in, within}
 use Rattle.sc_dag.proofs.SoundStages.{IsSoundAt, IsSoundState, sound_changed, sound_with}
 use Rattle.sc_dag.proofs.Successes.{SucceedsTo, success_in_both, success_in_newest, success_in_older}
 use Rattle.sc_dag.proofs.Tests.{clash, not_false}
-use Rattle.sc_dag.proofs.Trackers.{done_alike, other_outputs, registered_room, sound_alike}
+use Rattle.sc_dag.proofs.Trackers.{done_alike, other_outputs, registered_room, sound_alike, which_block}
 
 -- an attempt that runs, of a partition that its stage's newest set wants
 module _ (d : DagData) (a : AttemptId) (exec now : ℕ) (sound : IsSoundDag d)
@@ -36,7 +38,9 @@ module _ (d : DagData) (a : AttemptId) (exec now : ℕ) (sound : IsSoundDag d)
   -- a success that may be lost already
   bogus_sound : is_map stage.target ≡ true → IsSoundDag (succeeded_in_own d a now)
   bogus_sound kind =
-      sound_with d a.stage _ sound (λ state at is. by state at is (is_of_newest d a) refl)
+      sound_with d a.stage _
+      (births_own a.stage_attempt (λ set. after_success set a.partition (Some a.nth) now)
+      (λ set. refl)) sound (λ state at is. by state at is (is_of_newest d a) refl)
     where
       to : (state : StageState) → slice_get d.states a.stage ≡ Some state
           → IsSoundState d.tracker stage state
@@ -150,6 +154,21 @@ module _ (d : DagData) (a : AttemptId) (exec now : ℕ) (sound : IsSoundDag d)
       newest_too : StageState → StageState
       newest_too = changed_newest (λ set. after_success set a.partition None now)
 
+      own_births : KeepsBirths own_set
+      own_births =
+          births_own a.stage_attempt (λ set. after_success set a.partition (Some a.nth) now)
+          (λ set. refl)
+
+      has_room : HasRoomFor d.tracker block
+      has_room =
+          let has : a.partition < stage.tasks = within d a exec now sound runs wants in
+          let fits : stage.tasks ≤ length (outputs_of d.tracker shuffle) =
+          sound.stages.room a.stage shuffle target in
+          omega (arith, has, fits)
+
+      ages : Ages d.tracker u
+      ages = registered_ages d.tracker block loc has_room (λ other. which_block other block)
+
       tracker : IsSoundTracker u
       tracker = registered_sound d.tracker block loc epoch sound.tracker fresh
 
@@ -157,7 +176,7 @@ module _ (d : DagData) (a : AttemptId) (exec now : ℕ) (sound : IsSoundDag d)
           → IsSoundDag (if b then succeeded_in_own with_u a now
           else with_state (succeeded_in_own with_u a now) a.stage newest_too)
       by true e =
-          sound_changed d u a.stage own_set sound tracker room others
+          sound_changed d u a.stage own_set own_births ages sound tracker room others
           (λ state at is. success_in_newest d.tracker u stage state state.results a exec now is
           (runs_in d a exec state at runs) (wanted_in d a exec now sound runs wants state at)
           (newest_place d a exec now sound runs wants state at e)
@@ -165,8 +184,9 @@ module _ (d : DagData) (a : AttemptId) (exec now : ℕ) (sound : IsSoundDag d)
       by false e =
           subst (λ states. IsSoundDag (dag_data d.stages states u d.limits))
           (sym (change_twice d.states a.stage own_set newest_too))
-          (sound_changed d u a.stage (λ state. newest_too (own_set state)) sound tracker room
-          others
+          (sound_changed d u a.stage (λ state. newest_too (own_set state))
+          (λ state. births_newest (λ set. after_success set a.partition None now) (λ set. refl)
+          (own_set state) ∙ own_births state) ages sound tracker room others
           (λ state at is. success_in_both d.tracker u stage state state.results a exec now is
           (wanted_in d a exec now sound runs wants state at)
           (older_place d a exec now sound runs wants state at e) is.results (to state)))

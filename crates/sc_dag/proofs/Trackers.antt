@@ -33,6 +33,19 @@ which_shuffle a b = by (cases_eq a.node b.node) (cases_eq a.side b.side)
     by (inr ne) s = inr (λ e. ne (ap (λ (x : ShuffleId). x.node) e))
     by (inl n) (inr ne) = inr (λ e. ne (ap (λ (x : ShuffleId). x.side) e))
 
+-- two blocks are the same or not
+pub which_block : (a b : BlockId) → (a ≡ b) ⊎ (a ≡ b → ⊥)
+which_block a b = by (which_shuffle a.shuffle b.shuffle) (cases_eq a.map b.map)
+  where
+    block : ShuffleId → ℕ → BlockId
+    block shuffle map = record { shuffle = shuffle; map = map }
+
+    by : (a.shuffle ≡ b.shuffle) ⊎ (a.shuffle ≡ b.shuffle → ⊥)
+        → (a.map ≡ b.map) ⊎ (a.map ≡ b.map → ⊥) → (a ≡ b) ⊎ (a ≡ b → ⊥)
+    by (inl s) (inl m) = inl (ap (λ x. block x a.map) s ∙ ap (λ x. block b.shuffle x) m)
+    by (inr ne) m = inr (λ e. ne (ap (λ (x : BlockId). x.shuffle) e))
+    by (inl s) (inr ne) = inr (λ e. ne (ap (λ (x : BlockId). x.map) e))
+
 -- a registration makes no room and takes none
 pub registered_room :
     (t : TrackerData) (block : BlockId) (loc : Loc) (shuffle : ShuffleId)

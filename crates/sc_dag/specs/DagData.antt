@@ -1,5 +1,5 @@
 -- The stages of a job while it runs, as plain data.
-use Rattle.std.specs.Prelude.{ℕ, ◌-◌, List, [], Bool, not, true, false, Option, Some, None, if◌then◌else◌, length, nat_lt, slice_get}
+use Rattle.std.specs.Prelude.{ℕ, ◌-◌, List, [], Bool, not, false, Option, Some, None, if◌then◌else◌, length, nat_lt, slice_get}
 use Rattle.std.specs.Option.{option_map}
 use Rattle.sc_base.specs.Lists.{at_or}
 use Rattle.sc_ids.specs.Changes.{change_at}

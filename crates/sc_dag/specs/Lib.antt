@@ -5,6 +5,7 @@ pub mod Offers
 pub mod Reports
 pub mod Losses
 pub mod Openings
+pub mod Births
 pub mod Sound
 pub mod Settled
 pub mod Rows

@@ -1,5 +1,5 @@
 -- What the loss of outputs and executors leaves.
-use Rattle.std.specs.Prelude.{ℕ, List, map}
+use Rattle.std.specs.Prelude.{ℕ, map}
 use Rattle.sc_taskset.specs.Reports.{after_loss}
 use Rattle.sc_tracker.specs.Tracking.{after_executor_lost, after_gone}
 use Rattle.sc_dag.specs.DagData.{DagData, StageState, dag_data, with_attempts, with_set, with_tracker}

@@ -1,5 +1,5 @@
 -- The stages of a job that begins.
-use Rattle.std.specs.Prelude.{ℕ, ◌+◌, ◌<◌, ◌≡◌, ◌⊎◌, List, [], ◌∷◌, ◌++◌, All, Contains, Bool, true, false, Option, Some, None, if◌then◌else◌, length, map, replicate, slice_get}
+use Rattle.std.specs.Prelude.{ℕ, ◌+◌, ◌<◌, ◌≡◌, ◌⊎◌, List, [], ◌∷◌, ◌++◌, All, Contains, true, false, Option, Some, None, if◌then◌else◌, length, replicate, slice_get}
 use Rattle.std.specs.List.{AllPairs}
 use Rattle.sc_base.specs.Lists.{at_or}
 use Rattle.sc_ids.specs.Graphs.{StageData}
@@ -9,7 +9,7 @@ use Rattle.sc_ids.specs.declared.blocks.Target.TheVariants as targets
 use Rattle.sc_tracker.specs.TrackerData.{TrackerData, outputs_of}
 use Rattle.sc_tracker.specs.Tracking.{has_room, sized}
 use Rattle.sc_dag.specs.DagData.{DagData, StageState, no_stage}
-use Rattle.sc_dag.specs.Submission.{by_number, is_map}
+use Rattle.sc_dag.specs.Submission.{is_map}
 
 -- two targets are not map sides of one shuffle
 abbrev pub AreOfTwo : Target → Target → Type 0

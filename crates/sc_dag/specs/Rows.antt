@@ -1,7 +1,7 @@
 -- How the stages of a job are held: a row for each, with room for its next attempt.
 use Rattle.std.specs.Prelude.{ℕ, ◌≡◌, ◌<◌, ◌≤◌, ◌&&◌, ◌||◌, not, Bool, true, false, List, Option, Some, None, All, if◌then◌else◌, map, slice_get}
 use Rattle.std.specs.List.{list_all}
-use Rattle.sc_base.specs.Lists.{at_or}
+use Rattle.sc_base.specs.Lists.{at_or, numbers_below}
 use Rattle.sc_ids.specs.Graphs.{StageData}
 use Rattle.sc_ids.specs.LimitDefaults.{default_limits}
 use Rattle.sc_ids.specs.declared.limits.Limits.{Limits}
@@ -69,6 +69,10 @@ AreOlder stages = (s : ℕ) → All (λ parent. parent < s) (at_or stages s no_s
 abbrev pub are_finished_in : Option TaskSetData → Bool
 are_finished_in None = false
 are_finished_in (Some set) = are_finished set.tasks
+
+-- the first so many partitions have results
+abbrev pub all_have_results : List Bool → ℕ → Bool
+all_have_results results tasks = list_all (λ p. at_or results p false) (numbers_below tasks)
 
 -- the stage of a number among rows is complete
 abbrev pub is_complete_in : List RowData → TrackerData → ℕ → Bool

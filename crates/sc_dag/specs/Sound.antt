@@ -1,5 +1,5 @@
 -- What holds of the stages of every job.
-use Rattle.std.specs.Prelude.{ℕ, ◌-◌, ◌<◌, ◌≤◌, ◌≡◌, ◌≢◌, ◌⊎◌, List, [], Bool, true, false, Option, Some, None, IfSome, All, if◌then◌else◌, length, slice_get, take}
+use Rattle.std.specs.Prelude.{ℕ, ◌-◌, ◌<◌, ◌≤◌, ◌≡◌, ◌≢◌, ◌⊎◌, List, [], true, false, Option, Some, None, IfSome, All, if◌then◌else◌, length, slice_get, take}
 use Rattle.std.specs.Option.{option_map}
 use Rattle.sc_base.specs.Lists.{at_or}
 use Rattle.sc_ids.specs.Graphs.{StageData}
@@ -13,6 +13,7 @@ use Rattle.sc_taskset.specs.declared.tasks.Finish.{Finish}
 use Rattle.sc_taskset.specs.declared.tasks.Finish.TheVariants.{OnExecutor, Unfinished}
 use Rattle.sc_tracker.specs.TrackerData.{TrackerData, output_of, outputs_of}
 use Rattle.sc_tracker.specs.TrackerFacts.{IsSoundTracker}
+use Rattle.sc_dag.specs.Births.{AreBornInTurn, ReadsOutput, WasThere, births_of}
 use Rattle.sc_dag.specs.DagData.{DagData, StageState, newest_at, no_stage, stage_at}
 use Rattle.sc_dag.specs.Openings.{AreOfTwo}
 use Rattle.sc_dag.specs.Outputs.{block_of, is_done, results_in}
@@ -99,3 +100,8 @@ pub record IsSoundDag (d : DagData) : Type 0 where
   -- and of a result stage all else is
   pub covered : (s p : ℕ) → is_map (stage_at d s).target ≡ false → p < (stage_at d s).tasks
       → newest_at d s ≢ None → wants_in (newest_at d s) p ≡ false → is_done d s p ≡ true
+  -- the attempts of a stage began one after another, and no later than now
+  pub born : (s : ℕ) → AreBornInTurn d.tracker.epoch (births_of (attempts_of d s))
+  -- what an attempt reads was there when it began
+  pub inputs : (s p : ℕ) (shuffle : ShuffleId) → ReadsOutput d.stages s shuffle p
+      → All (WasThere d.tracker (block_of shuffle p)) (births_of (attempts_of d s))

@@ -9,7 +9,7 @@ use Rattle.sc_ids.specs.declared.limits.Limits.{Limits}
 use Rattle.sc_taskset.specs.Reports.{as_zombie}
 use Rattle.sc_taskset.specs.TaskSetData.{TaskSetData, fresh_set}
 use Rattle.sc_tracker.specs.TrackerData.{TrackerData}
-use Rattle.sc_dag.specs.DagData.{DagData, StageState, changed_newest, is_live, stage_at, stage_attempt, with_attempts, with_states}
+use Rattle.sc_dag.specs.DagData.{DagData, StageState, changed_newest, is_live, stage_at, stage_attempt, with_states}
 use Rattle.sc_dag.specs.Outputs.{has_inputs, is_complete, missing_by}
 
 abbrev pub is_map : Target → Bool

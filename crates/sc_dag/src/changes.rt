@@ -1,7 +1,7 @@
 //! What becomes of one stage of a job.
 #![tactic(auto)]
 
-ghost use Rattle.std.specs.Prelude.{◌≡◌, ◌↔◌, OnOk, OnErr, false, None, Some, true};
+ghost use Rattle.std.specs.Prelude.{◌≡◌, ◌↔◌, ◌+◌, OnOk, OnErr, count_by, false, if◌then◌else◌, None, Some, true};
 ghost use Rattle.sc_ids.specs.Changes.{change_at};
 ghost use Rattle.sc_taskset.specs.Offers.{handed};
 ghost use Rattle.sc_taskset.specs.Reports.{after_end, after_failure, after_held, after_success};
@@ -103,7 +103,9 @@ impl StageRow {
         ensures stage { self.new.stage ≡ self.old.stage }
         ensures ready { self.new.is_ready ≡ self.old.is_ready }
     {
-        put_result_in(&mut self.results, partition);
+        if put_result_in(&mut self.results, partition) {
+            self.done += 1;
+        }
     }
 
     /// All its partitions are done.
@@ -170,11 +172,17 @@ impl StageRow {
     }
 }
 
-/// A result put in its place.
-fn put_result_in(results: &mut Vec<bool>, partition: u32)
-    ensures { results.new.items ≡ change_at results.old.items partition (λ _. true) }
+/// A result put in its place. Answers whether it is the first one there.
+fn put_result_in(results: &mut Vec<bool>, partition: u32) -> bool
+    ensures items { results.new.items ≡ change_at results.old.items partition (λ _. true) }
+    ensures count { count_by (λ b. b) results.new.items
+        ≡ count_by (λ b. b) results.old.items + (if result then 1 else 0) }
 {
     if (partition as usize) < results.len() {
+        let first = !results[partition as usize];
         results[partition as usize] = true;
+        first
+    } else {
+        false
     }
 }

@@ -2,9 +2,11 @@
 #![tactic(auto)]
 
 ghost use Rattle.std.specs.Prelude.{◌≡◌, [], false};
+ghost use Rattle.sc_base.specs.Lists.{at_or};
 ghost use Rattle.sc_taskset.specs.Rooms.{room_of};
 ghost use Rattle.sc_tracker.specs.Tracking.{is_bogus};
 ghost use Rattle.sc_dag.specs.Outputs.{is_complete_by, is_done_by};
+ghost use Rattle.sc_dag.specs.Rows.{all_have_results};
 ghost use Rattle.sc_dag.specs.Submission.{is_map, new_set};
 
 use sc_ids::{BlockId, Epoch, Limits, Loc, Stage, Target};
@@ -44,18 +46,25 @@ pub(crate) fn is_done(tracker: &Tracker, target: Target, results: &[bool], parti
             };
             tracker.output(block).here.is_some()
         }
-        Target::Result { .. } => match results.get(partition as usize) {
-            Some(done) => *done,
-            None => false,
-        },
+        Target::Result { .. } => has_result(results, partition),
     }
 }
 
-/// Whether all partitions of a stage are done.
-pub(crate) fn is_complete(stage: &Stage, tracker: &Tracker, results: &[bool]) -> bool
-    ensures { result ≡ is_complete_by tracker.now stage.now results.now }
+/// Whether the first so many partitions have a result.
+pub(crate) fn all_have_results(results: &[bool], tasks: u32) -> bool
+    ensures { result ≡ all_have_results results.now tasks }
 {
-    (0..stage.tasks()).all(|k| is_done(tracker, stage.target(), results, k))
+    (0..tasks).all(|k| has_result(results, k))
+}
+
+/// Whether a partition has a result.
+fn has_result(results: &[bool], partition: u32) -> bool
+    ensures { result ≡ at_or results.now partition false }
+{
+    match results.get(partition as usize) {
+        Some(done) => *done,
+        None => false,
+    }
 }
 
 /// The task set of the partitions that aren't done, in the room that there is for it. It takes no

@@ -7,12 +7,12 @@ ghost use Rattle.sc_dag.specs.Offers.{OffersIn};
 ghost use Rattle.sc_dag.specs.Openings.{blank_state};
 ghost use Rattle.sc_dag.specs.Outputs.{is_complete_by};
 ghost use Rattle.sc_dag.specs.Reports.{failed_count, wants_in};
-ghost use Rattle.sc_dag.specs.Rows.{are_finished_in, row_data};
+ghost use Rattle.sc_dag.specs.Rows.{all_have_results, are_finished_in, row_data};
 ghost use Rattle.sc_dag.specs.Submission.{is_idle};
 
 use crate::attempts::{StageAttempt, failed_count, newest};
-use crate::outputs::{is_complete, is_map};
-use sc_ids::{ExecId, Stage};
+use crate::outputs::{all_have_results, is_map};
+use sc_ids::{ExecId, Stage, Target};
 use sc_taskset::{Given, SetRoom};
 use sc_tracker::Tracker;
 use std::alloc::{AllocError, Global};
@@ -26,11 +26,13 @@ pub(crate) struct StageRow {
     pub(crate) attempts: Vec<StageAttempt>,
     pub(crate) waits: bool,
     pub(crate) results: Vec<bool>,
+    /// How many partitions have a result.
+    pub(crate) done: usize,
     pub(crate) room: Option<SetRoom>,
 }
 
 impl Model for StageRow {
-    ghost use Rattle.std.specs.Prelude.{◌≡◌, ◌<◌, ◌+◌, ◌^◌, ◌&&◌, [], IfSome, is_some, nat_lt, vec_capacity, vec_len};
+    ghost use Rattle.std.specs.Prelude.{◌≡◌, ◌<◌, ◌+◌, ◌^◌, ◌&&◌, [], IfSome, count_by, is_some, nat_lt, vec_capacity, vec_len};
     ghost use Rattle.sc_taskset.specs.Rooms.{room_of};
     ghost use Rattle.sc_dag.specs.Rows.{RowData, row_data, state_of};
 
@@ -42,7 +44,8 @@ impl Model for StageRow {
         && nat_lt (r.before + vec_len r.attempts + 1) (2 ^ 64))) };
 
     ghost invariant = { λ r. (r.before + vec_len r.attempts < 2 ^ 64)
-        × IfSome r.room (λ room. room ≡ room_of [] r.stage.tasks) };
+        × IfSome r.room (λ room. room ≡ room_of [] r.stage.tasks)
+        × (r.done ≡ count_by (λ b. b) r.results.items) };
 }
 
 impl StageRow {
@@ -61,6 +64,7 @@ impl StageRow {
             attempts: Vec::new(alloc),
             waits: false,
             results,
+            done: 0,
             room: None,
         })
     }
@@ -99,7 +103,22 @@ impl StageRow {
     pub fn is_complete(&self, tracker: &Tracker) -> bool
         ensures { result ≡ is_complete_by tracker.now self.now.stage self.now.state.results }
     {
-        is_complete(&self.stage, tracker, &self.results)
+        match self.stage.target() {
+            Target::Map(shuffle) => tracker.has_all(shuffle, self.stage.tasks()),
+            Target::Result { .. } => self.has_all_results(),
+        }
+    }
+
+    /// Whether all its partitions have results. As long as there are no more results than
+    /// partitions, none is looked at.
+    fn has_all_results(&self) -> bool
+        ensures { result ≡ all_have_results self.now.state.results self.now.stage.tasks }
+    {
+        let tasks = self.stage.tasks();
+        if self.done < tasks as usize {
+            return false;
+        }
+        self.results.len() == tasks as usize || all_have_results(&self.results, tasks)
     }
 
     /// Whether its newest attempt hands out tasks.

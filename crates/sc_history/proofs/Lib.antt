@@ -1,3 +1,4 @@
+pub mod Events
 pub mod OpeningLemmas
 pub mod StageRoomLemmas
 pub mod RoomLemmas

@@ -74,6 +74,13 @@ impl Plan {
         })
     }
 
+    /// The same plan once more.
+    pub fn copied(&self, alloc: Global) -> Result<Plan, AllocError>
+        ensures { IfOk result (λ p. p ≡ self.now) }
+    {
+        Plan::of_lines(alloc, self.lines.as_slice().to_vec(alloc)?)
+    }
+
     /// Its lines, in the order of the text.
     pub fn lines(&self) -> &[PlanLine]
         ensures lines { result.now ≡ self.now }

@@ -13,6 +13,7 @@ use Rattle.sc_tracker.specs.Tracking.{has_room}
 use Rattle.sc_dag.specs.DagData.{DagData}
 use Rattle.sc_dag.specs.Openings.{AreOfTwo, FitsIn, FitsJob, IsJob}
 use Rattle.sc_dag.specs.Submission.{IsSubmitted, is_map, this_stage}
+use Rattle.sc_plan.specs.declared.lines.PlanLine.{PlanLine}
 use Rattle.sc_core.specs.CoreData.{CoreData, result_stage}
 use Rattle.sc_core.specs.Openings.{IsOpening, tracker_behind}
 use Rattle.sc_rows.specs.Jobs.{results_alone, room_of, word_count, words_shuffle}
@@ -85,9 +86,9 @@ word_count_fits_behind c limits last room =
     word_count_fits_if (tracker_behind (Some c) limits) last (inr room)
 
 -- once it has begun there is room for both outputs
-pub word_count_room : (limits : Limits) (last : ℕ) (c : CoreData)
-    → IsOpening (word_count last) limits 0 None c → room_of c ≡ 2
-word_count_room limits last c o =
+pub word_count_room : (limits : Limits) (last : ℕ) (plan : List PlanLine) (c : CoreData)
+    → IsOpening (word_count last) limits 0 plan None c → room_of c ≡ 2
+word_count_room limits last plan c o =
     ap (λ t. length (outputs_of t words_shuffle)) (sent o.submits ∙ o.opens.tracker)
   where
     sent : IsSubmitted o.dag (this_stage (result_stage o.dag)) c.dag

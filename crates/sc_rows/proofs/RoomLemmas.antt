@@ -1,5 +1,5 @@
 -- No event changes for how many outputs of a shuffle there is room.
-use Rattle.std.proofs.Common.{◌≡◌, ℕ, ◌&&◌, not, Bool, true, false, if◌then◌else◌, IfOk, OnErr, Result, Ok, Err, Option, Some, None, slice_get, refl, ap, sym, subst, ◌∙◌}
+use Rattle.std.proofs.Common.{◌≡◌, ℕ, ◌&&◌, not, Bool, true, false, if◌then◌else◌, List, [], ◌∷◌, IfOk, OnErr, Result, Ok, Err, Option, Some, None, slice_get, refl, ap, sym, subst, ◌∙◌}
 use Rattle.sc_ids.specs.declared.attempts.AttemptId.{AttemptId}
 use Rattle.sc_ids.specs.declared.blocks.Loc.{Loc}
 use Rattle.sc_ids.specs.declared.failures.FailureCause.{FailureCause}
@@ -10,29 +10,32 @@ use Rattle.sc_commit.specs.declared.committers.Ending.{Ending}
 use Rattle.sc_commit.specs.declared.committers.Ending.TheVariants as endings
 use Rattle.sc_taskset.specs.declared.tasks.Verdict.{Verdict}
 use Rattle.sc_taskset.specs.declared.tasks.Verdict.TheVariants as verdicts
-use Rattle.sc_tracker.specs.Trust.{is_newer}
+use Rattle.sc_tracker.specs.Trust.{are_lost, is_newer}
 use Rattle.sc_dag.specs.DagData.{DagData}
-use Rattle.sc_dag.specs.Losses.{after_seen}
+use Rattle.sc_dag.specs.Losses.{after_lost, after_seen}
 use Rattle.sc_dag.specs.Outputs.{is_complete}
 use Rattle.sc_dag.specs.Reports.{after_failed, after_hold, after_map_success, is_of_newest, map_success_of, reaches_limit_in, result_success_of, set_of}
 use Rattle.sc_dag.specs.declared.reports.Success.{Success}
 use Rattle.sc_dag.specs.declared.reports.Success.TheVariants as successes
-use Rattle.sc_core.specs.CoreData.{CoreData, job_runs, running_of, taken_off, told_once, with_dag}
+use Rattle.sc_core.specs.CoreData.{CoreData, job_runs, running_of, shelved, shelved_if, shelved_of, taken_off, told_once, with_dag, without_shelved}
 use Rattle.sc_core.specs.Journals.{JournalData}
-use Rattle.sc_core.specs.Posts.{PostsIf, PostsOf}
+use Rattle.sc_core.specs.Losses.{LosesOrAborts, all_released, attempts_on, without_executor}
+use Rattle.sc_core.specs.Posts.{PostsBy, PostsIf, PostsOf, TellsNow, comes_twice, delay_for}
+use Rattle.sc_core.specs.Releases.{ReleasesIf, ReleasesOf}
 use Rattle.sc_core.specs.Steps.{Steps}
 use Rattle.sc_core.specs.Takes.{Takes}
-use Rattle.sc_core.specs.Tells.{FailsBy, FailsOrAborts, IsGone, Misses, MissesIf, Tells, TellsFailure, TellsFailureIf, TellsMap, TellsResult, after_failure, after_result, done_if, is_zombie_in, released, with_result_of}
+use Rattle.sc_core.specs.Tells.{FailsBy, FailsOrAborts, IsGone, Misses, MissesIf, Tells, TellsFailure, TellsFailureIf, TellsMap, TellsResult, TellsTo, after_failure, after_result, done_if, is_zombie_in, released, with_result_of}
 use Rattle.sc_core.specs.declared.answers.Abort.TheVariants as aborts
 use Rattle.sc_core.specs.declared.answers.Answer.{Answer}
 use Rattle.sc_core.specs.declared.answers.Answer.TheVariants as says
 use Rattle.sc_core.specs.declared.events.Event.{Event}
-use Rattle.sc_core.specs.declared.events.Event.TheVariants.{Post, Take}
+use Rattle.sc_core.specs.declared.events.Event.TheVariants.{Post, Release, Take, TellLost}
 use Rattle.sc_core.specs.declared.events.Outcome.{Outcome}
 use Rattle.sc_core.specs.declared.events.Outcome.TheVariants as outcomes
 use Rattle.sc_core.specs.declared.running.Running.{Running}
+use Rattle.sc_core.specs.declared.running.Shelved.{Shelved}
 use Rattle.sc_rows.specs.Jobs.{room_of, words_shuffle}
-use Rattle.sc_rows.proofs.StageRoomLemmas.{KeepsRoom, fails_room, follows_room, map_room, result_tracker, room_then, same_room, seen_room}
+use Rattle.sc_rows.proofs.StageRoomLemmas.{KeepsRoom, fails_room, follows_room, lost_room, map_room, result_tracker, room_then, same_room, seen_room}
 
 -- a core has room for as many outputs of each shuffle
 abbrev pub LeavesRoom : CoreData → CoreData → Type 0
@@ -191,6 +194,8 @@ takes_room c after exec (says.Aborted (aborts.TaskLimit s n p)) h = absurd h
 takes_room c after exec (says.Aborted (aborts.StageLimit s)) h = absurd h
 takes_room c after exec (says.Aborted aborts.NoExecutor) h = absurd h
 takes_room c after exec says.Ignored h = absurd h
+takes_room c after exec says.Shelved h = absurd h
+takes_room c after exec says.Told h = absurd h
 takes_room c after exec says.Repeated h = absurd h
 takes_room c after exec says.Registered h = absurd h
 takes_room c after exec says.Bogus h = absurd h
@@ -198,19 +203,75 @@ takes_room c after exec says.Finished h = absurd h
 takes_room c after exec says.Again h = absurd h
 takes_room c after exec says.Resubmitted h = absurd h
 
+told_room : (o : Option Running) (m after : CoreData) (a : AttemptId) (outcome : Outcome)
+    (answer : Answer) → TellsTo o m a outcome answer after → LeavesRoom m after
+told_room None m after a outcome answer (says, is) = at_once m after (told_once m) refl is
+told_room (Some r) m after a outcome answer h = tells_room (taken_off m a) after r outcome answer h
+
 steps_leave_room :
     (c after : CoreData) (event : Event) (answer : Answer) → Steps c event answer after
     → LeavesRoom c after
 steps_leave_room c after (Take exec) answer step = takes_room c after exec answer step
 steps_leave_room c after (Post a outcome) answer step = by (job_runs c) step
   where
+    now : (twice : Bool) → TellsNow (shelved_if twice c a outcome 0) a outcome answer after
+        → LeavesRoom c after
+    now false h = told_room (running_of c a) c after a outcome answer h
+    now true h =
+        let next = shelved c a outcome 0 in
+        told_room (running_of next a) next after a outcome answer h
+
+    late : (delay : ℕ) (twice : Bool)
+        → (shelved_if twice (shelved c a outcome delay) a outcome delay).dag.tracker
+        ≡ c.dag.tracker
+    late delay false = refl
+    late delay true = refl
+
+    posts : (delay : Option ℕ) → PostsBy delay c a outcome answer after → LeavesRoom c after
+    posts None h = now (comes_twice c a) h
+    posts (Some delay) (says, is) = at_once c after _ (late delay (comes_twice c a)) is
+
     of : (o : Option Running) → PostsOf o c a outcome answer after → LeavesRoom c after
     of None (says, is) = at_once c after (told_once c) refl is
-    of (Some r) (fit, tells) = tells_room (taken_off c a) after r outcome answer tells
+    of (Some r) (fit, h) = posts (delay_for c a) h
 
     by : (b : Bool) → PostsIf b c a outcome answer after → LeavesRoom c after
     by false (says, is) = at_once c after c refl is
     by true h = of (running_of c a) h
+steps_leave_room c after (Release key) answer step = by (job_runs c) step
+  where
+    of : (o : Option Shelved) → ReleasesOf o c key answer after → LeavesRoom c after
+    of None bad = absurd bad
+    of (Some s) h =
+        told_room (running_of c s.attempt) (without_shelved c key) after s.attempt s.outcome
+        answer h
+
+    by : (b : Bool) → ReleasesIf b c key answer after → LeavesRoom c after
+    by false (says, is) = at_once c after c refl is
+    by true h = of (shelved_of c key) h
+steps_leave_room c after (TellLost exec) answer (may, step) =
+    by (are_lost (without_executor c exec).dag.tracker.trust) step
+  where
+    mid : CoreData
+    mid = with_dag c (after_lost c.dag exec)
+
+    next : CoreData
+    next = without_executor c exec
+
+    freed : (these : List AttemptId) (m : CoreData)
+        → (all_released these m).dag.tracker ≡ m.dag.tracker
+    freed [] m = refl
+    freed (a ∷ these) m =
+        freed these (released m a endings.Failed) ∙ released_tracker m a endings.Failed
+
+    left : LeavesRoom c next
+    left =
+        room_then c.dag.tracker mid.dag.tracker next.dag.tracker (lost_room c.dag exec)
+        (same_room mid.dag.tracker next.dag.tracker (freed (attempts_on exec c.running) mid))
+
+    by : (b : Bool) → LosesOrAborts b next answer after → LeavesRoom c after
+    by true (says, is) = subst (λ x. LeavesRoom c x) (sym is) left
+    by false (says, is) = subst (λ x. LeavesRoom c x) (sym is) left
 
 -- nor does an entry of a journal, or one that is refused
 pub entered_room :

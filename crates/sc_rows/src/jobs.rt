@@ -8,8 +8,10 @@ ghost use Rattle.sc_core.specs.Openings.{IsOpening, tracker_behind};
 ghost use Rattle.sc_core.specs.Sound.{IsSoundCore};
 ghost use Rattle.sc_rows.specs.Jobs.{results_alone, room_of, word_count};
 
+use crate::plans::plan_of;
 use sc_core::{Core, Journal};
 use sc_ids::{Limits, ShuffleId, Stage, StageGraph, StageId, Target};
+use sc_plan::Plan;
 use std::process::Abort;
 
 /// The journal of a word count over two partitions: stage 0 makes two outputs of a shuffle, and
@@ -17,8 +19,15 @@ use std::process::Abort;
 pub fn counting<R: Abort + AllocGlobal>(rt: &R, limits: Limits) -> Journal
     ensures { room_of result.core ≡ 2 }
 {
+    counting_under(rt, limits, "")
+}
+
+/// The same under a fault plan.
+pub fn counting_under<R: Abort + AllocGlobal>(rt: &R, limits: Limits, plan: &str) -> Journal
+    ensures { room_of result.core ≡ 2 }
+{
     let graph = word_count(rt, 1);
-    begun(rt, &graph, limits, None)
+    begun(rt, &graph, limits, &plan_of(rt, plan), None)
 }
 
 /// That of a job behind it whose stage 2 reads the outputs of the same shuffle.
@@ -26,13 +35,13 @@ pub fn counting_again<R: Abort + AllocGlobal>(rt: &R, limits: Limits, last: &Cor
     requires { room_of last.now ≡ 2 }
 {
     let graph = word_count(rt, 2);
-    begun(rt, &graph, limits, Some(last))
+    begun(rt, &graph, limits, &plan_of(rt, ""), Some(last))
 }
 
 /// That of a job without a shuffle, of two results.
 pub fn results<R: Abort + AllocGlobal>(rt: &R, limits: Limits) -> Journal {
     let graph = results_alone(rt);
-    begun(rt, &graph, limits, None)
+    begun(rt, &graph, limits, &plan_of(rt, ""), None)
 }
 
 /// The journal of a job with these stages, which saves nothing.
@@ -40,15 +49,16 @@ fn begun<R: Abort + AllocGlobal>(
     rt: &R,
     graph: &StageGraph,
     limits: Limits,
+    plan: &Plan,
     last: Option<&Core>,
 ) -> Journal
     requires job { IsJob graph.now }
     requires fits { FitsJob (tracker_behind (option_map (λ l. l.now) last) limits) graph.now }
-    ensures { IsOpening graph.now limits 0 (option_map (λ l. l.now) last.entry) result.core }
+    ensures { IsOpening graph.now limits 0 plan.now (option_map (λ l. l.now) last.entry) result.core }
 {
     is_sound_behind(last);
-    let opening = Core::open(rt.alloc(), graph, limits, 0, last).expect(rt, "memory");
-    let core = Core::open(rt.alloc(), graph, limits, 0, last).expect(rt, "memory");
+    let opening = Core::open(rt.alloc(), graph, limits, 0, plan, last).expect(rt, "memory");
+    let core = Core::open(rt.alloc(), graph, limits, 0, plan, last).expect(rt, "memory");
     Journal::begin(rt.alloc(), opening, core)
 }
 

@@ -48,6 +48,8 @@ mod hashes;
 #[cfg(test)]
 mod held;
 #[cfg(test)]
+mod job_faults;
+#[cfg(test)]
 mod job_reports;
 #[cfg(test)]
 mod job_runs;

@@ -8,7 +8,7 @@ use sc_value::Octets;
 use std::process::Abort;
 
 /// A plan for two executors.
-fn plan_of<R: Abort + AllocGlobal>(rt: &R, text: &str) -> Plan {
+pub(crate) fn plan_of<R: Abort + AllocGlobal>(rt: &R, text: &str) -> Plan {
     let bytes = Octets::copy_of(rt.alloc(), text.as_bytes()).expect(rt, "memory");
     match parse_plan(rt.alloc(), &bytes, 2) {
         Ok(plan) => plan,

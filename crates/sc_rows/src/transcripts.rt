@@ -87,6 +87,16 @@ fn event_of(line: &str, numbers: &[u32]) -> Event {
             exec: at(numbers, 0),
         };
     }
+    if line.contains(" release ") {
+        return Event::Release {
+            key: at(numbers, 1),
+        };
+    }
+    if line.contains(" lost ") {
+        return Event::TellLost {
+            exec: at(numbers, 1),
+        };
+    }
     let attempt = AttemptId {
         stage: at(numbers, 1),
         stage_attempt: u64::from(at(numbers, 2)),

@@ -8,4 +8,5 @@ pub mod HandLemmas
 pub mod FailureLemmas
 pub mod SuccessLemmas
 pub mod RoomLemmas
+pub mod TableLemmas
 pub mod LawLemmas

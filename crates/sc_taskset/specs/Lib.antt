@@ -7,3 +7,4 @@ pub mod Accounting
 pub mod Laws
 pub mod Rows
 pub mod Rooms
+pub mod Tables

@@ -4,96 +4,87 @@
 ghost use Rattle.std.specs.Prelude.{◌≡◌, ◌<◌, IfSome, OnOk, OnErr, List, length, map};
 ghost use Rattle.std.specs.List.{find};
 ghost use Rattle.sc_taskset.specs.declared.rows.Failure.{Failure};
-ghost use Rattle.sc_taskset.specs.Lookups.{with_task};
+ghost use Rattle.sc_taskset.specs.Lookups.{change_first, with_task};
 ghost use Rattle.sc_taskset.specs.Offers.{handed_task};
 ghost use Rattle.sc_taskset.specs.Reports.{ended_task, held_task, lost_task, succeeded_task};
 ghost use Rattle.sc_taskset.specs.Rows.{copies_of, is_row_of, tasks_of};
 
 use crate::rows::Row;
-use crate::scans::place_of;
+use crate::tables::Table;
 use sc_ids::ExecId;
 use std::alloc::AllocError;
 
 /// Hands a partition out once more, unless the number of its attempts is at its type's end.
 pub fn hand_in(
-    rows: &mut Vec<Row>,
+    rows: &mut Table,
     partition: u32,
     exec: ExecId,
     now: u64,
 ) -> Result<(), AllocError>
-    requires { IfSome (find (is_row_of partition) rows.old.items)
+    requires { IfSome (find (is_row_of partition) rows.old)
         (λ r. length (copies_of r) < 2) }
     ensures ok { (failures : List Failure)
-        → OnOk result (tasks_of failures rows.new.items
-        ≡ with_task partition (handed_task exec now) (tasks_of failures rows.old.items)) }
-    ensures err { OnErr result (rows.new.items ≡ rows.old.items) }
+        → OnOk result (tasks_of failures rows.new
+        ≡ with_task partition (handed_task exec now) (tasks_of failures rows.old)) }
+    ensures err { OnErr result (rows.new ≡ rows.old) }
 {
-    let place = match place_of(rows, partition) {
-        Some(place) => place,
-        None => return Ok(()),
-    };
-    let row = rows[place];
-    match row.given.checked_add(1) {
-        Some(given) => {
-            rows[place] = row.handed(exec, now, given);
-            Ok(())
-        }
-        None => Err(AllocError),
+    match rows.row_of(partition) {
+        Some(row) => match row.given.checked_add(1) {
+            Some(given) => {
+                replace(rows, row.handed(exec, now, given));
+                Ok(())
+            }
+            None => Err(AllocError),
+        },
+        None => Ok(()),
     }
 }
 
 /// Ends an attempt of a partition.
-pub fn end_in(rows: &mut Vec<Row>, partition: u32, nth: u32)
-    ensures { (failures : List Failure) → tasks_of failures rows.new.items
-        ≡ with_task partition (ended_task nth) (tasks_of failures rows.old.items) }
+pub fn end_in(rows: &mut Table, partition: u32, nth: u32)
+    ensures { (failures : List Failure) → tasks_of failures rows.new
+        ≡ with_task partition (ended_task nth) (tasks_of failures rows.old) }
 {
-    match place_of(rows, partition) {
-        Some(place) => {
-            let row = rows[place];
-            rows[place] = row.ended(nth);
-        }
+    match rows.row_of(partition) {
+        Some(row) => replace(rows, row.ended(nth)),
         None => {}
     }
 }
 
 /// Notes a success of a partition.
-pub fn succeed_in(rows: &mut Vec<Row>, partition: u32, nth: Option<u32>)
-    ensures { (failures : List Failure) → tasks_of failures rows.new.items
-        ≡ with_task partition (succeeded_task nth) (tasks_of failures rows.old.items) }
+pub fn succeed_in(rows: &mut Table, partition: u32, nth: Option<u32>)
+    ensures { (failures : List Failure) → tasks_of failures rows.new
+        ≡ with_task partition (succeeded_task nth) (tasks_of failures rows.old) }
 {
-    match place_of(rows, partition) {
-        Some(place) => {
-            let row = rows[place];
-            rows[place] = row.succeeded(nth);
-        }
+    match rows.row_of(partition) {
+        Some(row) => replace(rows, row.succeeded(nth)),
         None => {}
     }
 }
 
 /// Notes whether a held grant has denied an attempt of a partition.
-pub fn hold_in(rows: &mut Vec<Row>, partition: u32, denied: bool)
-    ensures { (failures : List Failure) → tasks_of failures rows.new.items
-        ≡ with_task partition (held_task denied) (tasks_of failures rows.old.items) }
+pub fn hold_in(rows: &mut Table, partition: u32, denied: bool)
+    ensures { (failures : List Failure) → tasks_of failures rows.new
+        ≡ with_task partition (held_task denied) (tasks_of failures rows.old) }
 {
-    match place_of(rows, partition) {
-        Some(place) => {
-            let row = rows[place];
-            rows[place] = row.held(denied);
-        }
+    match rows.row_of(partition) {
+        Some(row) => replace(rows, row.held(denied)),
         None => {}
     }
 }
 
-/// Takes an executor's attempts, and what was finished there where that is to be done again.
-pub fn lose_in(rows: &mut Vec<Row>, exec: ExecId, redoes: bool)
-    ensures { (failures : List Failure) → tasks_of failures rows.new.items
-        ≡ map (lost_task exec redoes) (tasks_of failures rows.old.items) }
+/// Puts a row in the place of the one of its partition.
+fn replace(rows: &mut Table, row: Row)
+    ensures { rows.new ≡ change_first (is_row_of row.partition) (λ _. row) rows.old }
 {
-    lose_all(rows.as_mut_slice(), exec, redoes);
+    let place = rows.place_of(row.partition);
+    if place < rows.as_slice().len() {
+        rows.put(place, row);
+    }
 }
 
-/// The same for rows in a slice.
-fn lose_all(rows: &mut [Row], exec: ExecId, redoes: bool)
+/// Takes an executor's attempts, and what was finished there where that is to be done again.
+pub fn lose_all(rows: &mut [Row], exec: ExecId, redoes: bool)
     ensures { (failures : List Failure) → tasks_of failures rows.new
         ≡ map (lost_task exec redoes) (tasks_of failures rows.old) }
 {

@@ -25,6 +25,7 @@ mod notes;
 mod rooms;
 mod rows;
 mod scans;
+mod tables;
 mod task_sets;
 mod tasks;
 

@@ -2,10 +2,11 @@
 #![tactic(auto)]
 
 ghost use Rattle.std.specs.Prelude.{◌≡◌, ◌↔◌, ◌<◌, ◌≤◌, ◌+◌, ◌&&◌, IfSome, OnOk, List, length, true, if◌then◌else◌, nat_le, vec_capacity, vec_len};
-ghost use Rattle.std.specs.List.{filter, prefix_len};
+ghost use Rattle.std.specs.List.{filter};
 ghost use Rattle.std.specs.Option.{option_to_list};
 ghost use Rattle.sc_taskset.specs.Reports.{with_duration};
 ghost use Rattle.sc_taskset.specs.Rows.{is_failure_of, noted};
+ghost use Rattle.sc_taskset.specs.Tables.{in_order};
 
 use crate::rows::Failure;
 use crate::scans::failure_count;
@@ -51,33 +52,17 @@ pub fn verdict(failures: &[Failure], partition: u32, counts: bool, limit: u32) -
     }
 }
 
-/// Puts a duration behind those that are no longer. There is room for it.
+/// Notes a duration. There is room for it.
 pub fn note_duration(durations: &mut Vec<u64>, duration: Option<u64>)
     requires { IfSome duration (λ d. vec_len durations.old < vec_capacity durations.old) }
-    ensures items { durations.new.items ≡ with_duration duration durations.old.items }
+    ensures items { in_order durations.new.items
+        ≡ with_duration duration (in_order durations.old.items) }
     ensures kept { vec_capacity durations.old ≤ vec_capacity durations.new }
     ensures len { vec_len durations.new
         ≡ vec_len durations.old + length (option_to_list duration) }
 {
     match duration {
-        Some(new) => {
-            let place = count_until(durations, new);
-            match durations.insert(place, new) {
-                Ok(()) => {}
-                Err(_) => unreachable!(),
-            }
-        }
+        Some(new) => durations.push_reserved(new),
         None => {}
     }
-}
-
-/// How many durations in front are no longer than one.
-fn count_until(durations: &[u64], duration: u64) -> usize
-    ensures { result ≡ prefix_len (λ d. nat_le d duration) durations.now }
-{
-    let mut place = 0;
-    while place < durations.len() && durations[place] <= duration {
-        place += 1;
-    }
-    place
 }

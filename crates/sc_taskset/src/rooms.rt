@@ -8,6 +8,7 @@ ghost use Rattle.sc_taskset.specs.Sound.{AreRising};
 ghost use Rattle.sc_taskset.specs.TaskSetData.{fresh_set};
 
 use crate::rows::{Failure, Row};
+use crate::tables::Table;
 use crate::task_sets::TaskSet;
 use sc_ids::{Epoch, Limits};
 use std::alloc::{AllocError, Global};
@@ -64,7 +65,7 @@ impl SetRoom {
         ensures { result ≡ fresh_set self.partitions is_map limits born }
     {
         TaskSet {
-            rows: self.rows,
+            rows: Table::new(self.rows),
             failures: self.failures,
             durations: self.durations,
             is_map,

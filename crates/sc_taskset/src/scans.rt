@@ -3,7 +3,7 @@
 
 ghost use Rattle.std.specs.Prelude.{◌≡◌, ◌&&◌, ◌||◌, not, List, length};
 ghost use Rattle.std.specs.Option.{option_map};
-ghost use Rattle.std.specs.List.{filter, find, position};
+ghost use Rattle.std.specs.List.{filter, find};
 ghost use Rattle.sc_ids.specs.Failures.{is_counted};
 ghost use Rattle.sc_taskset.specs.declared.rows.Failure.{Failure};
 ghost use Rattle.sc_taskset.specs.Lookups.{are_finished, is_there_and, task_at};
@@ -12,46 +12,40 @@ ghost use Rattle.sc_taskset.specs.Reports.{duration_in, is_failure, is_first_suc
 ghost use Rattle.sc_taskset.specs.Rows.{is_failure_of, is_row_of, offered_task, task_of, tasks_of};
 
 use crate::rows::{Failure, Row};
+use crate::tables::Table;
 use sc_ids::{ExecId, FailureCause};
 
-/// The place of the row of a partition.
-pub fn place_of(rows: &[Row], partition: u32) -> Option<usize>
-    ensures { result ≡ position (is_row_of partition) rows.now }
-{
-    rows.iter().position(|row| row.partition == partition)
-}
-
 /// The row of a partition.
-pub fn row_at(rows: &[Row], partition: u32) -> Option<Row>
+pub fn row_at(rows: &Table, partition: u32) -> Option<Row>
     ensures { (failures : List Failure)
         → option_map (task_of failures) result ≡ task_at partition (tasks_of failures rows.now) }
 {
-    rows.iter().find(|row| row.partition == partition).copied()
+    rows.row_of(partition)
 }
 
 /// The first row that is to be handed out.
-fn first_pending(rows: &[Row]) -> Option<Row>
+fn first_pending(rows: &Table) -> Option<Row>
     ensures { (failures : List Failure)
         → option_map (task_of failures) result ≡ find is_pending_task (tasks_of failures rows.now) }
 {
-    rows.iter().find(|row| row.is_pending()).copied()
+    rows.first_pending()
 }
 
 /// The first row of which a second attempt may run on an executor.
-fn first_copyable(rows: &[Row], exec: ExecId) -> Option<Row>
+fn first_copyable(rows: &Table, exec: ExecId) -> Option<Row>
     ensures { (failures : List Failure)
         → option_map (task_of failures) result
         ≡ find (is_copyable_task exec) (tasks_of failures rows.now) }
 {
-    rows.iter().find(|row| row.is_copyable(exec)).copied()
+    rows.as_slice().iter().find(|row| row.is_copyable(exec)).copied()
 }
 
 /// Whether all of them are finished.
-pub fn are_finished(rows: &[Row]) -> bool
+pub fn are_finished(rows: &Table) -> bool
     ensures { (failures : List Failure)
         → result ≡ are_finished (tasks_of failures rows.now) }
 {
-    rows.iter().all(|row| row.is_finished())
+    rows.are_finished()
 }
 
 /// How many failures of a partition are among some.
@@ -65,7 +59,7 @@ pub fn failure_count(failures: &[Failure], partition: u32) -> usize
 }
 
 /// The first row that is there for an executor.
-pub fn offered(rows: &[Row], is_zombie: bool, speculation: bool, exec: ExecId) -> Option<Row>
+pub fn offered(rows: &Table, is_zombie: bool, speculation: bool, exec: ExecId) -> Option<Row>
     ensures { (failures : List Failure) → option_map (task_of failures) result
         ≡ offered_task is_zombie speculation exec (tasks_of failures rows.now) }
 {
@@ -85,7 +79,7 @@ pub fn offered(rows: &[Row], is_zombie: bool, speculation: bool, exec: ExecId) -
 /// Whether a failure of an attempt counts: its cause does, the set is no zombie, and the attempt
 /// runs.
 pub fn fails_in(
-    rows: &[Row],
+    rows: &Table,
     is_zombie: bool,
     partition: u32,
     nth: u32,
@@ -102,7 +96,7 @@ pub fn fails_in(
 }
 
 /// Whether a success is the first of its partition.
-pub fn is_first_in(rows: &[Row], partition: u32, nth: Option<u32>) -> bool
+pub fn is_first_in(rows: &Table, partition: u32, nth: Option<u32>) -> bool
     ensures { (failures : List Failure) → result
         ≡ is_there_and (is_first_success nth) (task_at partition (tasks_of failures rows.now)) }
 {
@@ -113,7 +107,7 @@ pub fn is_first_in(rows: &[Row], partition: u32, nth: Option<u32>) -> bool
 }
 
 /// How long a partition took, by its first success of an attempt of its set.
-pub fn duration_in(rows: &[Row], partition: u32, nth: Option<u32>, now: u64) -> Option<u64>
+pub fn duration_in(rows: &Table, partition: u32, nth: Option<u32>, now: u64) -> Option<u64>
     ensures { (failures : List Failure) → result
         ≡ duration_in nth now (task_at partition (tasks_of failures rows.now)) }
 {
@@ -124,7 +118,7 @@ pub fn duration_in(rows: &[Row], partition: u32, nth: Option<u32>, now: u64) -> 
 }
 
 /// Whether a set hands out nothing more: it was so before, or all its tasks are finished.
-pub fn ends(is_zombie: bool, rows: &[Row]) -> bool
+pub fn ends(is_zombie: bool, rows: &Table) -> bool
     ensures { (failures : List Failure)
         → result ≡ (is_zombie || are_finished (tasks_of failures rows.now)) }
 {

@@ -7,10 +7,11 @@ ghost use Rattle.sc_taskset.specs.Offers.{Gives, Offers, given_of, handed, may_b
 ghost use Rattle.sc_taskset.specs.Reports.{after_end, after_failure, after_held, after_loss, after_success, as_zombie, is_first, reaches_limit};
 ghost use Rattle.sc_taskset.specs.Sound.{IsSoundSet};
 
-use crate::changes::{end_in, hand_in, hold_in, lose_in, succeed_in};
+use crate::changes::{end_in, hand_in, hold_in, succeed_in};
 use crate::notes::{note_duration, note_failure, reserve_one, verdict};
-use crate::rows::{Failure, Row};
+use crate::rows::Failure;
 use crate::scans::{are_finished, duration_in, ends, fails_in, is_first_in, offered, row_at};
+use crate::tables::Table;
 use crate::tasks::{Given, Verdict};
 use sc_ids::{Epoch, ExecId, FailureCause, Limits};
 use std::alloc::AllocError;
@@ -19,8 +20,9 @@ use std::marker::Model;
 /// The tasks of one attempt of a stage: which are finished, which run, and which comes next.
 #[derive(Drop)]
 pub struct TaskSet {
-    pub(crate) rows: Vec<Row>,
+    pub(crate) rows: Table,
     pub(crate) failures: Vec<Failure>,
+    /// How long its first successes took, in the order in which they were told.
     pub(crate) durations: Vec<u64>,
     pub(crate) is_map: bool,
     pub(crate) is_zombie: bool,
@@ -32,13 +34,14 @@ impl Model for TaskSet {
     ghost use Rattle.std.specs.Prelude.{vec_capacity, vec_len};
     ghost use Rattle.sc_taskset.specs.TaskSetData.{TaskSetData};
     ghost use Rattle.sc_taskset.specs.Rows.{IsHeld, set_of};
+    ghost use Rattle.sc_taskset.specs.Tables.{in_order};
 
     ghost Value = { TaskSetData };
 
-    ghost view = { λ s. set_of s.rows.items s.failures.items s.durations.items
+    ghost view = { λ s. set_of s.rows s.failures.items (in_order s.durations.items)
         s.is_map s.is_zombie s.limits s.born };
 
-    ghost invariant = { λ s. IsHeld (set_of s.rows.items s.failures.items s.durations.items
+    ghost invariant = { λ s. IsHeld (set_of s.rows s.failures.items (in_order s.durations.items)
         s.is_map s.is_zombie s.limits s.born)
         (vec_len s.failures) (vec_capacity s.failures)
         (vec_len s.durations) (vec_capacity s.durations) };
@@ -120,7 +123,7 @@ impl TaskSet {
         ensures { self.new ≡ after_loss self.old exec }
     {
         let redoes = redoes_lost(self.is_map, self.is_zombie);
-        lose_in(&mut self.rows, exec, redoes);
+        self.rows.lose(exec, redoes);
     }
 
     /// What it has for an executor at this time: the smallest pending partition or, where nothing

@@ -1,4 +1,5 @@
 pub mod BlockLemmas
+pub mod CountLemmas
 pub mod PlaceLemmas
 pub mod TrackerLemmas
 pub mod TrustLemmas

@@ -1,6 +1,7 @@
 -- What is known of one map output, and how it changes.
-use Rattle.std.specs.Prelude.{ℕ, List, Bool, Option, Some, None, false, if◌then◌else◌, ◌==◌}
-use Rattle.sc_base.specs.Lists.{at_or}
+use Rattle.std.specs.Prelude.{ℕ, List, Bool, Option, Some, None, false, if◌then◌else◌, is_some, ◌==◌}
+use Rattle.std.specs.List.{list_all}
+use Rattle.sc_base.specs.Lists.{at_or, numbers_below}
 use Rattle.sc_ids.specs.declared.blocks.Loc.{Loc}
 use Rattle.sc_tracker.specs.declared.outputs.Output.{Output}
 use Rattle.sc_tracker.specs.declared.outputs.Location.{Location}
@@ -13,6 +14,14 @@ never = record { here = None; last = None; since = 0 }
 -- what is known of an output: nothing of one that there is no room for
 abbrev pub output_in : List Output → ℕ → Output
 output_in outputs place = at_or outputs place never
+
+-- an output is registered
+abbrev pub is_here : Output → Bool
+is_here output = is_some output.here
+
+-- the first so many outputs are all registered
+abbrev pub are_here : List Output → ℕ → Bool
+are_here outputs maps = list_all (λ m. is_here (output_in outputs m)) (numbers_below maps)
 
 -- the location that is answered for an output
 abbrev pub location_of_places : Option Loc → Option Loc → Location

@@ -5,7 +5,7 @@ use Rattle.sc_ids.specs.declared.blocks.ShuffleId.{ShuffleId}
 use Rattle.sc_ids.specs.declared.blocks.BlockId.{BlockId}
 use Rattle.sc_tracker.specs.declared.outputs.Output.{Output}
 use Rattle.sc_tracker.specs.declared.trust.Trust.{Trust}
-use Rattle.sc_tracker.specs.Outputs.{output_in}
+use Rattle.sc_tracker.specs.Outputs.{are_here, output_in}
 use Rattle.sc_tracker.specs.Trust.{trust_at}
 
 -- the outputs of a shuffle, in the order of its map partitions
@@ -55,6 +55,10 @@ output_under shuffles block = output_in (outputs_under shuffles block.shuffle) b
 
 abbrev pub output_of : TrackerData → BlockId → Output
 output_of t block = output_under t.shuffles block
+
+-- the outputs of the first so many map partitions of a shuffle are all registered
+abbrev pub has_all : TrackerData → ShuffleId → ℕ → Bool
+has_all t shuffle maps = are_here (outputs_of t shuffle) maps
 
 -- what was heard of an executor: nothing of one that isn't there
 abbrev pub trust_of : TrackerData → ℕ → Trust

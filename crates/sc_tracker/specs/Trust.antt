@@ -1,5 +1,6 @@
 -- What was heard of an executor, and which outputs that rules out.
 use Rattle.std.specs.Prelude.{ℕ, List, Bool, Option, Some, None, true, false, not, nat_le, nat_lt, ◌||◌}
+use Rattle.std.specs.List.{list_all}
 use Rattle.sc_base.specs.Lists.{at_or}
 use Rattle.sc_ids.specs.declared.blocks.Loc.{Loc}
 use Rattle.sc_tracker.specs.declared.trust.Trust.{Trust}
@@ -31,6 +32,10 @@ is_newer (Some trust) found = nat_lt trust.seen found
 abbrev pub is_live : Option Trust → Bool
 is_live None = false
 is_live (Some trust) = not trust.lost
+
+-- every executor was told lost
+abbrev pub are_lost : List Trust → Bool
+are_lost trust = list_all (λ heard. heard.lost) trust
 
 -- a newer generation was found, in an epoch
 abbrev pub seen_at : ℕ → ℕ → Trust → Trust

@@ -2,7 +2,7 @@
 #![tactic(auto)]
 
 ghost use Rattle.std.specs.Prelude.{◌≡◌};
-ghost use Rattle.sc_tracker.specs.Outputs.{forgotten, forgotten_on, location_in, placed};
+ghost use Rattle.sc_tracker.specs.Outputs.{forgotten, forgotten_on, is_here, location_in, placed};
 
 use sc_ids::{Epoch, ExecId, Loc};
 
@@ -36,6 +36,13 @@ impl Output {
         last: None,
         since: 0,
     };
+
+    /// Whether it is registered.
+    pub(crate) fn is_here(self) -> bool
+        ensures { result ≡ is_here self }
+    {
+        self.here.is_some()
+    }
 
     /// Where it lies.
     pub(crate) fn location(self) -> Location

@@ -4,8 +4,9 @@
 ghost use Rattle.std.specs.Prelude.{◌≡◌, IfOk, length, map, replicate};
 ghost use Rattle.std.specs.List.{list_any};
 ghost use Rattle.sc_ids.specs.Changes.{change_at};
-ghost use Rattle.sc_tracker.specs.Outputs.{forgotten, forgotten_on, never, output_in, placed};
-ghost use Rattle.sc_tracker.specs.TrackerData.{is_of, output_under, place_of, shuffle_data};
+ghost use Rattle.std.specs.Prelude.{count_by};
+ghost use Rattle.sc_tracker.specs.Outputs.{are_here, forgotten, forgotten_on, is_here, never, output_in, placed};
+ghost use Rattle.sc_tracker.specs.TrackerData.{is_of, output_under, outputs_under, place_of, shuffle_data};
 ghost use Rattle.sc_tracker.specs.Tracking.{with_forgotten, with_forgotten_on, with_placed};
 
 use crate::outputs::Output;
@@ -18,14 +19,20 @@ use std::marker::Model;
 pub(crate) struct ShuffleOutputs {
     shuffle: ShuffleId,
     outputs: Vec<Output>,
+    /// How many of them are registered.
+    registered: usize,
 }
 
 impl Model for ShuffleOutputs {
+    ghost use Rattle.std.specs.Prelude.{◌≡◌, count_by};
+    ghost use Rattle.sc_tracker.specs.Outputs.{is_here};
     ghost use Rattle.sc_tracker.specs.TrackerData.{ShuffleData, shuffle_data};
 
     ghost Value = { ShuffleData };
 
     ghost view = { λ s. shuffle_data s.shuffle s.outputs.items };
+
+    ghost invariant = { λ s. s.registered ≡ count_by is_here s.outputs.items };
 }
 
 impl ShuffleOutputs {
@@ -34,7 +41,11 @@ impl ShuffleOutputs {
         ensures { IfOk result (λ s. s ≡ shuffle_data shuffle (replicate maps never)) }
     {
         let outputs = vec![in alloc; Output::NEVER; maps as usize]?;
-        Ok(ShuffleOutputs { shuffle, outputs })
+        Ok(ShuffleOutputs {
+            shuffle,
+            outputs,
+            registered: 0,
+        })
     }
 
     /// A copy of all that is known.
@@ -45,6 +56,7 @@ impl ShuffleOutputs {
         Ok(ShuffleOutputs {
             shuffle: self.shuffle,
             outputs,
+            registered: self.registered,
         })
     }
 
@@ -65,10 +77,31 @@ impl ShuffleOutputs {
         }
     }
 
+    /// Whether the first so many outputs are all registered. As long as there is room for no more
+    /// than these, no output is looked at.
+    fn has_all(&self, maps: u32) -> bool
+        ensures { result ≡ are_here self.now.outputs maps }
+    {
+        if self.registered < maps as usize {
+            return false;
+        }
+        self.outputs.len() == maps as usize || self.all_here(maps)
+    }
+
+    /// The same, output by output.
+    fn all_here(&self, maps: u32) -> bool
+        ensures { result ≡ are_here self.now.outputs maps }
+    {
+        (0..maps).all(|map| self.output(map).is_here())
+    }
+
     /// Registers an output.
     fn place(&mut self, map: u32, loc: Loc, epoch: Epoch)
         ensures { self.new ≡ with_placed map loc epoch self.old }
     {
+        if (map as usize) < self.outputs.len() && !self.output(map).is_here() {
+            self.registered += 1;
+        }
         place_in(&mut self.outputs, map, loc, epoch);
     }
 
@@ -77,6 +110,7 @@ impl ShuffleOutputs {
         ensures { self.new ≡ with_forgotten self.old }
     {
         forget_outputs(self.outputs.as_mut_slice());
+        self.registered = 0;
     }
 
     /// Forgets the outputs that are registered on an executor.
@@ -84,7 +118,15 @@ impl ShuffleOutputs {
         ensures { self.new ≡ with_forgotten_on exec self.old }
     {
         forget_in(self.outputs.as_mut_slice(), exec);
+        self.registered = count_here(&self.outputs);
     }
+}
+
+/// How many outputs are registered.
+fn count_here(outputs: &[Output]) -> usize
+    ensures { result ≡ count_by is_here outputs.now }
+{
+    outputs.iter().filter(|output| output.is_here()).count()
 }
 
 /// Copies of the outputs of several shuffles.
@@ -140,6 +182,16 @@ pub(crate) fn output_at(shuffles: &[ShuffleOutputs], block: BlockId) -> Output
     match shuffles.get(place_of(shuffles, block.shuffle)) {
         Some(outputs) => outputs.output(block.map),
         None => Output::NEVER,
+    }
+}
+
+/// Whether the first so many outputs of a shuffle are all registered.
+pub(crate) fn has_all(shuffles: &[ShuffleOutputs], shuffle: ShuffleId, maps: u32) -> bool
+    ensures { result ≡ are_here (outputs_under shuffles.now shuffle) maps }
+{
+    match shuffles.get(place_of(shuffles, shuffle)) {
+        Some(outputs) => outputs.has_all(maps),
+        None => maps == 0,
     }
 }
 

@@ -3,14 +3,14 @@
 
 ghost use Rattle.std.specs.Prelude.{◌≡◌, [], IfOk, OnErr, OnOk, if◌then◌else◌, is_ok, replicate, slice_get};
 ghost use Rattle.sc_tracker.specs.Outputs.{location_in};
-ghost use Rattle.sc_tracker.specs.TrackerData.{output_of, tracker_data, trust_of};
+ghost use Rattle.sc_tracker.specs.TrackerData.{has_all, output_of, tracker_data, trust_of};
 ghost use Rattle.sc_tracker.specs.TrackerFacts.{IsSoundTracker};
 ghost use Rattle.sc_tracker.specs.Tracking.{after_executor_lost, after_gone, emptied, is_bogus, registered, sized};
-ghost use Rattle.sc_tracker.specs.Trust.{is_newer, untold};
+ghost use Rattle.sc_tracker.specs.Trust.{are_lost, is_live, is_newer, untold};
 
 use crate::outputs::{Location, Output};
 use crate::shuffles::{
-    ShuffleOutputs, copies, forget_all, forget_all_on, has_room, output_at, place_at,
+    ShuffleOutputs, copies, forget_all, forget_all_on, has_all, has_room, output_at, place_at,
 };
 use crate::trust::{Trust, is_bogus, is_live, is_newer, note_lost, note_seen, trust_at};
 use sc_ids::{BlockId, Epoch, ExecId, Generation, Loc, ShuffleId};
@@ -119,6 +119,13 @@ impl Tracker {
         output_at(self.shuffles.as_slice(), block)
     }
 
+    /// Whether the outputs of the first so many map partitions of a shuffle are all registered.
+    pub fn has_all(&self, shuffle: ShuffleId, maps: u32) -> bool
+        ensures { result ≡ has_all self.now shuffle maps }
+    {
+        has_all(self.shuffles.as_slice(), shuffle, maps)
+    }
+
     /// An executor was told lost: its outputs are forgotten. A second telling changes nothing.
     pub fn unregister_exec(&mut self, exec: ExecId)
         ensures { self.new ≡ after_executor_lost self.old exec }
@@ -183,6 +190,20 @@ impl Tracker {
         ensures { result ≡ (trust_of self.now exec).lost }
     {
         trust_at(self.trust.as_slice(), exec).lost
+    }
+
+    /// Whether an executor is there, and wasn't told lost.
+    pub fn is_live(&self, exec: ExecId) -> bool
+        ensures { result ≡ is_live (slice_get self.now.trust exec) }
+    {
+        is_live(self.trust.as_slice(), exec)
+    }
+
+    /// Whether every executor was told lost.
+    pub fn all_lost(&self) -> bool
+        ensures { result ≡ are_lost self.now.trust }
+    {
+        self.trust.iter().all(|heard| heard.lost)
     }
 
     /// What every tracker keeps: marks are below the epoch, registered outputs are fresh, and the

@@ -6,7 +6,7 @@ use Rattle.std.proofs.lemmas.List.{length-map}
 use Rattle.sc_base.specs.Lists.{at_or, numbers_below}
 use Rattle.sc_dag.specs.DagData.{no_stage}
 use Rattle.sc_dag.specs.Rows.{is_looked_at, stages_of}
-use Rattle.sc_dag.proofs.NumberLemmas.{range_numbers}
+use Rattle.sc_tracker.proofs.CountLemmas.{range_numbers}
 use Rattle.sc_dag.proofs.fates.is_asked_for_at.Goals as goal
 
 pub returns : goal.returns

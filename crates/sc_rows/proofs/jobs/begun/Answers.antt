@@ -7,9 +7,9 @@ use Rattle.sc_rows.proofs.jobs.begun.Goals as goal
 pub begin-requires : goal.begin-requires
 begin-requires g c =
     let before : Option CoreData = option_map (λ l. l.now) c.args.last in
-    openings_agree c.args.graph.now c.args.limits 0 before c.expect-core.result
+    openings_agree c.args.graph.now c.args.limits 0 c.args.plan.now before c.expect-core.result
     c.expect-opening.result c.requires.job c.requires.fits c.is_sound_behind.ensures
-    (subst (λ r. IfOk r (λ k. IsOpening c.args.graph.now c.args.limits 0 before k))
+    (subst (λ r. IfOk r (λ k. IsOpening c.args.graph.now c.args.limits 0 c.args.plan.now before k))
     c.expect-core.ensures c.open-2.ensures)
-    (subst (λ r. IfOk r (λ k. IsOpening c.args.graph.now c.args.limits 0 before k))
+    (subst (λ r. IfOk r (λ k. IsOpening c.args.graph.now c.args.limits 0 c.args.plan.now before k))
     c.expect-opening.ensures c.open.ensures)

@@ -1,22 +1,17 @@
-use Rattle.std.proofs.Common.{sym, ap, ◌∙◌}
-use Rattle.std.specs.List.{position}
-use Rattle.sc_taskset.proofs.ViewLemmas.{place_written, no_place_changed}
+use Rattle.std.proofs.Common.{refl, ap, sym, ◌∙◌}
+use Rattle.sc_taskset.proofs.TableLemmas.{none_replaced, task_replaced}
 use Rattle.sc_taskset.specs.Lookups.{is_task_of}
 use Rattle.sc_taskset.specs.Reports.{ended_task}
-use Rattle.sc_taskset.specs.Rows.{task_of, is_row_of}
+use Rattle.sc_taskset.specs.Rows.{is_row_of, task_of, tasks_of}
 use Rattle.sc_taskset.proofs.changes.end_in.Goals as goal
 
 pub returns-in-Some : goal.returns-in-Some
 returns-in-Some c = λ failures.
-    place_written (task_of failures) (is_task_of c.args.partition) (ended_task c.args.nth)
-    c.args.rows.now.items c.in-Some.place _ c.ended.result
-    (sym c.in-Some.is ∙ c.place_of.ensures
-    ∙ ap (position (is_row_of c.args.partition)) c.deref.ensures.value)
-    c.index-row.ensures (c.ended.ensures failures)
+    ap (tasks_of failures) c.replace.ensures
+    ∙ task_replaced failures c.args.rows.now c.args.partition c.in-Some.row c.ended.result
+    (ended_task c.args.nth) (λ t. refl) (sym c.in-Some.is ∙ c.row_of.ensures) c.ended.ensures
 
 pub returns-in-None : goal.returns-in-None
 returns-in-None c = λ failures.
-    no_place_changed (task_of failures) (is_task_of c.args.partition) (ended_task c.args.nth)
-    c.args.rows.now.items
-    (sym c.in-None.is ∙ c.place_of.ensures
-    ∙ ap (position (is_row_of c.args.partition)) c.deref.ensures.value)
+    none_replaced (task_of failures) (is_row_of c.args.partition) (is_task_of c.args.partition)
+    (ended_task c.args.nth) (λ r. refl) c.args.rows.now (sym c.in-None.is ∙ c.row_of.ensures)

@@ -1,35 +1,22 @@
-use Rattle.std.proofs.Common.{sym, ap, ◌∙◌, ◌≡◌, Some}
-use Rattle.std.proofs.lemmas.List.{map-id}
-use Rattle.std.specs.List.{find, position}
-use Rattle.sc_taskset.proofs.ViewLemmas.{place_found, place_written, no_place_changed}
+use Rattle.std.proofs.Common.{refl, ap, sym, ◌∙◌}
+use Rattle.sc_taskset.proofs.TableLemmas.{none_replaced, task_replaced}
 use Rattle.sc_taskset.specs.Lookups.{is_task_of}
 use Rattle.sc_taskset.specs.Offers.{handed_task}
-use Rattle.sc_taskset.specs.Rows.{task_of, is_row_of}
+use Rattle.sc_taskset.specs.Rows.{is_row_of, task_of, tasks_of}
 use Rattle.sc_taskset.proofs.changes.hand_in.Goals as goal
 
 pub returns-in-None-clause-ok : goal.returns-in-None-clause-ok
 returns-in-None-clause-ok c = λ failures.
-    no_place_changed (task_of failures) (is_task_of c.args.partition)
-    (handed_task c.args.exec c.args.now) c.args.rows.now.items
-    (sym c.in-None.is ∙ c.place_of.ensures
-    ∙ ap (position (is_row_of c.args.partition)) c.deref.ensures.value)
+    none_replaced (task_of failures) (is_row_of c.args.partition) (is_task_of c.args.partition)
+    (handed_task c.args.exec c.args.now) (λ r. refl) c.args.rows.now
+    (sym c.in-None.is ∙ c.row_of.ensures)
 
 pub handed-requires-clause-room : goal.handed-requires-clause-room
-handed-requires-clause-room c =
-    let found : find (is_row_of c.args.partition) c.args.rows.now.items
-    ≡ Some c.index-row.result.now =
-    ap (find (is_row_of c.args.partition)) (sym (map-id c.args.rows.now.items))
-    ∙ place_found (λ r. r) (is_row_of c.args.partition) c.args.rows.now.items
-    c.in-Some.place c.index-row.result.now
-    (sym c.in-Some.is ∙ c.place_of.ensures
-    ∙ ap (position (is_row_of c.args.partition)) c.deref.ensures.value)
-    c.index-row.ensures in
-    rw found at c.requires
+handed-requires-clause-room c = rw (sym c.row_of.ensures ∙ c.in-Some.is) at c.requires
 
 pub returns-in-Some-checked_add-clause-ok : goal.returns-in-Some-checked_add-clause-ok
 returns-in-Some-checked_add-clause-ok c = λ failures.
-    place_written (task_of failures) (is_task_of c.args.partition)
-    (handed_task c.args.exec c.args.now) c.args.rows.now.items c.in-Some.place _ c.handed.result
-    (sym c.in-Some.is ∙ c.place_of.ensures
-    ∙ ap (position (is_row_of c.args.partition)) c.deref.ensures.value)
-    c.index-row.ensures (c.handed.ensures failures)
+    ap (tasks_of failures) c.replace.ensures
+    ∙ task_replaced failures c.args.rows.now c.args.partition c.in-Some.row c.handed.result
+    (handed_task c.args.exec c.args.now) (λ t. refl) (sym c.in-Some.is ∙ c.row_of.ensures)
+    c.handed.ensures

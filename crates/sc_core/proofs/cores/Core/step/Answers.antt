@@ -1,4 +1,4 @@
-use Rattle.sc_core.specs.declared.events.Event.TheVariants.{Post, Take}
+use Rattle.sc_core.specs.declared.events.Event.TheVariants.{Post, Release, Take, TellLost}
 use Rattle.sc_core.proofs.CoreLemmas.{stepped_sound}
 use Rattle.sc_core.proofs.LawLemmas.{waits_have_cause}
 use Rattle.sc_core.proofs.cores.Core.step.Goals as goal
@@ -16,3 +16,13 @@ invariant_of-self-in-Post c =
     stepped_sound c.self.inside.state.0 c.post.new.self.0
     (Post c.in-Post.attempt c.in-Post.outcome) c.post.result c.self.invariant
     c.post.ensures.ok c.post.ensures.err
+
+pub invariant_of-self-in-Release : goal.invariant_of-self-in-Release
+invariant_of-self-in-Release c =
+    stepped_sound c.self.inside.state.0 c.release_key.new.self.0 (Release c.in-Release.key)
+    c.release_key.result c.self.invariant c.release_key.ensures.ok c.release_key.ensures.err
+
+pub invariant_of-self-in-TellLost : goal.invariant_of-self-in-TellLost
+invariant_of-self-in-TellLost c =
+    stepped_sound c.self.inside.state.0 c.tell_lost.new.self.0 (TellLost c.in-TellLost.exec)
+    c.tell_lost.result c.self.invariant c.tell_lost.ensures.ok c.tell_lost.ensures.err

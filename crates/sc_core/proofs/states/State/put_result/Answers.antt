@@ -8,4 +8,4 @@ returns c =
     let i = c.self.inside in
     rw (← c.self.view_is)
     (ap (λ (d : DagData). core_data i.told i.tick i.handed i.job i.left_first i.running.items
-    i.shelf.items i.next_key i.commit d) c.result_success.ensures.state)
+    i.shelf.items i.next_key i.commit d i.plan) c.result_success.ensures.state)

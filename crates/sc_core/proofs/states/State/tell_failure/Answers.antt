@@ -12,7 +12,7 @@ returns-in-Again-clause-tells c =
     let i = c.self.inside in
     let before : CoreData =
     core_data i.told i.tick i.handed i.job i.left_first i.running.items i.shelf.items
-    i.next_key i.commit i.stages.0 in
+    i.next_key i.commit i.stages.0 i.plan in
     let a = c.args.attempt in
     rw (← c.self.view_is)
     (failure_told (reaches_limit_in (set_of i.stages.0 a) a c.args.cause) before a c.args.cause

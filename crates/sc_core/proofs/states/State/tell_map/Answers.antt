@@ -8,7 +8,7 @@ returns-clause-tells c =
     let i = c.self.inside in
     let before : CoreData =
     core_data i.told i.tick i.handed i.job i.left_first i.running.items i.shelf.items
-    i.next_key i.commit i.stages.0 in
+    i.next_key i.commit i.stages.0 i.plan in
     rw (← c.self.view_is)
     (map_told before c.args.running.now c.args.loc c.attempt-attempt.result
     c.epoch-epoch.result c.map_success.result c.map_success.new.self.0 c.answer_to.result _

@@ -11,6 +11,7 @@ invariant_of-result c =
     let durations : vec_len s.durations ≡ 0 =
     omega (arith, s.durations.ok.0, ap length c.self.invariant.2) in
     rw (
+      c.new.ensures,
       failures,
       durations,
       c.self.invariant.1,

@@ -1,13 +1,15 @@
 use Rattle.sc_taskset.specs.Rows.{set_of}
 use Rattle.sc_taskset.proofs.SuccessLemmas.{duration_room, held_success}
+use Rattle.sc_taskset.specs.Tables.{in_order}
 use Rattle.sc_taskset.proofs.task_sets.TaskSet.succeeded.Goals as goal
 
 pub note_duration-requires : goal.note_duration-requires
 note_duration-requires c =
     let s = c.self.inside in
-    rw (c.duration_in-duration.ensures s.failures.items, c.deref-2.ensures.value)
+    rw (c.duration_in-duration.ensures s.failures.items)
     (duration_room
-    (set_of s.rows.items s.failures.items s.durations.items s.is_map s.is_zombie s.limits s.born)
+    (set_of s.rows s.failures.items (in_order s.durations.items) s.is_map s.is_zombie s.limits
+    s.born)
     c.args.partition c.args.nth c.args.now c.self.invariant)
 
 pub invariant_of-self : goal.invariant_of-self
@@ -17,11 +19,10 @@ invariant_of-self c =
       c.note_duration.ensures.items,
       c.note_duration.ensures.len,
       c.ends-self-inside.ensures s.failures.items,
-      c.deref-3.ensures.value,
       c.succeed_in.ensures s.failures.items,
       c.duration_in-duration.ensures s.failures.items,
-      c.deref-2.ensures.value,
     )
     (held_success
-    (set_of s.rows.items s.failures.items s.durations.items s.is_map s.is_zombie s.limits s.born)
+    (set_of s.rows s.failures.items (in_order s.durations.items) s.is_map s.is_zombie s.limits
+    s.born)
     c.args.partition c.args.nth c.args.now _ c.note_duration.ensures.kept c.self.invariant)

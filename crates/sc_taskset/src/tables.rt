@@ -1,0 +1,179 @@
+//! All rows of a set, with what is known of them without a search.
+#![tactic(auto)]
+
+ghost use Rattle.std.specs.Prelude.{◌≡◌, ◌≤◌, ◌<◌, ◌+◌, ◌^◌, List, count_by, get_or, false, if◌then◌else◌, length, map, set, slice_get, true};
+ghost use Rattle.std.specs.List.{find, list_all, position_or_len};
+ghost use Rattle.sc_taskset.specs.declared.rows.Failure.{Failure};
+ghost use Rattle.sc_taskset.specs.Lookups.{is_finish};
+ghost use Rattle.sc_taskset.specs.Reports.{lost_task};
+ghost use Rattle.sc_taskset.specs.Rooms.{AreFresh, row_partitions};
+ghost use Rattle.sc_taskset.specs.Rows.{is_row_of, tasks_of};
+ghost use Rattle.sc_taskset.specs.Sound.{AreRising};
+ghost use Rattle.sc_taskset.specs.Tables.{NonePendingBelow, is_open_row, is_pending_row};
+
+use crate::changes::lose_all;
+use crate::rows::Row;
+use sc_ids::ExecId;
+use std::marker::Model;
+
+/// The rows of a set, by rising partitions.
+#[derive(Drop)]
+pub struct Table {
+    rows: Vec<Row>,
+    /// How many of them aren't finished.
+    unfinished: usize,
+    /// Where the first one stands that is to be handed out, past the end where none is.
+    pending: usize,
+}
+
+impl Model for Table {
+    ghost use Rattle.std.specs.Prelude.{List};
+    ghost use Rattle.sc_taskset.specs.declared.rows.Row.{Row};
+    ghost use Rattle.sc_taskset.specs.Tables.{IsIndexed};
+
+    ghost Value = { List Row };
+
+    ghost view = { λ t. t.rows.items };
+
+    ghost invariant = { λ t. IsIndexed t.rows.items t.unfinished t.pending };
+}
+
+impl Table {
+    /// Rows of which nothing was handed out.
+    pub fn new(rows: Vec<Row>) -> Table
+        requires { AreFresh rows.items }
+        ensures { result ≡ rows.items }
+    {
+        let unfinished = rows.len();
+        Table {
+            rows,
+            unfinished,
+            pending: 0,
+        }
+    }
+
+    /// The rows.
+    pub fn as_slice(&self) -> &[Row]
+        ensures { result.now ≡ self.now }
+    {
+        self.rows.as_slice()
+    }
+
+    /// Where the row of a partition stands, past the end where there is none.
+    pub fn place_of(&self, partition: u32) -> usize
+        ensures { result ≡ position_or_len (is_row_of partition) self.now }
+    {
+        place_in(&self.rows, partition)
+    }
+
+    /// The row of a partition.
+    pub fn row_of(&self, partition: u32) -> Option<Row>
+        ensures { result ≡ find (is_row_of partition) self.now }
+    {
+        row_at(&self.rows, self.place_of(partition))
+    }
+
+    /// The first row that is to be handed out.
+    pub fn first_pending(&self) -> Option<Row>
+        ensures { result ≡ find is_pending_row self.now }
+    {
+        row_at(&self.rows, self.pending)
+    }
+
+    /// Whether all rows are finished.
+    pub fn are_finished(&self) -> bool
+        ensures { result ≡ list_all (λ r. is_finish r.finish) self.now }
+    {
+        self.unfinished == 0
+    }
+
+    /// Puts a row in the place of another one of its partition.
+    pub fn put(&mut self, place: usize, row: Row)
+        requires there { place < length self.old }
+        requires same { row.partition ≡ (get_or self.old place row).partition }
+        ensures { self.new ≡ set self.old place row }
+    {
+        let old = self.rows[place];
+        self.rows[place] = row;
+        self.unfinished = recounted(self.unfinished, old, row);
+        let from = lowered(self.pending, place, row.is_pending());
+        self.pending = next_pending(&self.rows, from);
+    }
+
+    /// Takes an executor's attempts, and what was finished there where that is to be done again.
+    pub fn lose(&mut self, exec: ExecId, redoes: bool)
+        ensures { (failures : List Failure) → tasks_of failures self.new
+            ≡ map (lost_task exec redoes) (tasks_of failures self.old) }
+    {
+        lose_all(self.rows.as_mut_slice(), exec, redoes);
+        self.unfinished = count_open(&self.rows);
+        self.pending = next_pending(&self.rows, 0);
+    }
+}
+
+/// The row at a place.
+fn row_at(rows: &[Row], place: usize) -> Option<Row>
+    ensures { result ≡ slice_get rows.now place }
+{
+    rows.get(place).copied()
+}
+
+/// Where the row of a partition stands, past the end where there is none.
+fn place_in(rows: &[Row], partition: u32) -> usize
+    requires { AreRising (row_partitions rows.now) }
+    ensures { result ≡ position_or_len (is_row_of partition) rows.now }
+{
+    let place = rows.partition_point(|row| row.partition < partition);
+    if place < rows.len() && rows[place].partition == partition {
+        place
+    } else {
+        rows.len()
+    }
+}
+
+/// A place below which no row is to be handed out, where one was put at another place.
+fn lowered(pending: usize, place: usize, is_pending: bool) -> usize
+    ensures below { result ≤ pending }
+    ensures at { is_pending ≡ true → result ≤ place }
+{
+    if is_pending && place < pending {
+        place
+    } else {
+        pending
+    }
+}
+
+/// How many rows aren't finished, where one took the place of another.
+fn recounted(unfinished: usize, old: Row, new: Row) -> usize
+    requires some { is_open_row old ≡ true → 0 < unfinished }
+    requires few { is_open_row old ≡ false → unfinished + 1 < 2 ^ 64 }
+    ensures { result + (if is_open_row old then 1 else 0)
+        ≡ unfinished + (if is_open_row new then 1 else 0) }
+{
+    let others = if old.is_finished() {
+        unfinished
+    } else {
+        unfinished - 1
+    };
+    if new.is_finished() { others } else { others + 1 }
+}
+
+/// How many rows aren't finished.
+fn count_open(rows: &[Row]) -> usize
+    ensures { result ≡ count_by is_open_row rows.now }
+{
+    rows.iter().filter(|row| !row.is_finished()).count()
+}
+
+/// Where the first row stands that is to be handed out, where none is below a place.
+fn next_pending(rows: &[Row], from: usize) -> usize
+    requires there { from ≤ length rows.now }
+    requires none { NonePendingBelow rows.now from }
+    ensures { result ≡ position_or_len is_pending_row rows.now }
+{
+    let mut place = from;
+    while place < rows.len() && !rows[place].is_pending() {
+        place += 1;
+    }
+    place
+}
