@@ -95,6 +95,21 @@ impl<W: Naming> Task<W> {
         self.work.get().plan().fails(&self.attempt())
     }
 
+    /// Whether it is what was handed out so, of this job.
+    pub fn is_of(&self, job: &Job<W>, hand_out: &HandOut) -> bool
+        ensures value { result ≡ same_task self.now (task_data job.now hand_out.now) }
+        ensures same { IsTrue result ↔ (self.now ≡ task_data job.now hand_out.now) }
+    {
+        self.has_parts(job, hand_out)
+    }
+
+    /// The same, by a test of its parts.
+    fn has_parts(&self, job: &Job<W>, hand_out: &HandOut) -> bool
+        ensures { result ≡ same_task self.now (task_data job.now hand_out.now) }
+    {
+        same_hand_out(&self.hand_out, hand_out) && self.job == *job
+    }
+
     /// What it is by its type: a task of its job.
     pub fn is_task(&self)
         ensures { IsTaskOf self.now.job self.now.hand_out }
@@ -123,6 +138,6 @@ impl<W: Naming> PartialEq for Task<W> {
         ensures value { result ≡ same_task self.now other.now }
         ensures same { IsTrue result ↔ (self.now ≡ other.now) }
     {
-        same_hand_out(&self.hand_out, &other.hand_out) && self.job == other.job
+        self.is_of(&other.job, &other.hand_out)
     }
 }
