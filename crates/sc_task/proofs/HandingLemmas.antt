@@ -2,7 +2,7 @@
 use Rattle.std.proofs.Common.{◌≡◌, ◌∙◌, ℕ, zero, suc, ◌+◌, ◌<◌, ◌≤◌, List, [], ◌∷◌, ◌++◌, Option, Some, None, All, length, map, take, drop, get_or, refl, ap, sym, subst, arith}
 use Rattle.std.proofs.lemmas.List.Elements.{All-contains, All-head, All-tail}
 use Rattle.std.proofs.lemmas.Option.{get_or_from_slice_get, slice_get-get_or}
-use Rattle.std.specs.List.{AllZip, Contains, flat_map, slice_get}
+use Rattle.std.specs.List.{AllZip, flat_map, slice_get}
 use Rattle.sc_base.specs.Lists.{at_or, numbers_below, numbers_from}
 use Rattle.sc_value.specs.Datum.{Datum}
 use Rattle.sc_ids.specs.Graphs.{StageData}
@@ -14,7 +14,7 @@ use Rattle.sc_lineage.specs.Dependencies.{parents_of}
 use Rattle.sc_lineage.specs.NodeData.{NodeData, text_node, parallelize_node, each_node, union_node, coalesce_node, cache_node, shuffle_node, meet_node}
 use Rattle.sc_lineage.specs.ScriptData.{IsSoundScript, WorkData}
 use Rattle.sc_lineage.proofs.PlaceLemmas.{at_or-get_or}
-use Rattle.sc_lineage.specs.Targets.{TargetData, map_target}
+use Rattle.sc_lineage.specs.Targets.{map_target}
 use Rattle.sc_dag.specs.Outputs.{block_of}
 use Rattle.sc_compute.specs.Stages.{AreOutputs, mapped_in, node_at}
 use Rattle.sc_compute.specs.Tasks.{IsSideOf}

@@ -1,25 +1,12 @@
 -- What an attempt reports in place of what it computes.
-use Rattle.std.proofs.Common.{◌≡◌, ◌∙◌, ℕ, Bool, true, false, List, [], ◌∷◌, Option, Some, None, All, refl, ap, sym, subst}
+use Rattle.std.proofs.Common.{◌≡◌, ◌∙◌, Bool, true, List, [], ◌∷◌, All, ap, sym, subst}
 use Rattle.std.proofs.lemmas.List.Elements.{All-cons, All-nil}
 use Rattle.sc_value.specs.Datum.{Datum}
-use Rattle.sc_expr.specs.declared.exprs.Raise.{Raise}
-use Rattle.sc_ids.specs.Graphs.{StageData}
 use Rattle.sc_ids.specs.declared.blocks.BlockId.{BlockId}
-use Rattle.sc_ids.specs.declared.blocks.Target.{Target}
-use Rattle.sc_ids.specs.declared.blocks.Target.TheVariants as targets
 use Rattle.sc_lineage.specs.ScriptData.{WorkData}
-use Rattle.sc_lineage.specs.Streams.{ended_stream, whole_stream}
-use Rattle.sc_lineage.specs.Targets.{own_value}
 use Rattle.sc_lineage.specs.declared.streams.Stream.{Stream}
-use Rattle.sc_dag.specs.Outputs.{block_of}
-use Rattle.sc_dag.specs.Submission.{is_map}
-use Rattle.sc_compute.specs.Tasks.{Leaves}
-use Rattle.sc_compute.specs.declared.targets.Computed.TheVariants.{Output, Raised, Result}
-use Rattle.sc_store.specs.OwnBlocks.{IsOwnBlock}
-use Rattle.sc_jobs.specs.JobData.{target_among, target_by}
-use Rattle.sc_jobs.specs.declared.goals.Goal.{Goal}
 use Rattle.sc_net.specs.Reports.{IsWithoutRaise, ReportData, report_data}
-use Rattle.sc_net.specs.Tasks.{TaskData, block_left, block_left_by, is_map_stage, is_planned}
+use Rattle.sc_net.specs.Tasks.{TaskData, is_planned}
 use Rattle.sc_net.specs.declared.findings.Finding.TheVariants as findings
 use Rattle.sc_task.specs.States.{AreOf}
 use Rattle.sc_task.specs.Steps.{FailsAs}

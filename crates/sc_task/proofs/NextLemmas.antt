@@ -1,12 +1,11 @@
 -- What an attempt is to do next.
 use Rattle.std.proofs.Common.{◌≡◌, ◌∙◌, ℕ, zero, suc, ◌<◌, ◌≤◌, ◌⊎◌, inl, inr, List, [], ◌∷◌, ◌++◌, Option, Some, None, length, map, get_or, refl, ap, sym, subst, arith}
-use Rattle.std.specs.List.{Contains, slice_get, slice_index_or}
+use Rattle.std.specs.List.{slice_get}
 use Rattle.sc_base.specs.Lists.{numbers_from}
 use Rattle.sc_ids.specs.declared.blocks.BlockId.{BlockId}
-use Rattle.sc_ids.specs.declared.blocks.Loc.{Loc}
 use Rattle.sc_tracker.specs.declared.outputs.Location.{Location}
 use Rattle.sc_tracker.specs.declared.outputs.Location.TheVariants as locations
-use Rattle.std.proofs.lemmas.Option.{slice_get-get_or, slice_get_read}
+use Rattle.std.proofs.lemmas.Option.{slice_get_read}
 use Rattle.std.specs.Option.{IfSome}
 use Rattle.sc_value.specs.Datum.{Datum}
 use Rattle.sc_dag.specs.Outputs.{block_of}
@@ -18,8 +17,7 @@ use Rattle.sc_task.specs.Nexts.{next_at, next_of}
 use Rattle.sc_task.specs.States.{AssignedData, HasRead, HasReadAll, assigned_data}
 use Rattle.sc_task.specs.declared.cursors.Cursor.{Cursor}
 use Rattle.sc_task.proofs.ReadLemmas.{all_before, next_block, no_block, none_beside, one_more_read}
-use Rattle.sc_task.specs.declared.next.Next.{Next}
-use Rattle.sc_task.specs.declared.next.Next.TheVariants.{Fetch, Missing, Complete}
+use Rattle.sc_task.specs.declared.next.Next.TheVariants.{Complete}
 
 -- where nothing is left to do, there is no block, or no place of one
 pub completed : (block : Option BlockId) (location : Option Location)
