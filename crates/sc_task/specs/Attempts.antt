@@ -61,5 +61,6 @@ abbrev pub attempt_code : Coded AttemptData
 attempt_code =
     code_by AttemptParts
     (coded⊎ (coded× task_code coded_ℕ)
-    (coded⊎ task_code (coded⊎ (coded× task_code loc_row.coded) (coded× task_code finding_row.coded))))
+    (coded⊎ task_code
+    (coded⊎ (coded× task_code loc_row.coded) (coded× task_code finding_row.coded))))
     attempt_parts attempt_from attempt_from-parts

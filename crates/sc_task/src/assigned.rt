@@ -101,7 +101,9 @@ impl<W: Naming> Assigned<W> {
         };
         match answer {
             FetchAnswer::Found(block) => Ok(Took::Next(self.with(block)?)),
-            FetchAnswer::Gone { wanted, found } => Ok(Took::Gone(self.gone(loc.exec, wanted, found))),
+            FetchAnswer::Gone { wanted, found } => Ok(Took::Gone(self.gone(
+                loc.exec, wanted, found,
+            ))),
             FetchAnswer::Absent => Ok(Took::Absent { state: self, loc }),
         }
     }
@@ -172,6 +174,7 @@ impl<W: Naming> Assigned<W> {
             let Assigned { task, .. } = self;
             return Ok(Did::Failed(Report::new(task, Finding::Planned)));
         }
+        self.task.is_task();
         match left_by(alloc, &self.task, self.got.as_slice()) {
             Ok(left) => {
                 let Assigned { task, .. } = self;
