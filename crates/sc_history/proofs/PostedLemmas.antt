@@ -1,5 +1,5 @@
 -- Each report that is heard was posted.
-use Rattle.std.proofs.Common.{◌≡◌, ℕ, ◌+◌, Bool, true, false, not, List, [], ◌∷◌, ◌++◌, All, Contains, Option, Some, None, refl, ap, sym, subst, ◌∙◌, append_assoc, true≢false}
+use Rattle.std.proofs.Common.{◌≡◌, ℕ, Bool, true, false, not, List, [], ◌∷◌, ◌++◌, All, Contains, Option, Some, None, refl, ap, sym, subst, ◌∙◌, append_assoc, true≢false}
 use Rattle.std.proofs.lemmas.List.Elements.{All-append, All-cons, All-filter, All-nil, All-push, All-weaker, Contains-append_left, Contains-push}
 use Rattle.sc_ids.specs.declared.attempts.AttemptId.{AttemptId}
 use Rattle.sc_commit.specs.declared.committers.Ending.TheVariants as endings
@@ -7,7 +7,7 @@ use Rattle.sc_taskset.proofs.FindLemmas.{found_is}
 use Rattle.sc_tracker.specs.Trust.{are_lost}
 use Rattle.sc_dag.specs.Losses.{after_lost}
 use Rattle.sc_dag.proofs.Tests.{both_left}
-use Rattle.sc_core.specs.CoreData.{CoreData, has_key, job_runs, running_of, shelved, shelved_if, shelved_of, taken_off, to_be_told, told_once, with_dag, without_shelved}
+use Rattle.sc_core.specs.CoreData.{CoreData, has_key, job_runs, running_of, shelved, shelved_if, shelved_of, taken_off, to_be_told, with_dag, without_shelved}
 use Rattle.sc_core.specs.Journals.{Replays}
 use Rattle.sc_core.specs.Losses.{LosesOrAborts, all_released, attempts_on, without_executor}
 use Rattle.sc_core.specs.Posts.{PostsBy, PostsIf, PostsOf, comes_twice, delay_for}
