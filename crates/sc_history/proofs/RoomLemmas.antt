@@ -1,5 +1,5 @@
 -- No event changes for how many outputs of a shuffle there is room.
-use Rattle.std.proofs.Common.{◌≡◌, inl, inr, ℕ, List, ◌&&◌, not, Bool, true, false, if◌then◌else◌, [], ◌∷◌, Option, Some, None, slice_get, refl, ap, sym, subst, ◌∙◌}
+use Rattle.std.proofs.Common.{◌≡◌, inl, inr, ℕ, List, ◌&&◌, not, Bool, true, false, if◌then◌else◌, [], ◌∷◌, slice_get, refl, ap, sym, subst, ◌∙◌}
 use Rattle.sc_ids.specs.declared.attempts.AttemptId.{AttemptId}
 use Rattle.sc_ids.specs.declared.blocks.Loc.{Loc}
 use Rattle.sc_ids.specs.declared.failures.FailureCause.{FailureCause}

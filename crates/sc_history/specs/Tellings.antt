@@ -1,5 +1,5 @@
 -- Which reports a journal tells.
-use Rattle.std.specs.Prelude.{List, [], ◌∷◌, ◌++◌, Bool, true, false, Option, Some, None}
+use Rattle.std.specs.Prelude.{◌≡◌, All, Contains, List, [], ◌∷◌, ◌++◌, Bool, true, false, Option, Some, None}
 use Rattle.sc_ids.specs.declared.attempts.AttemptId.{AttemptId}
 use Rattle.sc_core.specs.CoreData.{CoreData, shelved_of}
 use Rattle.sc_core.specs.Journals.{Replays}
@@ -45,3 +45,17 @@ abbrev pub tellings : (opening : CoreData) (entries : List Entry) (end : CoreDat
 tellings opening [] end is = []
 tellings opening (entry ∷ entries) end (mid, step, rest) =
     tellings_in opening entry.event entry.answer ++ tellings mid entries end rest
+
+-- an entry posts this report
+abbrev pub IsPosted : List Entry → Telling → Type 0
+IsPosted entries t =
+    (entry : Entry) × Contains entries entry × (entry.event ≡ Post t.attempt t.outcome)
+
+-- A report that is heard stands in an entry that posts it, also where another entry tells it late.
+-- The same holds of each first part of a journal, so that entry isn't behind the one that tells it.
+abbrev pub ReportsArePosted : Type 0
+ReportsArePosted =
+    (opening end : CoreData) (entries : List Entry) → opening.shelf ≡ []
+    → (replays : Replays opening entries end)
+    → All (λ t. is_heard t.answer ≡ true → IsPosted entries t)
+    (tellings opening entries end replays)
