@@ -5,7 +5,6 @@ use Rattle.sc_base.specs.Lists.{at_or}
 use Rattle.sc_value.specs.Datum.{Datum}
 use Rattle.sc_value.specs.Keys.{KeyData}
 use Rattle.sc_combine.specs.Deals.{IsDealt, bucket_count}
-use Rattle.sc_lineage.specs.Dependencies.{parents_of}
 use Rattle.sc_lineage.specs.Keyed.{Side}
 use Rattle.sc_lineage.specs.Meaning.{bounds_of_shuffle, local_stream, local_streams, parts_of_shuffle}
 use Rattle.sc_lineage.specs.NodeData.{NodeData, ShufflingData, reduce_by_key, group_by_key, sort_by_key, repartition, text_node, parallelize_node, each_node, union_node, coalesce_node, cache_node, shuffle_node, meet_node}

@@ -5,12 +5,11 @@ use Rattle.std.specs.List.{slice_get}
 use Rattle.std.specs.HashMap.{get}
 use Rattle.std.specs.Option.{IfSome, option_to_list}
 use Rattle.std.specs.declared.alloc.Global.{Global}
-use Rattle.sc_base.specs.Lists.{at_or}
 use Rattle.sc_value.specs.Datum.{Datum}
 use Rattle.sc_lineage.specs.Dependencies.{IsNarrow, dependencies_by, one_to_one, parents_of, shuffled, unless_parted}
 use Rattle.sc_lineage.specs.Meaning.{known_of}
 use Rattle.sc_lineage.specs.NodeData.{NodeData, text_node, parallelize_node, each_node, union_node, coalesce_node, cache_node, shuffle_node, meet_node}
-use Rattle.sc_lineage.specs.Partitioners.{PartitionerData, no_partitioner, hash_partitioner, is_parted_by, partitioner_of_shuffle}
+use Rattle.sc_lineage.specs.Partitioners.{PartitionerData, hash_partitioner, partitioner_of_shuffle}
 use Rattle.sc_lineage.specs.ScriptData.{WorkData}
 use Rattle.sc_compute.specs.Keeping.{same_place}
 use Rattle.sc_compute.specs.Stages.{AreOutputs, AreRight, AtDirectParents, GoesThrough, HasMade, HoldDirectly, HoldsDirectly, handed_in, left_parent, lies_so, node_at, parents_left, unless_handed}

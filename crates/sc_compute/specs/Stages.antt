@@ -15,13 +15,11 @@ use Rattle.sc_combine.specs.Deals.{IsDealt}
 use Rattle.sc_combine.specs.Outputs.{IsOutput, dealing_in}
 use Rattle.sc_lineage.specs.Dependencies.{Dependency, one_to_one, range_behind, grouped, shuffled, dependencies_by, parents_of}
 use Rattle.sc_lineage.specs.Keyed.{Side}
-use Rattle.sc_lineage.specs.Meaning.{bounds_of_shuffle, bounds_step, known_of, local_streams, meanings_by}
+use Rattle.sc_lineage.specs.Meaning.{bounds_step, known_of, local_streams, meanings_by}
 use Rattle.sc_lineage.specs.NodeData.{NodeData, ShufflingData, group_by_key, sort_by_key, text_node, parallelize_node, each_node, union_node, coalesce_node, cache_node, shuffle_node, meet_node}
 use Rattle.sc_lineage.specs.Partitioners.{PartitionerData, no_partitioner, hash_partitioner, is_parted_by, partitioner_of_shuffle}
 use Rattle.sc_lineage.specs.ScriptData.{WorkData}
-use Rattle.sc_lineage.specs.Shuffles.{Dealing, by_hash, by_range, dealing_of, map_side, of_sides}
-use Rattle.sc_lineage.specs.Streams.{whole_stream}
-use Rattle.sc_lineage.specs.Targets.{map_target, own_value}
+use Rattle.sc_lineage.specs.Shuffles.{Dealing, by_hash, map_side, of_sides}
 use Rattle.sc_compute.specs.Keeping.{same_place}
 use Rattle.sc_compute.specs.declared.stages.Input.{Input}
 use Rattle.sc_compute.specs.declared.stages.Input.TheVariants as inputs

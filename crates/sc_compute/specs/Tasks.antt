@@ -1,5 +1,5 @@
 -- What is computed as one task, and what a task leaves.
-use Rattle.std.specs.Prelude.{ℕ, ◌≡◌, ◌<◌, zero, suc, length, List, Some}
+use Rattle.std.specs.Prelude.{ℕ, ◌≡◌, ◌<◌, length, List, Some}
 use Rattle.sc_value.specs.Datum.{Datum}
 use Rattle.sc_combine.specs.Deals.{IsDealt}
 use Rattle.sc_lineage.specs.NodeData.{NodeData, shuffle_node, meet_node}

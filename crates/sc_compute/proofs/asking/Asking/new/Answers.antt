@@ -1,4 +1,4 @@
-use Rattle.std.proofs.Common.{◌∙◌, ◌+◌, All, ap₂, sym, subst, arith}
+use Rattle.std.proofs.Common.{◌+◌, All, sym, subst, arith}
 use Rattle.std.proofs.lemmas.List.Elements.{All-nil}
 use Rattle.sc_compute.specs.Asking.{IsLeft, IsThere}
 use Rattle.sc_compute.specs.Tasks.{target_data_of}

@@ -1,10 +1,8 @@
-use Rattle.std.proofs.Common.{◌≡◌, ◌∙◌, ℕ, ◌<◌, Some, ap, refl, sym, arith}
-use Rattle.std.specs.HashMap.{get}
-use Rattle.std.specs.Option.{option_to_list}
+use Rattle.std.proofs.Common.{◌≡◌, ◌∙◌, ℕ, ◌<◌, Some, refl, arith}
 use Rattle.sc_lineage.specs.Dependencies.{parents_of}
 use Rattle.sc_lineage.specs.Views.{node_data_of}
 use Rattle.sc_lineage.proofs.MeaningLemmas.{reads_before}
-use Rattle.sc_compute.specs.Stages.{AreRight, HasMade, handed_in, left_parent, parents_left}
+use Rattle.sc_compute.specs.Stages.{AreRight, HasMade, handed_in}
 use Rattle.sc_compute.proofs.LeftLemmas.{left_same, of_left}
 use Rattle.sc_compute.proofs.StageLemmas.{hold_both, of_same}
 use Rattle.sc_compute.proofs.stages.Stages.+prepare.Goals.{in-Some+in_ok-prepare, in_default, in-Some-second+in_ok-prepare-2, in_default-second}
