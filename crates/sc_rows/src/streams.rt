@@ -3,6 +3,7 @@
 
 use crate::given::SCRIPT;
 use sc_expr::Raise;
+use sc_ids::Limits;
 use sc_input::MemSource;
 use sc_lineage::{Stream, Work};
 use sc_ops::run_node;
@@ -28,7 +29,7 @@ pub fn work_of<R: Abort + AllocGlobal>(rt: &R, script: &str, input: &str) -> Wor
     let mut reads = Vec::new(alloc);
     let script = read_script(alloc, &mut source, &name, &mut reads);
     let script = script.ok().expect(rt, "a script");
-    let work = read_work(alloc, &mut source, script, &mut reads);
+    let work = read_work(alloc, &mut source, script, Limits::default(), &mut reads);
     work.ok().expect(rt, "inputs")
 }
 
