@@ -1,28 +1,31 @@
 -- A core counts what it hands out, and never hands out more than it may.
-use Rattle.std.proofs.Common.{◌≡◌, inl, inr, ℕ, ◌+◌, ◌≤◌, Bool, true, false, cond, List, [], ◌∷◌, Option, Some, None, refl, ap, sym, subst, ◌∙◌, arith, rules}
+use Rattle.std.proofs.Common.{◌≡◌, ◌⊎◌, inl, inr, ℕ, ◌+◌, ◌≤◌, Bool, true, false, cond, List, [], ◌∷◌, Option, refl, ap, sym, subst, ◌∙◌, arith, rules}
 use Rattle.std.proofs.lemmas.List.Sums.{sum_by-cons}
 use Rattle.sc_ids.specs.Graphs.{StageData}
 use Rattle.sc_ids.specs.declared.attempts.AttemptId.{AttemptId}
+use Rattle.sc_commit.specs.declared.committers.Ending.TheVariants as endings
 use Rattle.sc_ids.specs.declared.limits.Limits.{Limits}
+use Rattle.sc_plan.specs.declared.lines.PlanLine.{PlanLine}
 use Rattle.sc_dag.specs.DagData.{DagData}
+use Rattle.sc_dag.specs.Losses.{after_lost}
 use Rattle.sc_dag.specs.Submission.{IsSubmitted, this_stage}
-use Rattle.sc_core.specs.CoreData.{CoreData, job_runs, result_stage, running_of, taken_off}
+use Rattle.sc_core.specs.CoreData.{CoreData, job_runs, result_stage, with_dag}
 use Rattle.sc_core.specs.Journals.{Replays}
 use Rattle.sc_core.specs.Openings.{IsOpening}
-use Rattle.sc_core.specs.Posts.{PostsIf, PostsOf}
+use Rattle.sc_core.specs.Losses.{Loses, all_released, attempts_on}
 use Rattle.sc_core.specs.Steps.{Steps}
 use Rattle.sc_core.specs.Takes.{Takes}
+use Rattle.sc_core.specs.Tells.{released}
 use Rattle.sc_core.specs.declared.answers.Abort.TheVariants as aborts
 use Rattle.sc_core.specs.declared.answers.Answer.{Answer}
 use Rattle.sc_core.specs.declared.answers.Answer.TheVariants as says
 use Rattle.sc_core.specs.declared.answers.Job.TheVariants as jobs
 use Rattle.sc_core.specs.declared.entries.Entry.{Entry}
 use Rattle.sc_core.specs.declared.events.Event.{Event}
-use Rattle.sc_core.specs.declared.events.Event.TheVariants.{Post, Take}
-use Rattle.sc_core.specs.declared.events.Outcome.{Outcome}
-use Rattle.sc_core.specs.declared.running.Running.{Running}
-use Rattle.sc_core.proofs.LeftLemmas.{tells_left}
+use Rattle.sc_core.specs.declared.events.Event.TheVariants.{Post, Release, Take, TellLost}
+use Rattle.sc_core.proofs.LeftLemmas.{Left, released_left, tells_left}
 use Rattle.sc_history.specs.Budgets.{BudgetsAreShown, HandOutsAreCounted, LimitsStay, gives_task, is_hand_out}
+use Rattle.sc_history.proofs.Events.{Comes, IsLoss, losses_come, posts_come, releases_come}
 use Rattle.sc_history.proofs.JobLemmas.{EndsBy, tells_ends}
 
 -- a job that was aborted by its budget has handed out all that it may
@@ -68,6 +71,8 @@ takes_count c after exec (says.Aborted (aborts.TaskLimit s n p)) h = absurd h
 takes_count c after exec (says.Aborted (aborts.StageLimit s)) h = absurd h
 takes_count c after exec (says.Aborted aborts.NoExecutor) h = absurd h
 takes_count c after exec says.Ignored h = absurd h
+takes_count c after exec says.Shelved h = absurd h
+takes_count c after exec says.Told h = absurd h
 takes_count c after exec says.Repeated h = absurd h
 takes_count c after exec says.Registered h = absurd h
 takes_count c after exec says.Bogus h = absurd h
@@ -77,41 +82,75 @@ takes_count c after exec says.Resubmitted h = absurd h
 
 -- ---- reports
 
-posts_count : (c after : CoreData) (a : AttemptId) (outcome : Outcome) (answer : Answer)
-    → PostsIf (job_runs c) c a outcome answer after → Counts c after false
-posts_count c after a outcome answer step = by (job_runs c) refl step
+comes_count : (c after : CoreData) (event : Event) (answer : Answer) → Comes c after event answer
+    → Counts c after false
+comes_count c after event answer (inl q) =
+    record {
+      handed = (let same = q.handed in omega (arith, same));
+      limits = ap (λ (d : DagData). d.limits) q.dag;
+      within = λ h. rw (q.handed, q.dag) h;
+      spent = λ spent e. rw (q.handed, q.dag) (spent (sym q.job ∙ e));
+    }
+comes_count c after event answer (inr h) =
+    record {
+      handed = (let a = left.handed in let b = h.handed in omega (arith, a, b));
+      limits = left.limits ∙ ap (λ (d : DagData). d.limits) h.dag;
+      within = λ w. rw (left.handed, left.limits, h.handed, h.dag) w;
+      spent = ended (tells_ends h.mid after h.one h.outcome answer h.tells);
+    }
   where
-    ended : (r : Running) → job_runs c ≡ true
-        → EndsBy (taken_off c a) r.hand_out.attempt answer after → IsSpent c → IsSpent after
-    ended r runs (inl same) spent e = absurd (search (rules, runs, same, e))
-    ended r runs (inr (inl done)) spent e = absurd (search (rules, done, e))
-    ended r runs (inr (inr (inl limit))) spent e =
+    left : Left h.mid after
+    left = tells_left h.mid after h.one h.outcome answer h.tells
+
+    ended : EndsBy h.mid h.one.hand_out.attempt answer after → IsSpent c → IsSpent after
+    ended (inl same) spent e =
+        absurd (let runs = h.runs in let mid = h.job in search (rules, runs, same, mid, e))
+    ended (inr (inl done)) spent e = absurd (search (rules, done, e))
+    ended (inr (inr (inl limit))) spent e =
         absurd (let j = limit.job in search (rules, j, e))
-    ended r runs (inr (inr (inr limit))) spent e =
+    ended (inr (inr (inr limit))) spent e =
         absurd (let j = limit.job in search (rules, j, e))
 
-    of : (o : Option Running) → job_runs c ≡ true → PostsOf o c a outcome answer after
-        → Counts c after false
-    of None runs (told, is) =
-        subst (λ x. Counts c x false) (sym is)
-        (record { handed = omega arith; limits = refl; within = λ h. h; spent = λ h. h })
-    of (Some r) runs (fit, tells) =
-        let left = tells_left (taken_off c a) after r outcome answer tells in
-        record {
-          handed = left.handed ∙ (omega arith);
-          limits = left.limits;
-          within = λ h. rw (left.handed, left.limits) h;
-          spent = ended r runs (tells_ends (taken_off c a) after r outcome answer tells);
-        }
+-- ---- losses
 
-    by : (b : Bool) → job_runs c ≡ b → PostsIf b c a outcome answer after → Counts c after false
-    by false e (told, is) = unchanged c after is
-    by true e h = of (running_of c a) e h
+all_limits : (these : List AttemptId) (c : CoreData)
+    → (all_released these c).dag.limits ≡ c.dag.limits
+all_limits [] c = refl
+all_limits (a ∷ these) c =
+    all_limits these (released c a endings.Failed)
+    ∙ (released_left c a endings.Failed).limits
+
+losses_count : (c after : CoreData) (exec : ℕ) (answer : Answer) → Loses c exec answer after
+    → Counts c after false
+losses_count c after exec answer step =
+    record {
+      handed = (let same = is.handed in omega (arith, same));
+      limits = limits;
+      within = λ h. rw (is.handed, limits) h;
+      spent = λ spent e. absurd (by is.job e);
+    }
+  where
+    is : IsLoss c after exec answer
+    is = losses_come c after exec answer step
+
+    limits : after.dag.limits ≡ c.dag.limits
+    limits =
+        ap (λ (d : DagData). d.limits) is.dag
+        ∙ all_limits (attempts_on exec c.running) (with_dag c (after_lost c.dag exec))
+
+    by : (after.job ≡ c.job) ⊎ (after.job ≡ jobs.Aborted aborts.NoExecutor)
+        → after.job ≡ jobs.Aborted aborts.Budget → ⊥
+    by (inl same) e = let runs = is.runs in search (rules, runs, same, e)
+    by (inr none) e = search (rules, none, e)
 
 steps_count : (c after : CoreData) (event : Event) (answer : Answer) → Steps c event answer after
     → Counts c after (gives_task event answer)
 steps_count c after (Take exec) answer step = takes_count c after exec answer step
-steps_count c after (Post a outcome) answer step = posts_count c after a outcome answer step
+steps_count c after (Post a outcome) answer step =
+    comes_count c after (Post a outcome) answer (posts_come c after a outcome answer step)
+steps_count c after (Release key) answer step =
+    comes_count c after (Release key) answer (releases_come c after key answer step)
+steps_count c after (TellLost exec) answer step = losses_count c after exec answer step
 
 -- ---- journals
 
@@ -145,16 +184,17 @@ spent_stays opening end (entry ∷ entries) (mid, step, rest) h =
 
 -- the limits of a job that begins
 pub opening_limits :
-    (graph : List StageData) (limits : Limits) (saved : ℕ) (last : Option CoreData) (c : CoreData)
-    → IsOpening graph limits saved last c → c.dag.limits ≡ limits
-opening_limits graph limits saved last c o = sent o.submits ∙ o.limits_are
+    (graph : List StageData) (limits : Limits) (saved : ℕ) (plan : List PlanLine)
+    (last : Option CoreData) (c : CoreData) → IsOpening graph limits saved plan last c
+    → c.dag.limits ≡ limits
+opening_limits graph limits saved plan last c o = sent o.submits ∙ o.limits_are
   where
     sent : IsSubmitted o.dag (this_stage (result_stage o.dag)) c.dag
         → c.dag.limits ≡ o.dag.limits
     sent (looked, are, is) = ap (λ (d : DagData). d.limits) is
 
 pub budgets_are_shown : BudgetsAreShown
-budgets_are_shown graph limits saved last opening end entries o replays e =
+budgets_are_shown graph limits saved plan last opening end entries o replays e =
     let many = hand_outs_are_counted opening end entries replays in
     let most = within_stays opening end entries replays (rw (o.handed) (omega arith)) in
     let least : end.dag.limits.hand_outs ≤ end.handed =
@@ -162,7 +202,7 @@ budgets_are_shown graph limits saved last opening end entries o replays e =
     let none = o.handed in
     let same : end.dag.limits.hand_outs ≡ limits.hand_outs =
     ap (λ (l : Limits). l.hand_outs) (limits_stay opening end entries replays
-    ∙ opening_limits graph limits saved last opening o) in
+    ∙ opening_limits graph limits saved plan last opening o) in
     omega (arith, many, most, least, none, same)
   where
     begins : opening.job ≡ jobs.Aborted aborts.Budget → ⊥

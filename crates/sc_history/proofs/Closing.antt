@@ -1,5 +1,5 @@
 -- What a job that is aborted for the failed attempts of a stage leaves of it.
-use Rattle.std.proofs.Common.{◌≡◌, ℕ, ◌&&◌, not, Bool, true, false, slice_get, Option, Some, None, refl, ap, sym, subst, ◌∙◌, rules}
+use Rattle.std.proofs.Common.{◌≡◌, ◌⊎◌, inl, inr, ℕ, ◌&&◌, not, Bool, true, false, slice_get, refl, ap, sym, subst, ◌∙◌, rules}
 use Rattle.sc_ids.specs.declared.attempts.AttemptId.{AttemptId}
 use Rattle.sc_ids.specs.declared.failures.FailureCause.{FailureCause}
 use Rattle.sc_ids.specs.declared.failures.FailureCause.TheVariants as causes
@@ -13,10 +13,11 @@ use Rattle.sc_dag.specs.Reports.{FailsStage, has_failed_often, is_of_newest, rea
 use Rattle.sc_dag.specs.declared.reports.Success.{Success}
 use Rattle.sc_dag.specs.declared.reports.Success.TheVariants as successes
 use Rattle.sc_dag.proofs.Calm.{complete_with}
-use Rattle.sc_dag.proofs.Tests.{both_right, not_true}
+use Rattle.sc_dag.proofs.Tests.{both_right, clash, not_true}
 use Rattle.sc_commit.specs.declared.committers.Ending.TheVariants as endings
-use Rattle.sc_core.specs.CoreData.{CoreData, job_runs, running_of, taken_off, with_dag}
-use Rattle.sc_core.specs.Posts.{PostsIf, PostsOf}
+use Rattle.sc_core.specs.CoreData.{CoreData, is_running_job, job_runs, with_dag}
+use Rattle.sc_core.specs.Posts.{PostsIf}
+use Rattle.sc_core.specs.Releases.{ReleasesIf}
 use Rattle.sc_core.specs.Steps.{Steps}
 use Rattle.sc_core.specs.Takes.{Takes}
 use Rattle.sc_core.specs.Tells.{FailsBy, FailsOrAborts, IsGone, Misses, MissesIf, Tells, TellsFailureIf, after_failure, after_result, done_if, is_zombie_in, released, with_result_of}
@@ -26,10 +27,11 @@ use Rattle.sc_core.specs.declared.answers.Answer.{Answer}
 use Rattle.sc_core.specs.declared.answers.Answer.TheVariants as says
 use Rattle.sc_core.specs.declared.answers.Job.TheVariants as jobs
 use Rattle.sc_core.specs.declared.events.Event.{Event}
-use Rattle.sc_core.specs.declared.events.Event.TheVariants.{Post, Take}
+use Rattle.sc_core.specs.declared.events.Event.TheVariants.{Post, Release, Take, TellLost}
 use Rattle.sc_core.specs.declared.events.Outcome.{Outcome}
 use Rattle.sc_core.specs.declared.events.Outcome.TheVariants as outcomes
 use Rattle.sc_core.specs.declared.running.Running.{Running}
+use Rattle.sc_history.proofs.Events.{Comes, losses_come, posts_come, releases_come}
 
 -- a stage isn't complete, and failed as often as is allowed
 pub record IsClosed (d : DagData) (s : ℕ) : Type 0 where
@@ -160,6 +162,8 @@ ended_stays c after (Take exec) answer ended step = by answer step
     by (says.Aborted (aborts.StageLimit s)) k = absurd k
     by (says.Aborted aborts.NoExecutor) k = absurd k
     by says.Ignored k = absurd k
+    by says.Shelved k = absurd k
+    by says.Told k = absurd k
     by says.Repeated k = absurd k
     by says.Registered k = absurd k
     by says.Bogus k = absurd k
@@ -171,6 +175,19 @@ ended_stays c after (Post a outcome) answer ended step = by (job_runs c) ended s
     by : (b : Bool) → b ≡ false → PostsIf b c a outcome answer after → after ≡ c
     by false e (told, is) = is
     by true e h = absurd (search (rules, e))
+ended_stays c after (Release key) answer ended step = by (job_runs c) ended step
+  where
+    by : (b : Bool) → b ≡ false → ReleasesIf b c key answer after → after ≡ c
+    by false e (told, is) = is
+    by true e h = absurd (search (rules, e))
+ended_stays c after (TellLost exec) answer ended step =
+    absurd (clash (losses_come c after exec answer step).runs ended)
+
+comes_close : (c after : CoreData) (event : Event) (answer : Answer) → job_runs c ≡ true
+    → Comes c after event answer → HasClosed after
+comes_close c after event answer runs (inl q) = runs_on c after runs q.job
+comes_close c after event answer runs (inr h) =
+    tells_close h.mid after h.one h.outcome answer (ap is_running_job h.job ∙ runs) h.tells
 
 running_closes : (c after : CoreData) (event : Event) (answer : Answer) → job_runs c ≡ true
     → Steps c event answer after → HasClosed after
@@ -193,21 +210,24 @@ running_closes c after (Take exec) answer runs step = by answer step
     by (says.Aborted (aborts.StageLimit s)) k = absurd k
     by (says.Aborted aborts.NoExecutor) k = absurd k
     by says.Ignored k = absurd k
+    by says.Shelved k = absurd k
+    by says.Told k = absurd k
     by says.Repeated k = absurd k
     by says.Registered k = absurd k
     by says.Bogus k = absurd k
     by says.Finished k = absurd k
     by says.Again k = absurd k
     by says.Resubmitted k = absurd k
-running_closes c after (Post a outcome) answer runs step = by (job_runs c) step
+running_closes c after (Post a outcome) answer runs step =
+    comes_close c after (Post a outcome) answer runs (posts_come c after a outcome answer step)
+running_closes c after (Release key) answer runs step =
+    comes_close c after (Release key) answer runs (releases_come c after key answer step)
+running_closes c after (TellLost exec) answer runs step =
+    by (losses_come c after exec answer step).job
   where
-    of : (o : Option Running) → PostsOf o c a outcome answer after → HasClosed after
-    of None (told, is) = runs_on c after runs (ap (λ (x : CoreData). x.job) is)
-    of (Some r) (fit, tells) = tells_close (taken_off c a) after r outcome answer runs tells
-
-    by : (b : Bool) → PostsIf b c a outcome answer after → HasClosed after
-    by false (told, is) = runs_on c after runs (ap (λ (x : CoreData). x.job) is)
-    by true h = of (running_of c a) h
+    by : (after.job ≡ c.job) ⊎ (after.job ≡ jobs.Aborted aborts.NoExecutor) → HasClosed after
+    by (inl same) = runs_on c after runs same
+    by (inr none) = λ s j. absurd (search (rules, none, j))
 
 pub steps_close : (c after : CoreData) (event : Event) (answer : Answer)
     → Steps c event answer after → HasClosed c → HasClosed after

@@ -1,5 +1,5 @@
 -- Each attempt of a stage that counts as failed was told to miss an input.
-use Rattle.std.proofs.Common.{◌≡◌, ◌⊎◌, inl, inr, ℕ, ◌==◌, ◌&&◌, not, Bool, true, false, Option, Some, None, option_map, slice_get, refl, ap, sym, subst, ◌∙◌, arith, true≢false}
+use Rattle.std.proofs.Common.{◌≡◌, ◌⊎◌, inl, inr, ℕ, ◌==◌, ◌&&◌, ◌||◌, not, Bool, true, false, List, Option, Some, None, option_map, slice_get, refl, ap, sym, subst, ◌∙◌, arith, true≢false}
 use Rattle.std.proofs.lemmas.Bool.{cases_eq}
 use Rattle.std.proofs.lemmas.Bool.Decides.{nat_tests}
 use Rattle.sc_ids.specs.Changes.{change_at}
@@ -19,23 +19,23 @@ use Rattle.sc_dag.specs.Reports.{FailsStage, failed_attempt, is_of_newest, reach
 use Rattle.sc_dag.specs.Submission.{this_stage}
 use Rattle.sc_dag.specs.declared.attempts.StageAttempt.{StageAttempt}
 use Rattle.sc_dag.proofs.Tests.{clash}
-use Rattle.sc_core.specs.CoreData.{CoreData, job_runs, running_of, taken_off, told_once, with_dag}
-use Rattle.sc_core.specs.Posts.{PostsIf, PostsOf}
+use Rattle.sc_core.specs.CoreData.{CoreData, with_dag}
 use Rattle.sc_core.specs.Rooms.{may_resubmit}
 use Rattle.sc_core.specs.Sound.{IsSoundCore}
 use Rattle.sc_core.specs.Steps.{Steps}
 use Rattle.sc_core.specs.Tells.{FailsBy, FailsOrAborts, IsGone, Misses, MissesIf, Tells, TellsFailureIf, after_failure, is_zombie_in}
 use Rattle.sc_core.specs.declared.answers.Answer.{Answer}
 use Rattle.sc_core.specs.declared.events.Event.{Event}
-use Rattle.sc_core.specs.declared.events.Event.TheVariants.{Post, Take}
+use Rattle.sc_core.specs.declared.events.Event.TheVariants.{Post, Release, Take, TellLost}
 use Rattle.sc_core.specs.declared.events.Outcome.{Outcome}
 use Rattle.sc_core.specs.declared.events.Outcome.TheVariants as outcomes
 use Rattle.sc_core.specs.declared.running.Running.{Running}
-use Rattle.sc_core.proofs.StepLemmas.{posted}
-use Rattle.sc_history.specs.Evidence.{is_heard}
-use Rattle.sc_history.specs.StageEvidence.{fails_stage, number_in}
+use Rattle.sc_history.specs.StageEvidence.{is_miss_of, number_of}
+use Rattle.sc_history.specs.Tellings.{Telling, is_heard, telling, tellings_in}
+use Rattle.sc_history.proofs.Events.{Comes, posts_come, releases_come}
 use Rattle.sc_history.proofs.Growing.{IsCalm, Slot, attempt_among, dag_submitted, numbered_slot}
-use Rattle.sc_history.proofs.GrowingCalls.{Grows, failed_grows, maps_grow, results_grow, takes_grow}
+use Rattle.sc_history.proofs.GrowingCalls.{Grows, failed_grows, losses_grow, maps_grow, results_grow, takes_grow}
+use Rattle.sc_history.proofs.Picking.{is_there}
 use Rattle.sc_history.proofs.Keeping.{IsChanged, changed_among}
 
 -- ---- failed attempts
@@ -65,6 +65,7 @@ flags_calm L =
       succeeds = λ x p nth now h. h;
       ends = λ x p nth h. h;
       holds = λ x p denied h. h;
+      loses = λ x exec h. h;
       stops = λ x h. h;
       forgives = λ x h. absurd (true≢false (sym h));
       begins = λ t stage results. refl;
@@ -129,27 +130,38 @@ flags_marked d r number s k e = by (cases_eq s r)
 
 -- ---- what each event tells
 
-abbrev pub fails_number : ℕ → ℕ → Event → Answer → Bool
-fails_number s k event answer = fails_stage s event answer && (number_in event == k)
+-- a report tells that this attempt of a stage missed an input
+abbrev pub fails_number : ℕ → ℕ → Telling → Bool
+fails_number s k t = is_miss_of s t && (number_of t == k)
 
--- attempts that count as failed after an event, but for one that it tells, did before
-abbrev pub TellsFlags : DagData → DagData → Event → Answer → Type 0
-TellsFlags d after event answer =
+-- some report does
+abbrev pub is_missed : List Telling → ℕ → ℕ → Bool
+is_missed told s k = is_there (is_miss_of s) number_of told k
+
+-- attempts that count as failed after a report, but for one that it tells, did before
+abbrev TellsFlag : DagData → DagData → Telling → Type 0
+TellsFlag d after t =
     (s k : ℕ) → is_flagged after s k ≡ true
-    → (is_flagged d s k ≡ true) ⊎ (fails_number s k event answer ≡ true)
+    → (is_flagged d s k ≡ true) ⊎ (fails_number s k t ≡ true)
 
-flags_quiet : (d after : DagData) (event : Event) (answer : Answer)
-    → Grows FewerFlags NoFlag d after → TellsFlags d after event answer
-flags_quiet d after event answer h s k e = inl (flags_fewer d after s k h e)
+-- the same of an event and the reports that it is of
+abbrev pub TellsFlags : DagData → DagData → List Telling → Type 0
+TellsFlags d after told =
+    (s k : ℕ) → is_flagged after s k ≡ true
+    → (is_flagged d s k ≡ true) ⊎ (is_missed told s k ≡ true)
+
+flags_quiet : (d after : DagData) (t : Telling) → Grows FewerFlags NoFlag d after
+    → TellsFlag d after t
+flags_quiet d after t h s k e = inl (flags_fewer d after s k h e)
 
 misses_tell : (c after : CoreData) (a : AttemptId) (answer : Answer) (cause : FailureCause)
     → may_resubmit cause ≡ true → Misses c a answer after
-    → TellsFlags c.dag after.dag (Post a (outcomes.Failed cause)) answer
+    → TellsFlag c.dag after.dag (telling a (outcomes.Failed cause) answer)
 misses_tell c after a answer cause missing miss =
     by (is_of_newest c.dag a && not (is_complete c.dag a.stage)) miss
   where
     Goal : Type 0
-    Goal = TellsFlags c.dag after.dag (Post a (outcomes.Failed cause)) answer
+    Goal = TellsFlag c.dag after.dag (telling a (outcomes.Failed cause) answer)
 
     heard : (verdict : Verdict) (d : DagData) → FailsOrAborts c a verdict d answer after
         → is_heard answer ≡ true
@@ -178,7 +190,7 @@ misses_tell c after a answer cause missing miss =
     told : is_heard answer ≡ true → (s k : ℕ)
         → (is_flagged c.dag s k ≡ true) ⊎ ((s ≡ a.stage) × (k ≡ a.stage_attempt))
         → (is_flagged c.dag s k ≡ true)
-        ⊎ (fails_number s k (Post a (outcomes.Failed cause)) answer ≡ true)
+        ⊎ (fails_number s k (telling a (outcomes.Failed cause) answer) ≡ true)
     told h s k (inl x) = inl x
     told h s k (inr (at, number)) =
         inr (rw (at, number, missing, h) (grind (arith, nat_tests)))
@@ -194,16 +206,16 @@ misses_tell c after a answer cause missing miss =
 
 causes_tell : (c after : CoreData) (a : AttemptId) (answer : Answer) (cause : FailureCause)
     (zombie : Bool) → FailsBy cause zombie c a answer after
-    → TellsFlags c.dag after.dag (Post a (outcomes.Failed cause)) answer
+    → TellsFlag c.dag after.dag (telling a (outcomes.Failed cause) answer)
 causes_tell c after a answer cause zombie h = by cause h
   where
     same : (cause : FailureCause) → after ≡ c
-        → TellsFlags c.dag after.dag (Post a (outcomes.Failed cause)) answer
+        → TellsFlag c.dag after.dag (telling a (outcomes.Failed cause) answer)
     same cause is s k e = inl (ap (λ (x : CoreData). is_flagged x.dag s k) (sym is) ∙ e)
 
     gone : (exec wanted found : ℕ) (x y : Bool) → IsGone x y c a exec found answer after
-        → TellsFlags c.dag after.dag (Post a (outcomes.Failed (causes.Gone exec wanted found)))
-        answer
+        → TellsFlag c.dag after.dag
+        (telling a (outcomes.Failed (causes.Gone exec wanted found)) answer)
     gone exec wanted found true y k =
         misses_tell (with_dag c (after_seen c.dag exec found)) after a answer
         (causes.Gone exec wanted found) refl k
@@ -212,7 +224,7 @@ causes_tell c after a answer cause zombie h = by cause h
         misses_tell c after a answer (causes.Gone exec wanted found) refl k
 
     by : (cause : FailureCause) → FailsBy cause zombie c a answer after
-        → TellsFlags c.dag after.dag (Post a (outcomes.Failed cause)) answer
+        → TellsFlag c.dag after.dag (telling a (outcomes.Failed cause) answer)
     by (causes.Gone exec wanted found) k =
         gone exec wanted found (is_newer (slice_get c.dag.tracker.trust exec) found) zombie k
     by (causes.Metadata last) k = misses_tell c after a answer (causes.Metadata last) refl k
@@ -223,7 +235,7 @@ causes_tell c after a answer cause zombie h = by cause h
 
 failures_tell : (b : Bool) (c after : CoreData) (a : AttemptId) (cause : FailureCause)
     (answer : Answer) → TellsFailureIf b c a cause answer after
-    → TellsFlags c.dag after.dag (Post a (outcomes.Failed cause)) answer
+    → TellsFlag c.dag after.dag (telling a (outcomes.Failed cause) answer)
 failures_tell b c after a cause answer h = by b h
   where
     failed : CoreData
@@ -236,14 +248,14 @@ failures_tell b c after a cause answer h = by b h
 
     behind : (s k : ℕ)
         → (is_flagged failed.dag s k ≡ true)
-        ⊎ (fails_number s k (Post a (outcomes.Failed cause)) answer ≡ true)
+        ⊎ (fails_number s k (telling a (outcomes.Failed cause) answer) ≡ true)
         → (is_flagged c.dag s k ≡ true)
-        ⊎ (fails_number s k (Post a (outcomes.Failed cause)) answer ≡ true)
+        ⊎ (fails_number s k (telling a (outcomes.Failed cause) answer) ≡ true)
     behind s k (inl x) = inl (flags_fewer c.dag failed.dag s k grows x)
     behind s k (inr x) = inr x
 
     by : (b : Bool) → TellsFailureIf b c a cause answer after
-        → TellsFlags c.dag after.dag (Post a (outcomes.Failed cause)) answer
+        → TellsFlag c.dag after.dag (telling a (outcomes.Failed cause) answer)
     by true (told, is) =
         λ s k e. behind s k (inl (ap (λ (x : CoreData). is_flagged x.dag s k) (sym is) ∙ e))
     by false k =
@@ -252,39 +264,45 @@ failures_tell b c after a cause answer h = by b h
 
 tells_flags : (c after : CoreData) (r : Running) (outcome : Outcome) (answer : Answer)
     → Tells c r outcome answer after
-    → TellsFlags c.dag after.dag (Post r.hand_out.attempt outcome) answer
+    → TellsFlag c.dag after.dag (telling r.hand_out.attempt outcome answer)
 tells_flags c after r (outcomes.Map loc) answer h =
-    flags_quiet c.dag after.dag (Post r.hand_out.attempt (outcomes.Map loc)) answer
+    flags_quiet c.dag after.dag (telling r.hand_out.attempt (outcomes.Map loc) answer)
     (maps_grow FewerFlags NoFlag c.dag.limits (flags_calm c.dag.limits) c after r loc answer refl h)
 tells_flags c after r outcomes.Result answer h =
-    flags_quiet c.dag after.dag (Post r.hand_out.attempt outcomes.Result) answer
+    flags_quiet c.dag after.dag (telling r.hand_out.attempt outcomes.Result answer)
     (results_grow FewerFlags NoFlag c.dag.limits (flags_calm c.dag.limits) c after r answer h)
 tells_flags c after r (outcomes.Failed cause) answer h =
     failures_tell (reaches_limit_in (set_of c.dag r.hand_out.attempt) r.hand_out.attempt cause) c
     after r.hand_out.attempt cause answer h
 
-pub steps_flag : (c after : CoreData) (event : Event) (answer : Answer) → IsSoundCore c
-    → Steps c event answer after → TellsFlags c.dag after.dag event answer
-steps_flag c after (Take exec) answer sound step =
-    flags_quiet c.dag after.dag (Take exec) answer
-    (takes_grow FewerFlags NoFlag c.dag.limits (flags_calm c.dag.limits) c after exec answer step)
-steps_flag c after (Post a outcome) answer sound step = by (job_runs c) step
+-- ---- events
+
+comes_flag : (c after : CoreData) (event : Event) (answer : Answer) → IsSoundCore c
+    → Comes c after event answer → TellsFlags c.dag after.dag (tellings_in c event answer)
+comes_flag c after event answer sound (inl q) s k e =
+    inl (ap (λ (d : DagData). is_flagged d s k) (sym q.dag) ∙ e)
+comes_flag c after event answer sound (inr h) s k e =
+    by (tells_flags h.mid after h.one h.outcome answer h.tells s k e)
   where
-    still : (d : CoreData) → d.dag ≡ c.dag → after ≡ d
-        → TellsFlags c.dag after.dag (Post a outcome) answer
-    still d same is s k e =
-        inl (ap (λ (x : DagData). is_flagged x s k)
-        (sym (ap (λ (x : CoreData). x.dag) is ∙ same)) ∙ e)
+    by : (is_flagged h.mid.dag s k ≡ true)
+        ⊎ (fails_number s k (telling h.one.hand_out.attempt h.outcome answer) ≡ true)
+        → (is_flagged c.dag s k ≡ true) ⊎ (is_missed (tellings_in c event answer) s k ≡ true)
+    by (inl x) = inl (ap (λ (d : DagData). is_flagged d s k) (sym h.dag) ∙ x)
+    by (inr x) =
+        inr (ap (λ told. is_missed told s k) (h.known sound).told ∙ ap (λ b. b || false) x)
 
-    of : (o : Option Running) → running_of c a ≡ o → PostsOf o c a outcome answer after
-        → TellsFlags c.dag after.dag (Post a outcome) answer
-    of None e (told, is) = still (told_once c) refl is
-    of (Some r) e (fit, tells) =
-        subst (λ b. TellsFlags c.dag after.dag (Post b outcome) answer)
-        ((posted c a r sound e).attempt)
-        (tells_flags (taken_off c a) after r outcome answer tells)
-
-    by : (b : Bool) → PostsIf b c a outcome answer after
-        → TellsFlags c.dag after.dag (Post a outcome) answer
-    by false (told, is) = still c refl is
-    by true h = of (running_of c a) refl h
+pub steps_flag : (c after : CoreData) (event : Event) (answer : Answer) → IsSoundCore c
+    → Steps c event answer after → TellsFlags c.dag after.dag (tellings_in c event answer)
+steps_flag c after (Take exec) answer sound step s k e =
+    inl (flags_fewer c.dag after.dag s k
+    (takes_grow FewerFlags NoFlag c.dag.limits (flags_calm c.dag.limits) c after exec answer step)
+    e)
+steps_flag c after (Post a outcome) answer sound step s k e =
+    comes_flag c after (Post a outcome) answer sound (posts_come c after a outcome answer step) s k
+    e
+steps_flag c after (Release key) answer sound step s k e =
+    comes_flag c after (Release key) answer sound (releases_come c after key answer step) s k e
+steps_flag c after (TellLost exec) answer sound step s k e =
+    inl (flags_fewer c.dag after.dag s k
+    (losses_grow FewerFlags NoFlag c.dag.limits (flags_calm c.dag.limits) c after exec answer step)
+    e)

@@ -10,7 +10,7 @@ use Rattle.sc_ids.specs.declared.failures.FailureCause.{FailureCause}
 use Rattle.sc_ids.specs.declared.limits.Limits.{Limits}
 use Rattle.sc_taskset.specs.Lookups.{copy_at, is_nth, is_task_of, task_at, with_task}
 use Rattle.sc_taskset.specs.Offers.{given_in, given_of, handed_task}
-use Rattle.sc_taskset.specs.Reports.{after_failure, ended_task, failed_task, held_task, is_counted_in, is_failure, noted_task, succeeded_task}
+use Rattle.sc_taskset.specs.Reports.{after_failure, after_loss, ended_task, failed_task, held_task, is_counted_in, is_failure, lost_task, noted_task, redoes_lost, succeeded_task}
 use Rattle.sc_taskset.specs.Sound.{IsSoundTask}
 use Rattle.sc_taskset.specs.TaskSetData.{TaskData, TaskSetData}
 use Rattle.sc_taskset.specs.declared.tasks.Running.{Running as Copy}
@@ -32,8 +32,9 @@ use Rattle.sc_core.specs.declared.answers.Answer.{Answer}
 use Rattle.sc_core.specs.declared.answers.Answer.TheVariants as says
 use Rattle.sc_core.specs.declared.entries.Entry.{Entry}
 use Rattle.sc_core.specs.declared.events.Event.{Event}
-use Rattle.sc_core.specs.declared.events.Event.TheVariants.{Post, Take}
+use Rattle.sc_core.specs.declared.events.Event.TheVariants.{Post, Release, Take, TellLost}
 use Rattle.sc_core.proofs.LawLemmas.{steps_keep_sound}
+use Rattle.sc_core.proofs.ShelfLemmas.{find_mapped}
 use Rattle.sc_core.proofs.LookupLemmas.{set_among, set_holds, set_of_newest}
 use Rattle.sc_history.specs.Fresh.{TakesAreFresh, attempts_given, given_by}
 use Rattle.sc_history.proofs.Growing.{IsCalm, Slot, attempt_among, numbered_slot}
@@ -93,6 +94,19 @@ given_handed set q exec now p = by (q == p) refl
         same_given (given_of set p) (given_in (task_at p (with_task q f set.tasks)))
         (ap given_in (task_other q p f e (λ t. refl) set.tasks))
 
+given_lost : (set : TaskSetData) (exec p : ℕ)
+    → given_of set p ≤ given_of (after_loss set exec) p
+given_lost set exec p =
+    same_given (given_of set p) (given_of (after_loss set exec) p)
+    (ap given_in
+    (find_mapped (is_task_of p) (lost_task exec (redoes_lost set)) (λ t. refl) set.tasks)
+    ∙ kept (task_at p set.tasks))
+  where
+    kept : (o : Option TaskData)
+        → given_in (option_map (lost_task exec (redoes_lost set)) o) ≡ given_in o
+    kept None = refl
+    kept (Some t) = refl
+
 given_calm : (L : Limits) → IsCalm MoreGiven Anything L
 unfolding MoreGiven Anything
 given_calm L =
@@ -109,6 +123,7 @@ given_calm L =
       holds = λ x q denied p.
           same_given (given_of x.set p) _
           (task_viewed given_in q p (held_task denied) (λ t. refl) (λ t. refl) x.set.tasks);
+      loses = λ x exec p. given_lost x.set exec p;
       stops = λ x p. omega arith;
       forgives = λ x p. omega arith;
       begins = λ t stage results. tt;
@@ -265,13 +280,13 @@ last_holds P (x ∷ xs) y all = last_holds P xs y (All-tail P x (xs ++ y ∷ [])
 task_ran : (c after : CoreData) (exec : ℕ) (t : HandOutData) → IsSoundCore after
     → after ≡ with_hand_out c exec t → t.attempt.nth < given_to after.dag t.attempt
 task_ran c after exec t sound is =
-    running_given after.dag t.attempt exec sound.dag
+    running_given after.dag t.attempt exec sound.job.dag
     (subst (λ (x : CoreData). runner_of x.dag t.attempt ≡ Some exec) (sym is) ran.in_set)
   where
     ran : RunsWell (with_hand_out c exec t) (running_on t exec)
     ran =
         last_holds (RunsWell (with_hand_out c exec t)) c.running (running_on t exec)
-        (subst IsSoundCore is sound).running
+        (subst IsSoundCore is sound).job.running
 
 fresh_kept : (entries : List Entry) (e : Entry) (c after : CoreData) → IsFresh entries c
     → Steps c e.event e.answer after → IsFresh (entries ++ e ∷ []) after
@@ -303,6 +318,8 @@ fresh_kept entries e c after h step = by e.event refl step
         by says.Ended z k = none (gives says.Ended z)
         by (says.Aborted why) z k = none (gives (says.Aborted why) z)
         by says.Ignored z k = none (gives says.Ignored z)
+        by says.Shelved z k = none (gives says.Shelved z)
+        by says.Told z k = none (gives says.Told z)
         by says.Repeated z k = none (gives says.Repeated z)
         by says.Registered z k = none (gives says.Registered z)
         by says.Bogus z k = none (gives says.Bogus z)
@@ -314,10 +331,14 @@ fresh_kept entries e c after h step = by e.event refl step
         → IsFresh (entries ++ e ∷ []) after
     by (Post a outcome) x s =
         none_given entries e c after h step (ap (λ v. given_by v e.answer) x)
+    by (Release key) x s =
+        none_given entries e c after h step (ap (λ v. given_by v e.answer) x)
+    by (TellLost exec) x s =
+        none_given entries e c after h step (ap (λ v. given_by v e.answer) x)
     by (Take exec) x s = takes exec e.answer x refl s
 
 pub takes_are_fresh : TakesAreFresh
-takes_are_fresh graph limits saved last opening end entries o sound replays =
+takes_are_fresh graph limits saved plan last opening end entries o sound replays =
     (replays_induct (λ es c. IsFresh es c) fresh_kept [] opening begins entries end
     replays).apart
   where

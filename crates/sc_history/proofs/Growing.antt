@@ -7,7 +7,7 @@ use Rattle.sc_ids.specs.Graphs.{StageData}
 use Rattle.sc_ids.specs.declared.limits.Limits.{Limits}
 use Rattle.sc_ids.proofs.ChangeLemmas.{slice_get_change_other, slice_get_change_same}
 use Rattle.sc_taskset.specs.Offers.{handed}
-use Rattle.sc_taskset.specs.Reports.{after_end, after_held, after_success, as_zombie}
+use Rattle.sc_taskset.specs.Reports.{after_end, after_held, after_loss, after_success, as_zombie}
 use Rattle.sc_tracker.specs.TrackerData.{TrackerData}
 use Rattle.sc_dag.specs.DagData.{DagData, StageState, attempt_in, stage_at, stage_attempt, with_attempts, with_set}
 use Rattle.sc_dag.specs.Outputs.{has_inputs}
@@ -28,6 +28,7 @@ pub record IsCalm (A : StageAttempt → StageAttempt → Type 0) (New : StageAtt
   pub ends : (x : StageAttempt) (p nth : ℕ) → A x (with_set (λ s. after_end s p nth) x)
   pub holds : (x : StageAttempt) (p : ℕ) (denied : Bool)
       → A x (with_set (λ s. after_held s p denied) x)
+  pub loses : (x : StageAttempt) (exec : ℕ) → A x (with_set (λ s. after_loss s exec) x)
   pub stops : (x : StageAttempt) → A x (with_set as_zombie x)
   pub forgives : (x : StageAttempt) → A x (forgiven x)
   pub begins : (t : TrackerData) (stage : StageData) (results : List Bool)

@@ -1,5 +1,6 @@
 -- What reports do to each attempt of each stage, for any relation that calls keep.
-use Rattle.std.proofs.Common.{◌≡◌, ℕ, ◌-◌, ◌&&◌, not, Bool, true, false, if◌then◌else◌, length, Option, Some, None, slice_get, refl, ap, subst, sym, ◌∙◌}
+use Rattle.std.proofs.Common.{◌≡◌, inl, inr, ℕ, ◌-◌, ◌&&◌, not, Bool, true, false, if◌then◌else◌, List, [], ◌∷◌, length, Option, Some, None, option_map, slice_get, refl, ap, subst, sym, ◌∙◌}
+use Rattle.std.proofs.lemmas.Option.{slice_get-map}
 use Rattle.sc_ids.specs.declared.attempts.AttemptId.{AttemptId}
 use Rattle.sc_ids.specs.declared.blocks.Loc.{Loc}
 use Rattle.sc_ids.specs.declared.failures.FailureCause.{FailureCause}
@@ -9,14 +10,15 @@ use Rattle.sc_commit.specs.Committers.{committer_at}
 use Rattle.sc_commit.specs.Committing.{holds}
 use Rattle.sc_commit.specs.declared.committers.Ending.{Ending}
 use Rattle.sc_commit.specs.declared.committers.Ending.TheVariants as endings
-use Rattle.sc_taskset.specs.Reports.{after_end, after_failure as set_after_failure, after_held, after_success}
+use Rattle.sc_taskset.specs.Reports.{after_end, after_failure as set_after_failure, after_held, after_loss, after_success}
 use Rattle.sc_taskset.specs.Offers.{handed}
 use Rattle.sc_taskset.specs.declared.tasks.Verdict.{Verdict}
 use Rattle.sc_taskset.specs.declared.tasks.Verdict.TheVariants as verdicts
 use Rattle.sc_tracker.specs.Tracking.{is_bogus}
 use Rattle.sc_tracker.specs.Trust.{is_newer}
 use Rattle.sc_dag.specs.DagData.{DagData, StageState, changed_newest, place_of_attempt, with_set, with_state}
-use Rattle.sc_dag.specs.Losses.{after_seen}
+use Rattle.sc_dag.specs.Losses.{after_lost, after_seen}
+use Rattle.sc_dag.specs.Losses as losses
 use Rattle.sc_dag.specs.Offers.{handed_out}
 use Rattle.sc_dag.specs.Outputs.{is_complete}
 use Rattle.sc_dag.specs.Reports.{FailsStage, after_failed, after_hold, after_map_success, after_result_success, completed, completed_if, ended_in_own, failed_attempt, forgiven, is_finished_short, is_of_newest, is_repeat, map_success_of, reaches_limit_in, result_success_of, set_of, succeeded_in_both, succeeded_in_own, with_failed, with_output, with_result}
@@ -24,8 +26,8 @@ use Rattle.sc_dag.specs.Submission.{this_stage, waiting_stages}
 use Rattle.sc_dag.specs.declared.attempts.StageAttempt.{StageAttempt}
 use Rattle.sc_dag.specs.declared.reports.Success.{Success}
 use Rattle.sc_dag.specs.declared.reports.Success.TheVariants as successes
-use Rattle.sc_core.specs.CoreData.{CoreData, job_runs, running_of, taken_off, told_once, with_dag}
-use Rattle.sc_core.specs.Posts.{PostsIf, PostsOf}
+use Rattle.sc_core.specs.CoreData.{CoreData, with_dag}
+use Rattle.sc_core.specs.Losses.{Loses, all_released, attempts_on, without_executor}
 use Rattle.sc_core.specs.Steps.{Steps}
 use Rattle.sc_core.specs.Takes.{Takes}
 use Rattle.sc_core.specs.Tells.{FailsBy, FailsOrAborts, FollowsUp, IsGone, LooksAgain, Misses, MissesIf, Tells, TellsFailureIf, TellsMap, TellsResult, after_failure, after_result, done_if, is_zombie_in, released, with_result_of}
@@ -33,12 +35,13 @@ use Rattle.sc_core.specs.declared.answers.Abort.TheVariants as aborts
 use Rattle.sc_core.specs.declared.answers.Answer.{Answer}
 use Rattle.sc_core.specs.declared.answers.Answer.TheVariants as says
 use Rattle.sc_core.specs.declared.events.Event.{Event}
-use Rattle.sc_core.specs.declared.events.Event.TheVariants.{Post, Take}
+use Rattle.sc_core.specs.declared.events.Event.TheVariants.{Post, Release, Take, TellLost}
 use Rattle.sc_core.specs.declared.events.Outcome.{Outcome}
 use Rattle.sc_core.specs.declared.events.Outcome.TheVariants as outcomes
 use Rattle.sc_core.specs.declared.running.Running.{Running}
 use Rattle.sc_core.proofs.TaskCallLemmas.{map_moves}
-use Rattle.sc_history.proofs.Growing.{GrownDag, IsCalm, dag_is, dag_same, dag_submitted, dag_then, dag_with, grown_map, grown_same, state_with}
+use Rattle.sc_history.proofs.Events.{Comes, losses_come, posts_come, releases_come}
+use Rattle.sc_history.proofs.Growing.{GrownDag, GrownIn, IsCalm, dag_is, dag_same, dag_submitted, dag_then, dag_with, grown_map, grown_same, state_with}
 
 -- the attempts of all stages of a job
 abbrev pub Grows : (StageAttempt → StageAttempt → Type 0) → (StageAttempt → Type 0) → DagData
@@ -408,12 +411,67 @@ takes_grow A New L calm c after exec answer h = by answer h
     by (says.Aborted (aborts.StageLimit s)) k = absurd k
     by (says.Aborted aborts.NoExecutor) k = absurd k
     by says.Ignored k = absurd k
+    by says.Shelved k = absurd k
+    by says.Told k = absurd k
     by says.Repeated k = absurd k
     by says.Registered k = absurd k
     by says.Bogus k = absurd k
     by says.Finished k = absurd k
     by says.Again k = absurd k
     by says.Resubmitted k = absurd k
+
+-- ---- losses
+
+all_grow : (A : StageAttempt → StageAttempt → Type 0) (New : StageAttempt → Type 0)
+    (L : Limits) → IsCalm A New L → (these : List AttemptId) (c : CoreData)
+    → Grows A New c.dag (all_released these c).dag
+all_grow A New L calm [] c = dag_same A New L calm c.dag.states
+all_grow A New L calm (a ∷ these) c =
+    let next = released c a endings.Failed in
+    grows_then A New L calm c.dag next.dag (all_released these next).dag
+    (released_grows A New L calm c a endings.Failed) (all_grow A New L calm these next)
+
+lost_grows : (A : StageAttempt → StageAttempt → Type 0) (New : StageAttempt → Type 0)
+    (L : Limits) → IsCalm A New L → (d : DagData) (exec : ℕ) → Grows A New d (after_lost d exec)
+lost_grows A New L calm d exec s =
+    rw (slice_get-map (losses.without_executor exec) d.states s) (by (slice_get d.states s))
+  where
+    by : (o : Option StageState)
+        → GrownIn A New o (option_map (losses.without_executor exec) o)
+    by None = tt
+    by (Some state) =
+        record {
+          before = refl;
+          attempts = grown_map A New state.attempts (with_set (λ set. after_loss set exec))
+              (λ x. calm.loses x exec);
+        }
+
+pub losses_grow : (A : StageAttempt → StageAttempt → Type 0) (New : StageAttempt → Type 0)
+    (L : Limits) → IsCalm A New L → (c after : CoreData) (exec : ℕ) (answer : Answer)
+    → Loses c exec answer after → Grows A New c.dag after.dag
+losses_grow A New L calm c after exec answer step =
+    subst (λ x. Grows A New c.dag x) (sym (losses_come c after exec answer step).dag)
+    (grows_then A New L calm c.dag from.dag (without_executor c exec).dag
+    (lost_grows A New L calm c.dag exec)
+    (all_grow A New L calm (attempts_on exec c.running) from))
+  where
+    from : CoreData
+    from = with_dag c (after_lost c.dag exec)
+
+-- ---- events
+
+comes_grow : (A : StageAttempt → StageAttempt → Type 0) (New : StageAttempt → Type 0)
+    (L : Limits) → IsCalm A New L → ((x : StageAttempt) → A x (failed_attempt x))
+    → ((x : StageAttempt) (p nth : ℕ) (cause : FailureCause)
+    → A x (with_set (λ s. set_after_failure s p nth cause) x))
+    → (c after : CoreData) (event : Event) (answer : Answer) → c.dag.limits ≡ L
+    → Comes c after event answer → Grows A New c.dag after.dag
+comes_grow A New L calm marks fails c after event answer same (inl q) =
+    dag_is A New L calm c.dag after.dag q.dag
+comes_grow A New L calm marks fails c after event answer same (inr h) =
+    subst (λ d. Grows A New d after.dag) h.dag
+    (tells_grow A New L calm marks fails h.mid after h.one h.outcome answer
+    (ap (λ (d : DagData). d.limits) h.dag ∙ same) h.tells)
 
 pub steps_grow : (A : StageAttempt → StageAttempt → Type 0) (New : StageAttempt → Type 0)
     (L : Limits) → IsCalm A New L → ((x : StageAttempt) → A x (failed_attempt x))
@@ -424,17 +482,10 @@ pub steps_grow : (A : StageAttempt → StageAttempt → Type 0) (New : StageAtte
 steps_grow A New L calm marks fails c after (Take exec) answer same step =
     takes_grow A New L calm c after exec answer step
 steps_grow A New L calm marks fails c after (Post a outcome) answer same step =
-    by (job_runs c) step
-  where
-    still : (d : CoreData) → d.dag ≡ c.dag → after ≡ d → Grows A New c.dag after.dag
-    still d e is =
-        dag_is A New L calm c.dag after.dag (ap (λ (x : CoreData). x.dag) is ∙ e)
-
-    of : (o : Option Running) → PostsOf o c a outcome answer after → Grows A New c.dag after.dag
-    of None (told, is) = still (told_once c) refl is
-    of (Some r) (fit, tells) =
-        tells_grow A New L calm marks fails (taken_off c a) after r outcome answer same tells
-
-    by : (b : Bool) → PostsIf b c a outcome answer after → Grows A New c.dag after.dag
-    by false (told, is) = still c refl is
-    by true h = of (running_of c a) h
+    comes_grow A New L calm marks fails c after (Post a outcome) answer same
+    (posts_come c after a outcome answer step)
+steps_grow A New L calm marks fails c after (Release key) answer same step =
+    comes_grow A New L calm marks fails c after (Release key) answer same
+    (releases_come c after key answer step)
+steps_grow A New L calm marks fails c after (TellLost exec) answer same step =
+    losses_grow A New L calm c after exec answer step

@@ -10,9 +10,9 @@ use Rattle.sc_ids.specs.declared.attempts.AttemptId.{AttemptId}
 use Rattle.sc_ids.specs.declared.failures.FailureCause.{FailureCause}
 use Rattle.sc_ids.specs.declared.limits.Limits.{Limits}
 use Rattle.sc_ids.proofs.ChangeLemmas.{length_change_at, slice_get_change_other, slice_get_change_same}
-use Rattle.sc_taskset.specs.Lookups.{task_at, with_task}
+use Rattle.sc_taskset.specs.Lookups.{is_task_of, task_at, with_task}
 use Rattle.sc_taskset.specs.Offers.{handed_task}
-use Rattle.sc_taskset.specs.Reports.{after_failure, ended_task, failed_task, held_task, is_counted_in, is_failure, noted_task, succeeded_task}
+use Rattle.sc_taskset.specs.Reports.{after_failure, after_loss, ended_task, failed_task, held_task, is_counted_in, is_failure, lost_task, noted_task, redoes_lost, succeeded_task}
 use Rattle.sc_taskset.specs.TaskSetData.{TaskData, TaskSetData, fresh_task}
 use Rattle.sc_taskset.proofs.LawLemmas.{task_changed, task_other}
 use Rattle.sc_dag.specs.DagData.{DagData, StageState, changed_set, place_of_attempt, with_attempts, with_set}
@@ -20,6 +20,7 @@ use Rattle.sc_dag.specs.Reports.{after_failed, failed_attempt}
 use Rattle.sc_dag.specs.declared.attempts.StageAttempt.{StageAttempt}
 use Rattle.sc_dag.proofs.Sets.{task_viewed}
 use Rattle.sc_dag.proofs.Tests.{both_left, is_in}
+use Rattle.sc_core.proofs.ShelfLemmas.{find_mapped}
 use Rattle.sc_history.proofs.Growing.{IsCalm, Slot, attempt_among, numbered_slot}
 use Rattle.sc_history.proofs.GrowingCalls.{Grows}
 
@@ -62,6 +63,19 @@ fresh_view view none nothing fresh p (q ∷ qs) =
     by true e h = rw e (fresh q)
     by false e h = rw e h
 
+-- nor more where an executor was lost
+lost_failures : (set : TaskSetData) (exec p : ℕ)
+    → failures_of (after_loss set exec) p ≡ failures_of set p
+lost_failures set exec p =
+    ap failures_among
+    (find_mapped (is_task_of p) (lost_task exec (redoes_lost set)) (λ t. refl) set.tasks)
+    ∙ kept (task_at p set.tasks)
+  where
+    kept : (o : Option TaskData)
+        → failures_among (option_map (lost_task exec (redoes_lost set)) o) ≡ failures_among o
+    kept None = refl
+    kept (Some t) = refl
+
 pub failures_calm : (L : Limits) → IsCalm SameFailures NoFailures L
 unfolding SameFailures NoFailures
 failures_calm L =
@@ -76,6 +90,7 @@ failures_calm L =
           task_viewed failures_among q p (ended_task nth) (λ t. refl) (λ t. refl) x.set.tasks;
       holds = λ x q denied p.
           task_viewed failures_among q p (held_task denied) (λ t. refl) (λ t. refl) x.set.tasks;
+      loses = λ x exec p. lost_failures x.set exec p;
       stops = λ x p. refl;
       forgives = λ x p. refl;
       begins = λ t stage results p. fresh_view failures_among [] refl (λ q. refl) p _;

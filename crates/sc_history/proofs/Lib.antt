@@ -1,3 +1,5 @@
+pub mod Events
+pub mod PostedLemmas
 pub mod OpeningLemmas
 pub mod StageRoomLemmas
 pub mod RoomLemmas

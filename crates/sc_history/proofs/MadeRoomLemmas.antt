@@ -228,7 +228,7 @@ all_made t (stage ∷ graph) apart fits =
         record { has = rest.has ∙ one.has; outputs = rest.outputs ∙ one.outputs }
 
 pub openings_make_room : OpeningsMakeRoom
-openings_make_room graph limits saved last c job fits o =
+openings_make_room graph limits saved plan last c job fits o =
     subst (λ u. MakesRoom graph (tracker_behind last limits) u)
     (sym (sent o.submits ∙ o.opens.tracker))
     (record {

@@ -4,6 +4,7 @@ use Rattle.std.proofs.lemmas.List.Elements.{All-contains, All-replicate}
 use Rattle.sc_base.specs.Lists.{at_or}
 use Rattle.sc_ids.specs.Graphs.{StageData}
 use Rattle.sc_ids.specs.declared.limits.Limits.{Limits}
+use Rattle.sc_plan.specs.declared.lines.PlanLine.{PlanLine}
 use Rattle.sc_commit.specs.declared.committers.Committer.TheVariants.{Nobody}
 use Rattle.sc_tracker.specs.TrackerData.{TrackerData}
 use Rattle.sc_tracker.specs.TrackerFacts.{HasMarkBelow, IsSoundTracker}
@@ -15,7 +16,7 @@ use Rattle.sc_dag.specs.Submission.{IsSubmitted, this_stage}
 use Rattle.sc_dag.proofs.Looking.{submissions_agree}
 use Rattle.sc_dag.proofs.Opening.{openings_are_sound}
 use Rattle.sc_core.specs.CoreData.{CoreData, core_data, result_stage}
-use Rattle.sc_core.specs.Openings.{IsOpening, now_before, told_before, tracker_behind}
+use Rattle.sc_core.specs.Openings.{IsOpening, now_before, plan_behind, told_before, tracker_behind}
 use Rattle.sc_core.specs.Sound.{IsSoundCore}
 use Rattle.sc_core.specs.declared.answers.Job.TheVariants as jobs
 use Rattle.sc_history.specs.Openings.{OpeningsAgree}
@@ -92,41 +93,45 @@ behind_sound None limits sound =
       marks = All-replicate (HasMarkBelow 0) limits.executors untold tt;
       events = omega arith;
     }
-behind_sound (Some last) limits sound = sound.dag.tracker
+behind_sound (Some last) limits sound = sound.job.dag.tracker
 
 -- all of a core that begins but its stages
-opened : (limits : Limits) (saved : ℕ) (last : Option CoreData) → DagData → CoreData
-opened limits saved last dag =
+opened : Limits → ℕ → List PlanLine → Option CoreData → DagData → CoreData
+opened limits saved plan last dag =
     core_data (told_before last) (now_before last) 0 jobs.Running None [] [] 0
-    (replicate saved Nobody) dag
+    (replicate saved Nobody) dag (plan_behind last plan)
 
-opening_is : (graph : List StageData) (limits : Limits) (saved : ℕ) (last : Option CoreData)
-    (c : CoreData) → IsOpening graph limits saved last c → c ≡ opened limits saved last c.dag
+opening_is :
+    (graph : List StageData) (limits : Limits) (saved : ℕ) (plan : List PlanLine)
+    (last : Option CoreData) (c : CoreData) → IsOpening graph limits saved plan last c
+    → c ≡ opened limits saved plan last c.dag
 unfolding opened
-opening_is graph limits saved last c o =
+opening_is graph limits saved plan last c o =
     ap (λ x. core_data x c.now c.handed c.job c.left_first c.running c.shelf c.next_key
-    c.committers c.dag) o.told
+    c.committers c.dag c.plan) o.told
     ∙ ap (λ x. core_data (told_before last) x c.handed c.job c.left_first c.running c.shelf
-    c.next_key c.committers c.dag) o.now
+    c.next_key c.committers c.dag c.plan) o.now
     ∙ ap (λ x. core_data (told_before last) (now_before last) x c.job c.left_first c.running
-    c.shelf c.next_key c.committers c.dag) o.handed
+    c.shelf c.next_key c.committers c.dag c.plan) o.handed
     ∙ ap (λ x. core_data (told_before last) (now_before last) 0 x c.left_first c.running
-    c.shelf c.next_key c.committers c.dag) o.job
+    c.shelf c.next_key c.committers c.dag c.plan) o.job
     ∙ ap (λ x. core_data (told_before last) (now_before last) 0 jobs.Running x c.running
-    c.shelf c.next_key c.committers c.dag) o.left_first
+    c.shelf c.next_key c.committers c.dag c.plan) o.left_first
     ∙ ap (λ x. core_data (told_before last) (now_before last) 0 jobs.Running None x
-    c.shelf c.next_key c.committers c.dag) o.running
+    c.shelf c.next_key c.committers c.dag c.plan) o.running
     ∙ ap (λ x. core_data (told_before last) (now_before last) 0 jobs.Running None []
-    x c.next_key c.committers c.dag) o.shelf
+    x c.next_key c.committers c.dag c.plan) o.shelf
     ∙ ap (λ x. core_data (told_before last) (now_before last) 0 jobs.Running None [] []
-    x c.committers c.dag) o.next_key
+    x c.committers c.dag c.plan) o.next_key
     ∙ ap (λ x. core_data (told_before last) (now_before last) 0 jobs.Running None [] [] 0
-    x c.dag) o.committers
+    x c.dag c.plan) o.committers
+    ∙ ap (λ x. core_data (told_before last) (now_before last) 0 jobs.Running None [] [] 0
+    (replicate saved Nobody) c.dag x) o.plan_is
 
 pub openings_agree : OpeningsAgree
-openings_agree graph limits saved last x y job fits sound a b =
-    opening_is graph limits saved last x a ∙ ap (opened limits saved last) dags
-    ∙ sym (opening_is graph limits saved last y b)
+openings_agree graph limits saved plan last x y job fits sound a b =
+    opening_is graph limits saved plan last x a ∙ ap (opened limits saved plan last) dags
+    ∙ sym (opening_is graph limits saved plan last y b)
   where
     same : a.dag ≡ b.dag
     same =

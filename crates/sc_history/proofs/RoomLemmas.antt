@@ -1,5 +1,5 @@
 -- No event changes for how many outputs of a shuffle there is room.
-use Rattle.std.proofs.Common.{◌≡◌, ℕ, ◌&&◌, not, Bool, true, false, if◌then◌else◌, [], ◌∷◌, Option, Some, None, slice_get, refl, ap, sym, subst, ◌∙◌}
+use Rattle.std.proofs.Common.{◌≡◌, inl, inr, ℕ, List, ◌&&◌, not, Bool, true, false, if◌then◌else◌, [], ◌∷◌, slice_get, refl, ap, sym, subst, ◌∙◌}
 use Rattle.sc_ids.specs.declared.attempts.AttemptId.{AttemptId}
 use Rattle.sc_ids.specs.declared.blocks.Loc.{Loc}
 use Rattle.sc_ids.specs.declared.failures.FailureCause.{FailureCause}
@@ -12,24 +12,26 @@ use Rattle.sc_taskset.specs.declared.tasks.Verdict.{Verdict}
 use Rattle.sc_taskset.specs.declared.tasks.Verdict.TheVariants as verdicts
 use Rattle.sc_tracker.specs.Trust.{is_newer}
 use Rattle.sc_dag.specs.DagData.{DagData}
-use Rattle.sc_dag.specs.Losses.{after_seen}
+use Rattle.sc_dag.specs.Losses.{after_lost, after_seen}
 use Rattle.sc_dag.specs.Outputs.{is_complete}
 use Rattle.sc_dag.specs.Reports.{after_failed, after_hold, after_map_success, is_of_newest, map_success_of, reaches_limit_in, result_success_of, set_of}
 use Rattle.sc_dag.specs.declared.reports.Success.{Success}
 use Rattle.sc_dag.specs.declared.reports.Success.TheVariants as successes
-use Rattle.sc_core.specs.CoreData.{CoreData, job_runs, running_of, taken_off, told_once, with_dag}
-use Rattle.sc_core.specs.Posts.{PostsIf, PostsOf}
+use Rattle.sc_core.specs.CoreData.{CoreData, with_dag}
+use Rattle.sc_core.specs.Losses.{all_released, attempts_on}
 use Rattle.sc_core.specs.Takes.{Takes}
 use Rattle.sc_core.specs.Tells.{FailsBy, FailsOrAborts, IsGone, Misses, MissesIf, Tells, TellsFailure, TellsFailureIf, TellsMap, TellsResult, after_failure, after_result, done_if, is_zombie_in, released, with_result_of}
 use Rattle.sc_core.specs.declared.answers.Abort.TheVariants as aborts
 use Rattle.sc_core.specs.declared.answers.Answer.{Answer}
 use Rattle.sc_core.specs.declared.answers.Answer.TheVariants as says
-use Rattle.sc_core.specs.declared.events.Event.TheVariants.{Post, Take}
+use Rattle.sc_core.specs.declared.events.Event.{Event}
+use Rattle.sc_core.specs.declared.events.Event.TheVariants.{Post, Release, Take, TellLost}
 use Rattle.sc_core.specs.declared.events.Outcome.{Outcome}
 use Rattle.sc_core.specs.declared.events.Outcome.TheVariants as outcomes
 use Rattle.sc_core.specs.declared.running.Running.{Running}
-use Rattle.sc_history.specs.Rooms.{KeepsRoom, ReplaysKeepRoom, StepsKeepRoom}
-use Rattle.sc_history.proofs.StageRoomLemmas.{LeavesRoom, fails_room, follows_room, map_room, result_tracker, room_itself, room_then, same_room, seen_room}
+use Rattle.sc_history.specs.Rooms.{KeepsRoom, ReplaysKeepRoom, SameRoom, StepsKeepRoom}
+use Rattle.sc_history.proofs.Events.{Comes, losses_come, posts_come, releases_come}
+use Rattle.sc_history.proofs.StageRoomLemmas.{LeavesRoom, fails_room, follows_room, lost_room, map_room, result_tracker, room_itself, room_then, same_room, seen_room}
 
 -- ---- reports
 
@@ -165,26 +167,32 @@ tells_room c after r (outcomes.Failed cause) answer h = failures_room c after r 
 
 -- ---- events
 
-at_once : (c after : CoreData) (d : CoreData) → d.dag.tracker ≡ c.dag.tracker → after ≡ d
-    → KeepsRoom c after
+at_once : (c after : CoreData) (d : CoreData) → d.dag.tracker ≡ c.dag.tracker
+    → after.dag ≡ d.dag → KeepsRoom c after
 at_once c after d same is =
     same_room c.dag.tracker after.dag.tracker
-    (ap (λ (z : CoreData). z.dag.tracker) is ∙ same)
+    (ap (λ (z : DagData). z.tracker) is ∙ same)
+
+at_state : (c after : CoreData) (d : CoreData) → d.dag.tracker ≡ c.dag.tracker → after ≡ d
+    → KeepsRoom c after
+at_state c after d same is = at_once c after d same (dag_is after d is)
 
 takes_room : (c after : CoreData) (exec : ℕ) (answer : Answer) → Takes c exec answer after
     → KeepsRoom c after
-takes_room c after exec (says.Task h) (asking, out, lt, is) = at_once c after _ refl is
-takes_room c after exec (says.Wait out) (asking, none, way, is) = at_once c after c refl is
-takes_room c after exec (says.Busy held) (runs, stays, live, has, is) = at_once c after c refl is
-takes_room c after exec says.Lost (runs, stays, lost, is) = at_once c after c refl is
-takes_room c after exec (says.Stopped first) (runs, left, is) = at_once c after c refl is
-takes_room c after exec says.Ended (runs, is) = at_once c after c refl is
+takes_room c after exec (says.Task h) (asking, out, lt, is) = at_state c after _ refl is
+takes_room c after exec (says.Wait out) (asking, none, way, is) = at_state c after c refl is
+takes_room c after exec (says.Busy held) (runs, stays, live, has, is) = at_state c after c refl is
+takes_room c after exec says.Lost (runs, stays, lost, is) = at_state c after c refl is
+takes_room c after exec (says.Stopped first) (runs, left, is) = at_state c after c refl is
+takes_room c after exec says.Ended (runs, is) = at_state c after c refl is
 takes_room c after exec (says.Aborted aborts.Budget) (a, asking, offer, le, is) =
-    at_once c after _ refl is
+    at_state c after _ refl is
 takes_room c after exec (says.Aborted (aborts.TaskLimit s n p)) h = absurd h
 takes_room c after exec (says.Aborted (aborts.StageLimit s)) h = absurd h
 takes_room c after exec (says.Aborted aborts.NoExecutor) h = absurd h
 takes_room c after exec says.Ignored h = absurd h
+takes_room c after exec says.Shelved h = absurd h
+takes_room c after exec says.Told h = absurd h
 takes_room c after exec says.Repeated h = absurd h
 takes_room c after exec says.Registered h = absurd h
 takes_room c after exec says.Bogus h = absurd h
@@ -192,17 +200,35 @@ takes_room c after exec says.Finished h = absurd h
 takes_room c after exec says.Again h = absurd h
 takes_room c after exec says.Resubmitted h = absurd h
 
+comes_room : (c after : CoreData) (event : Event) (answer : Answer) → Comes c after event answer
+    → KeepsRoom c after
+comes_room c after event answer (inl q) = at_once c after c refl q.dag
+comes_room c after event answer (inr h) =
+    subst (λ (d : DagData). SameRoom d.tracker after.dag.tracker) h.dag
+    (tells_room h.mid after h.one h.outcome answer h.tells)
+
+all_tracker : (these : List AttemptId) (c : CoreData)
+    → (all_released these c).dag.tracker ≡ c.dag.tracker
+all_tracker [] c = refl
+all_tracker (a ∷ these) c =
+    all_tracker these (released c a endings.Failed) ∙ released_tracker c a endings.Failed
+
 pub steps_keep_room : StepsKeepRoom
 steps_keep_room c after (Take exec) answer step = takes_room c after exec answer step
-steps_keep_room c after (Post a outcome) answer step = by (job_runs c) step
+steps_keep_room c after (Post a outcome) answer step =
+    comes_room c after (Post a outcome) answer (posts_come c after a outcome answer step)
+steps_keep_room c after (Release key) answer step =
+    comes_room c after (Release key) answer (releases_come c after key answer step)
+steps_keep_room c after (TellLost exec) answer step =
+    room_then c.dag.tracker from.dag.tracker after.dag.tracker (lost_room c.dag exec)
+    (at_once from after (all_released these from) (all_tracker these from)
+    (losses_come c after exec answer step).dag)
   where
-    of : (o : Option Running) → PostsOf o c a outcome answer after → KeepsRoom c after
-    of None (says, is) = at_once c after (told_once c) refl is
-    of (Some r) (fit, tells) = tells_room (taken_off c a) after r outcome answer tells
+    these : List AttemptId
+    these = attempts_on exec c.running
 
-    by : (b : Bool) → PostsIf b c a outcome answer after → KeepsRoom c after
-    by false (says, is) = at_once c after c refl is
-    by true h = of (running_of c a) h
+    from : CoreData
+    from = with_dag c (after_lost c.dag exec)
 
 -- nor does a journal
 pub replays_keep_room : ReplaysKeepRoom

@@ -3,6 +3,7 @@ use Rattle.std.proofs.Common.{◌≡◌, ℕ, List, Option, Some, None, IfSome, 
 use Rattle.sc_ids.specs.Graphs.{StageData}
 use Rattle.sc_ids.specs.declared.attempts.AttemptId.{AttemptId}
 use Rattle.sc_ids.specs.declared.limits.Limits.{Limits}
+use Rattle.sc_plan.specs.declared.lines.PlanLine.{PlanLine}
 use Rattle.sc_taskset.specs.TaskSetData.{TaskSetData}
 use Rattle.sc_dag.specs.DagData.{DagData, StageState, attempt_in, set_in}
 use Rattle.sc_dag.specs.Reports.{set_of}
@@ -33,6 +34,7 @@ limits_calm L =
       succeeds = λ x p nth now. refl;
       ends = λ x p nth. refl;
       holds = λ x p denied. refl;
+      loses = λ x exec. refl;
       stops = λ x. refl;
       forgives = λ x. refl;
       begins = λ t stage results. refl;
@@ -64,13 +66,14 @@ limits_kept L c after event answer same step have s k =
     by (Some x) (Some y) q h = q ∙ h
 
 pub limits_begin :
-    (graph : List StageData) (limits : Limits) (saved : ℕ) (last : Option CoreData)
-    (c : CoreData) → IsOpening graph limits saved last c → HaveLimits limits c.dag
+    (graph : List StageData) (limits : Limits) (saved : ℕ) (plan : List PlanLine)
+    (last : Option CoreData) (c : CoreData) → IsOpening graph limits saved plan last c
+    → HaveLimits limits c.dag
 unfolding SameLimits HasLimits
-limits_begin graph limits saved last c o s k =
+limits_begin graph limits saved plan last c o s k =
     by (attempt_among (slice_get c.dag.states s) k)
-    (opening_slot SameLimits (HasLimits limits) graph limits saved last c (limits_calm limits) o s
-    k)
+    (opening_slot SameLimits (HasLimits limits) graph limits saved plan last c
+    (limits_calm limits) o s k)
   where
     by : (x : Option StageAttempt) → Slot SameLimits (HasLimits limits) None x
         → IfSome x (λ y. y.set.limits ≡ limits)

@@ -10,6 +10,7 @@ use Rattle.std.proofs.lemmas.List.Kept.{AllPairs-cons}
 use Rattle.std.proofs.lemmas.List.Sums.{sum_by-cons}
 use Rattle.sc_ids.specs.Graphs.{StageData}
 use Rattle.sc_ids.specs.declared.limits.Limits.{Limits}
+use Rattle.sc_plan.specs.declared.lines.PlanLine.{PlanLine}
 use Rattle.sc_dag.specs.DagData.{StageState, place_of_attempt}
 use Rattle.sc_dag.specs.Outputs.{is_complete}
 use Rattle.sc_dag.specs.Reports.{failed_count}
@@ -26,12 +27,13 @@ use Rattle.sc_core.specs.declared.answers.Job.TheVariants as jobs
 use Rattle.sc_core.specs.declared.entries.Entry.{Entry}
 use Rattle.sc_core.proofs.LawLemmas.{steps_keep_sound}
 use Rattle.sc_history.specs.StageEvidence.{ShowsStageLimit, StageLimitsAreShown, StaysOpen, is_miss_of, number_of}
+use Rattle.sc_history.specs.Tellings.{Telling, tellings, tellings_in}
 use Rattle.sc_history.proofs.BudgetLemmas.{opening_limits, step_limits}
 use Rattle.sc_history.proofs.Closing.{HasClosed, IsClosed, ended_stays, steps_close}
-use Rattle.sc_history.proofs.Flags.{FewerFlags, NoFlag, fails_number, flag_in, flags_calm, is_flagged, no_flag, steps_flag}
+use Rattle.sc_history.proofs.Flags.{FewerFlags, NoFlag, flag_in, flags_calm, is_flagged, is_missed, no_flag, steps_flag}
 use Rattle.sc_history.proofs.Growing.{attempt_among}
 use Rattle.sc_history.proofs.Journals.{replays_induct}
-use Rattle.sc_history.proofs.Picking.{Picked, all_picked, is_there}
+use Rattle.sc_history.proofs.Picking.{Picked, all_picked}
 use Rattle.sc_history.proofs.Starting.{opening_slot}
 
 abbrev one_if : Bool → ℕ
@@ -48,18 +50,30 @@ replays_more opening c after (x ∷ entries) e (mid, one, rest) step =
     (mid, one, replays_more mid c after entries e rest step)
 
 stays_more : (s : ℕ) (mid c after : CoreData) (since : List Entry) (e : Entry)
-    → StaysOpen s mid since c → Steps c e.event e.answer after → is_complete after.dag s ≡ false
-    → StaysOpen s mid (since ++ e ∷ []) after
-stays_more s mid c after [] e is step lacks =
-    (after, subst (λ x. Steps x e.event e.answer after) is step, lacks, refl)
-stays_more s mid c after (x ∷ since) e (next, one, open_then, rest) step lacks =
-    (next, one, open_then, stays_more s next c after since e rest step lacks)
+    (replays : Replays mid since c) → StaysOpen s mid since c replays
+    → (step : Steps c e.event e.answer after) → is_complete after.dag s ≡ false
+    → StaysOpen s mid (since ++ e ∷ []) after (replays_more mid c after since e replays step)
+unfolding replays_more
+stays_more s mid c after [] e is opens step lacks = (lacks, tt)
+stays_more s mid c after (x ∷ since) e (next, one, rest) (lacked, opens) step lacks =
+    (lacked, stays_more s next c after since e rest opens step lacks)
+
+-- one more entry may be of one more report
+tellings_more : (mid c after : CoreData) (since : List Entry) (e : Entry)
+    (replays : Replays mid since c) (step : Steps c e.event e.answer after)
+    → tellings mid (since ++ e ∷ []) after (replays_more mid c after since e replays step)
+    ≡ tellings mid since c replays ++ tellings_in c e.event e.answer
+unfolding replays_more
+tellings_more mid c after [] e is step =
+    append-nil (tellings_in mid e.event e.answer)
+    ∙ ap (λ x. tellings_in x e.event e.answer) (sym is)
+tellings_more mid c after (x ∷ since) e (next, one, rest) step =
+    ap (λ told. tellings_in mid x.event x.answer ++ told)
+    (tellings_more next c after since e rest step)
+    ∙ sym (append_assoc (tellings_in mid x.event x.answer) (tellings next since c rest)
+    (tellings_in c e.event e.answer))
 
 -- ---- the last part of a journal, in which a stage is complete after no entry
-
--- some entry tells that an attempt of a stage missed an input
-abbrev pub is_missed : List Entry → ℕ → ℕ → Bool
-is_missed entries s k = is_there (is_miss_of s) number_of entries k
 
 record IsWindow (opening : CoreData) (entries : List Entry) (c : CoreData) (s : ℕ) : Type 0 where
   before : List Entry
@@ -67,9 +81,11 @@ record IsWindow (opening : CoreData) (entries : List Entry) (c : CoreData) (s : 
   mid : CoreData
   parts : entries ≡ before ++ since
   leads : Replays opening before mid
-  open_since : StaysOpen s mid since c
+  ends : Replays mid since c
+  open_since : StaysOpen s mid since c ends
   -- the attempts that count as failed were told there
-  told : (k : ℕ) → is_flagged c.dag s k ≡ true → is_missed since s k ≡ true
+  told : (k : ℕ) → is_flagged c.dag s k ≡ true
+      → is_missed (tellings mid since c ends) s k ≡ true
 
 -- a stage of a job that runs, or was aborted for it
 abbrev IsLive : CoreData → ℕ → Type 0
@@ -118,17 +134,17 @@ counts_failed (Some state) e = at state.attempts e
             let all = sum_by-cons (λ (y : StageAttempt). one_if y.has_failed) x xs in
             let rest = f k in omega (arith, all, rest)
 
-missed_first : (entries : List Entry) (e : Entry) (s k : ℕ) → is_missed entries s k ≡ true
-    → is_missed (entries ++ e ∷ []) s k ≡ true
-missed_first entries e s k h =
-    list_any-append (λ x. is_miss_of s x && (number_of x == k)) entries (e ∷ [])
-    ∙ ap (λ b. b || is_missed (e ∷ []) s k) h
+missed_first : (told more : List Telling) (s k : ℕ) → is_missed told s k ≡ true
+    → is_missed (told ++ more) s k ≡ true
+missed_first told more s k h =
+    list_any-append (λ t. is_miss_of s t && (number_of t == k)) told more
+    ∙ ap (λ b. b || is_missed more s k) h
 
-missed_last : (entries : List Entry) (e : Entry) (s k : ℕ)
-    → fails_number s k e.event e.answer ≡ true → is_missed (entries ++ e ∷ []) s k ≡ true
-missed_last entries e s k h =
-    list_any-append (λ x. is_miss_of s x && (number_of x == k)) entries (e ∷ [])
-    ∙ or_right (is_missed entries s k) (is_missed (e ∷ []) s k) (ap (λ b. b || false) h)
+missed_last : (told more : List Telling) (s k : ℕ) → is_missed more s k ≡ true
+    → is_missed (told ++ more) s k ≡ true
+missed_last told more s k h =
+    list_any-append (λ t. is_miss_of s t && (number_of t == k)) told more
+    ∙ or_right (is_missed told s k) (is_missed more s k) h
 
 -- an entry makes the last part longer, or begins it anew
 window_kept :
@@ -140,10 +156,16 @@ window_kept :
 window_kept opening entries e c after s sound replays step lacks w =
     by (list_any (λ x. x.has_failed) (attempts_of after.dag s)) refl
   where
-    told : (k : ℕ) → (is_flagged c.dag s k ≡ true) ⊎ (fails_number s k e.event e.answer ≡ true)
-        → is_missed (w.since ++ e ∷ []) s k ≡ true
-    told k (inl x) = missed_first w.since e s k (w.told k x)
-    told k (inr x) = missed_last w.since e s k x
+    before : List Telling
+    before = tellings w.mid w.since c w.ends
+
+    more : List Telling
+    more = tellings_in c e.event e.answer
+
+    told : (k : ℕ) → (is_flagged c.dag s k ≡ true) ⊎ (is_missed more s k ≡ true)
+        → is_missed (before ++ more) s k ≡ true
+    told k (inl x) = missed_first before more s k (w.told k x)
+    told k (inr x) = missed_last before more s k x
 
     by : (b : Bool) → list_any (λ x. x.has_failed) (attempts_of after.dag s) ≡ b
         → IsWindow opening (entries ++ e ∷ []) after s
@@ -154,8 +176,11 @@ window_kept opening entries e c after s sound replays step lacks w =
           mid = w.mid;
           parts = ap (λ es. es ++ e ∷ []) w.parts ∙ append_assoc w.before w.since (e ∷ []);
           leads = w.leads;
-          open_since = stays_more s w.mid c after w.since e w.open_since step (lacks some);
-          told = λ k h. told k (steps_flag c after e.event e.answer sound step s k h);
+          ends = replays_more w.mid c after w.since e w.ends step;
+          open_since = stays_more s w.mid c after w.since e w.ends w.open_since step (lacks some);
+          told = λ k h.
+              ap (λ all. is_missed all s k) (tellings_more w.mid c after w.since e w.ends step)
+              ∙ told k (steps_flag c after e.event e.answer sound step s k h);
         }
     by false none =
         record {
@@ -164,7 +189,8 @@ window_kept opening entries e c after s sound replays step lacks w =
           mid = after;
           parts = sym (append-nil (entries ++ e ∷ []));
           leads = replays;
-          open_since = refl;
+          ends = refl;
+          open_since = tt;
           told = λ k h.
               absurd (clash (flag_counts (slice_get after.dag.states s) k h) none);
         }
@@ -202,7 +228,8 @@ watching_kept opening L entries e c after h step =
         → list_any (λ x. x.has_failed) (attempts_of after.dag s) ≡ true
         → is_complete after.dag s ≡ false
     lacks s (inl runs) some =
-        (sound.goes_on runs).settled.failed s (counts_failed (slice_get after.dag.states s) some)
+        (sound.job.goes_on runs).settled.failed s
+        (counts_failed (slice_get after.dag.states s) some)
     lacks s (inr aborted) some = (closed s aborted).lacks
 
 -- ---- the attempts that count as failed
@@ -332,24 +359,24 @@ flagged_in (Some state) m e =
 -- ---- the limit
 
 begins_unflagged :
-    (graph : List StageData) (limits : Limits) (saved : ℕ) (last : Option CoreData)
-    (c : CoreData) → IsOpening graph limits saved last c → (s k : ℕ)
+    (graph : List StageData) (limits : Limits) (saved : ℕ) (plan : List PlanLine)
+    (last : Option CoreData) (c : CoreData) → IsOpening graph limits saved plan last c → (s k : ℕ)
     → is_flagged c.dag s k ≡ true → is_missed [] s k ≡ true
-begins_unflagged graph limits saved last c o s k e =
+begins_unflagged graph limits saved plan last c o s k e =
     absurd (clash e (no_flag (attempt_among (slice_get c.dag.states s) k)
-    (opening_slot FewerFlags NoFlag graph limits saved last c (flags_calm limits) o s k)))
+    (opening_slot FewerFlags NoFlag graph limits saved plan last c (flags_calm limits) o s k)))
 
 shown : (limits : Limits) (opening end : CoreData) (entries : List Entry) (s : ℕ)
     → end.dag.limits ≡ limits → IsClosed end.dag s → IsWindow opening entries end s
-    → ShowsStageLimit limits opening entries s
+    → ShowsStageLimit limits opening entries end s
 shown limits opening end entries s same closed w =
     record {
       before = w.before;
       since = w.since;
       parts = w.parts;
       mid = w.mid;
-      end = end;
       leads = w.leads;
+      ends = w.ends;
       open_since = w.open_since;
       failures = picked.picked;
       among = picked.among;
@@ -369,20 +396,21 @@ shown limits opening end entries s same closed w =
     o : Option StageState
     o = slice_get end.dag.states s
 
-    picked : Picked (is_miss_of s) number_of w.since (numbers_in (slice_get end.dag.states s))
+    picked : Picked (is_miss_of s) number_of (tellings w.mid w.since end w.ends)
+        (numbers_in (slice_get end.dag.states s))
     picked =
-        all_picked (is_miss_of s) number_of w.since (numbers_in o)
+        all_picked (is_miss_of s) number_of (tellings w.mid w.since end w.ends) (numbers_in o)
         (λ k has. w.told k (flagged_in o k has))
 
 pub stage_limits_are_shown : StageLimitsAreShown
-stage_limits_are_shown graph limits saved last opening end entries s o sound replays e =
+stage_limits_are_shown graph limits saved plan last opening end entries s o sound replays e =
     shown limits opening end entries s h.limits (h.closed s e) (h.windows s (inr e))
   where
     begins : IsWatching opening limits [] opening
     begins =
         record {
           sound = sound;
-          limits = opening_limits graph limits saved last opening o;
+          limits = opening_limits graph limits saved plan last opening o;
           replays = refl;
           closed = λ r j. absurd (let job = o.job in search (rules, job, j));
           windows = λ r live. record {
@@ -391,8 +419,9 @@ stage_limits_are_shown graph limits saved last opening end entries s o sound rep
             mid = opening;
             parts = refl;
             leads = refl;
-            open_since = refl;
-            told = λ k f. begins_unflagged graph limits saved last opening o r k f;
+            ends = refl;
+            open_since = tt;
+            told = λ k f. begins_unflagged graph limits saved plan last opening o r k f;
           };
         }
 

@@ -13,10 +13,10 @@ use Rattle.sc_taskset.specs.declared.tasks.Verdict.TheVariants as verdicts
 use Rattle.sc_tracker.specs.Outputs.{forgotten_on}
 use Rattle.sc_tracker.specs.TrackerData.{TrackerData, is_of, outputs_of, place_of, tracker_data}
 use Rattle.sc_tracker.specs.Tracking.{has_room, is_bogus, with_forgotten_on, with_placed}
-use Rattle.sc_tracker.specs.Trust.{is_newer, seen_at}
+use Rattle.sc_tracker.specs.Trust.{is_live, is_newer, lost_at, seen_at}
 use Rattle.sc_tracker.proofs.BlockLemmas.{under_mapped}
 use Rattle.sc_dag.specs.DagData.{DagData, changed_newest, stage_at, with_state}
-use Rattle.sc_dag.specs.Losses.{after_seen}
+use Rattle.sc_dag.specs.Losses.{after_lost, after_seen}
 use Rattle.sc_dag.specs.Outputs.{is_complete}
 use Rattle.sc_dag.specs.Reports.{FailsStage, after_map_success, after_result_success, block_by, completed, completed_if, ended_in_own, is_finished_short, is_of_newest, is_repeat, registered_by, succeeded_in_both, succeeded_in_own, with_failed, with_output, with_result}
 use Rattle.sc_dag.specs.Submission.{IsSubmitted, this_stage}
@@ -160,6 +160,29 @@ seen_room d exec found = by (is_newer (slice_get d.tracker.trust exec) found) re
 
     by : (b : Bool) → is_newer (slice_get d.tracker.trust exec) found ≡ b
         → LeavesRoom d (after_seen d exec found)
+    by true e shuffle =
+        rw e (record {
+          has = mapped shuffle;
+          outputs =
+              rw (
+                under_mapped d.tracker.shuffles shuffle (forgotten_on exec),
+                length-map (outputs_of d.tracker shuffle) (forgotten_on exec),
+              ) refl;
+        })
+    by false e shuffle = rw e (room_itself d.tracker shuffle)
+
+pub lost_room : (d : DagData) (exec : ℕ) → LeavesRoom d (after_lost d exec)
+lost_room d exec = by (is_live (slice_get d.tracker.trust exec)) refl
+  where
+    mapped : (shuffle : ShuffleId)
+        → has_room (tracker_data (map (with_forgotten_on exec) d.tracker.shuffles)
+        (change_at d.tracker.trust exec (lost_at d.tracker.epoch)) (d.tracker.epoch + 1))
+        shuffle ≡ has_room d.tracker shuffle
+    mapped shuffle =
+        any_mapped (is_of shuffle) d.tracker.shuffles (with_forgotten_on exec) (λ s. refl)
+
+    by : (b : Bool) → is_live (slice_get d.tracker.trust exec) ≡ b
+        → LeavesRoom d (after_lost d exec)
     by true e shuffle =
         rw e (record {
           has = mapped shuffle;

@@ -2,6 +2,7 @@
 use Rattle.std.specs.Prelude.{ℕ, ◌+◌, ◌≡◌, Bool, false, List, Option, count_by}
 use Rattle.sc_ids.specs.Graphs.{StageData}
 use Rattle.sc_ids.specs.declared.limits.Limits.{Limits}
+use Rattle.sc_plan.specs.declared.lines.PlanLine.{PlanLine}
 use Rattle.sc_core.specs.CoreData.{CoreData}
 use Rattle.sc_core.specs.Journals.{Replays}
 use Rattle.sc_core.specs.Openings.{IsOpening}
@@ -11,12 +12,14 @@ use Rattle.sc_core.specs.declared.answers.Answer.{Answer}
 use Rattle.sc_core.specs.declared.answers.Job.TheVariants as jobs
 use Rattle.sc_core.specs.declared.entries.Entry.{Entry}
 use Rattle.sc_core.specs.declared.events.Event.{Event}
-use Rattle.sc_core.specs.declared.events.Event.TheVariants.{Post, Take}
+use Rattle.sc_core.specs.declared.events.Event.TheVariants.{Post, Release, Take, TellLost}
 
 -- an executor asked and got a task
 abbrev pub gives_task : Event → Answer → Bool
 gives_task (Take exec) answer = has_task answer
 gives_task (Post attempt outcome) answer = false
+gives_task (Release key) answer = false
+gives_task (TellLost exec) answer = false
 
 abbrev pub is_hand_out : Entry → Bool
 is_hand_out e = gives_task e.event e.answer
@@ -44,6 +47,7 @@ LimitsStay =
 -- a job that is aborted by its budget has handed out as many tasks as it may
 abbrev pub BudgetsAreShown : Type 0
 BudgetsAreShown =
-    (graph : List StageData) (limits : Limits) (saved : ℕ) (last : Option CoreData)
-    (opening end : CoreData) (entries : List Entry) → IsOpening graph limits saved last opening
+    (graph : List StageData) (limits : Limits) (saved : ℕ) (plan : List PlanLine)
+    (last : Option CoreData) (opening end : CoreData) (entries : List Entry)
+    → IsOpening graph limits saved plan last opening
     → Replays opening entries end → end.job ≡ jobs.Aborted Budget → ShowsBudget limits entries

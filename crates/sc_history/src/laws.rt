@@ -8,6 +8,7 @@ ghost use Rattle.sc_history.specs.Openings.{OpeningsAgree, OpeningsMakeRoom};
 ghost use Rattle.sc_history.specs.Results.{ResultsAreOnce};
 ghost use Rattle.sc_history.specs.Rooms.{ReplaysKeepRoom, StepsKeepRoom};
 ghost use Rattle.sc_history.specs.StageEvidence.{StageLimitsAreShown};
+ghost use Rattle.sc_history.specs.Tellings.{ReportsArePosted};
 
 /// A job begins in one way. A call does nothing.
 pub fn openings_agree()
@@ -28,6 +29,11 @@ pub fn hand_outs_are_counted()
     ensures counted { HandOutsAreCounted }
     ensures limits { LimitsStay }
     ensures budget { BudgetsAreShown }
+{}
+
+/// A report that is heard was posted, whenever it is told. A call does nothing.
+pub fn reports_are_posted()
+    ensures { ReportsArePosted }
 {}
 
 /// A job that is aborted shows its cause in its entries. A call does nothing.
