@@ -1,5 +1,5 @@
 -- What holds of every desk holds where its job begins.
-use Rattle.std.proofs.Common.{◌≡◌, ℕ, zero, suc, ◌+◌, false, if◌then◌else◌, List, [], ◌∷◌, length, Option, Some, None, IfSome, is_some, replicate, slice_get, refl, ap, sym, ◌∙◌}
+use Rattle.std.proofs.Common.{◌≡◌, ℕ, zero, suc, ◌+◌, true, false, if◌then◌else◌, List, [], ◌∷◌, length, Option, Some, None, IfSome, is_some, replicate, slice_get, refl, ap, sym, ◌∙◌}
 use Rattle.std.specs.Option.{option_map}
 use Rattle.std.proofs.lemmas.List.Elements.{All-nil}
 use Rattle.std.proofs.lemmas.List.{length-replicate}
@@ -15,7 +15,7 @@ use Rattle.sc_dag.specs.Openings.{FitsJob, blank_states}
 use Rattle.sc_dag.specs.Outputs.{results_in}
 use Rattle.sc_dag.specs.Submission.{is_map, this_stage}
 use Rattle.sc_core.specs.CoreData.{CoreData, result_stage}
-use Rattle.sc_core.specs.Openings.{IsOpening, tracker_behind}
+use Rattle.sc_core.specs.Openings.{IsOpening, plan_behind, tracker_behind}
 use Rattle.sc_core.specs.Sound.{IsSoundCore}
 use Rattle.sc_core.proofs.MoveLemmas.{Calm}
 use Rattle.sc_core.proofs.StageCallLemmas.{submitted_calm, submitted_results}
@@ -26,7 +26,7 @@ use Rattle.sc_jobs.specs.Plans.{IsJobFor}
 use Rattle.sc_jobs.proofs.TrackerLemmas.{new_trackers_fit, sized_trackers_fit, trackers_fit}
 use Rattle.sc_desk.specs.Begins.{FitsLast, IsFresh}
 use Rattle.sc_desk.specs.DeskData.{DeskData, core_of}
-use Rattle.sc_desk.specs.Sound.{HasEvidence, IsResult, IsSoundDesk, has_result, result_at, result_count}
+use Rattle.sc_desk.specs.Sound.{HasEvidence, IsPrompt, IsResult, IsSoundDesk, has_result, result_at, result_count}
 use Rattle.sc_desk.proofs.KeepLemmas.{done_is}
 use Rattle.sc_desk.proofs.RoomLemmas.{rooms_hold, submitted_rooms}
 use Rattle.sc_jobs.specs.Plans as plans
@@ -37,7 +37,13 @@ pub fits_behind :
     → FitsWork work (tracker_behind last limits)
 fits_behind work limits None fits =
     new_trackers_fit work (replicate limits.executors untold) 0
-fits_behind work limits (Some last) fits = fits
+fits_behind work limits (Some last) fits = fits.0
+
+-- and its plan has no lines
+unplanned :
+    (work : WorkData) (last : Option CoreData) → FitsLast work last → plan_behind last [] ≡ []
+unplanned work None fits = refl
+unplanned work (Some last) fits = fits.1
 
 pub fits_job :
     (work : WorkData) (limits : Limits) (job : JobData) (last : Option CoreData)
@@ -50,9 +56,9 @@ fits_job work limits job last is fits =
 pub opened_alike :
     (work : WorkData) (limits : Limits) (job : JobData) (last : Option CoreData)
     (x y : CoreData) → IsJobFor work job → FitsLast work last → IfSome last IsSoundCore
-    → IsOpening job.graph limits 0 last x → IsOpening job.graph limits 0 last y → x ≡ y
+    → IsOpening job.graph limits 0 [] last x → IsOpening job.graph limits 0 [] last y → x ≡ y
 opened_alike work limits job last x y is fits sound a b =
-    openings_agree job.graph limits 0 last x y is.job (fits_job work limits job last is fits)
+    openings_agree job.graph limits 0 [] last x y is.job (fits_job work limits job last is fits)
     sound a b
 
 -- ---- nothing is there
@@ -103,6 +109,7 @@ fresh_sound work d last is fits core fresh results carried right =
       opened = fresh.opening_is;
       stages = rw (fresh.core_is, calm.stages) opens.opens.numbered;
       limits = ap (λ (c : CoreData). c.dag.limits) fresh.core_is ∙ calm.limits ∙ opens.limits_are;
+      prompt = rw fresh.core_is prompt;
       places = ap length results ∙ length-replicate (result_count (core_of d).dag) None;
       won = won;
       own = rw results (none_of work d.job (result_count (core_of d).dag));
@@ -112,8 +119,16 @@ fresh_sound work d last is fits core fresh results carried right =
       fits = fitting;
     }
   where
-    opens : IsOpening d.job.graph work.limits 0 last d.journal.opening
+    opens : IsOpening d.job.graph work.limits 0 [] last d.journal.opening
     opens = fresh.opening_is
+
+    prompt : IsPrompt d.journal.opening
+    prompt =
+        record {
+          plan = opens.plan_is ∙ unplanned work last fits;
+          shelf = λ r. opens.shelf;
+          out = rw opens.running (All-nil (λ r. r.is_out ≡ true));
+        }
 
     calm : Calm opens.dag d.journal.opening.dag
     calm =
@@ -134,7 +149,7 @@ fresh_sound work d last is fits core fresh results carried right =
     won p =
         ap (λ rs. is_some (result_at rs p)) results
         ∙ nothing_at (result_count (core_of d).dag) p
-        ∙ sym (done_is (core_of d).dag (result_stage (core_of d).dag) p core.result
+        ∙ sym (done_is (core_of d).dag (result_stage (core_of d).dag) p core.job.result
         ∙ ap (λ (c : CoreData).
         at_or (results_in (slice_get c.dag.states (result_stage (core_of d).dag))) p false)
         fresh.core_is

@@ -24,7 +24,7 @@ use Rattle.sc_jobs.specs.Fitting.{FitsWork}
 use Rattle.sc_jobs.specs.Plans.{maps_of}
 use Rattle.sc_desk.specs.DeskData.{DeskData, core_of}
 use Rattle.sc_desk.specs.Entries.{Enters}
-use Rattle.sc_desk.specs.Sound.{HasEvidence, IsEvident, IsResult, IsSoundDesk, has_result, result_at, result_count}
+use Rattle.sc_desk.specs.Sound.{HasEvidence, IsEvident, IsPrompt, IsResult, IsSoundDesk, has_result, result_at, result_count}
 use Rattle.sc_desk.proofs.RoomLemmas.{rooms_hold}
 use Rattle.sc_desk.proofs.DagLemmas.{Leaves, SameJob}
 use Rattle.sc_desk.proofs.StepLemmas.{Wins}
@@ -96,16 +96,17 @@ keeps_rest work d after by event answer sound enters same evident =
 with_results :
     (work : WorkData) (d after : DeskData) (by : Mark) (event : Event) (answer : Answer)
     → IsSoundDesk work d → Enters d by event answer after → KeepsRest work d after
-    → length after.results ≡ length d.results
+    → IsPrompt (core_of after) → length after.results ≡ length d.results
     → ((p : ℕ) → is_some (result_at after.results p) ≡ has_result (core_of after).dag p)
     → ((p : ℕ) → IfSome (result_at after.results p) (IsResult work d.job p))
     → IsSoundDesk work after
-with_results work d after by event answer sound enters rest long won own =
+with_results work d after by event answer sound enters rest prompt long won own =
     record {
       last = sound.last;
       opened = rw (enters.job, enters.opening) sound.opened;
       stages = rest.stages;
       limits = rest.limits;
+      prompt = prompt;
       places = long ∙ sound.places ∙ sym rest.count;
       won = won;
       own = rw enters.job own;
@@ -119,11 +120,11 @@ with_results work d after by event answer sound enters rest long won own =
 pub leaves_keep :
     (work : WorkData) (d after : DeskData) (by : Mark) (event : Event) (answer : Answer)
     → IsSoundDesk work d → IsSoundCore (core_of d) → Enters d by event answer after
-    → Leaves (core_of d).dag (core_of after).dag → IsEvident work d.job event answer
-    → after.results ≡ d.results → IsSoundDesk work after
-leaves_keep work d after by event answer sound core enters leaves evident same =
+    → Leaves (core_of d).dag (core_of after).dag → IsPrompt (core_of after)
+    → IsEvident work d.job event answer → after.results ≡ d.results → IsSoundDesk work after
+leaves_keep work d after by event answer sound core enters leaves prompt evident same =
     with_results work d after by event answer sound enters
-    (keeps_rest work d after by event answer sound enters leaves.job evident)
+    (keeps_rest work d after by event answer sound enters leaves.job evident) prompt
     (ap length same) won (rw same sound.own)
   where
     a : DagData
@@ -135,9 +136,9 @@ leaves_keep work d after by event answer sound core enters leaves evident same =
     won : (p : ℕ) → is_some (result_at after.results p) ≡ has_result (core_of after).dag p
     won p =
         ap (λ rs. is_some (result_at rs p)) same ∙ sound.won p
-        ∙ done_is a (result_stage a) p core.result
+        ∙ done_is a (result_stage a) p core.job.result
         ∙ ap (λ rs. at_or rs p false) (sym (leaves.results (result_stage a)))
-        ∙ sym (results_tell a b p leaves.job.stages core.result)
+        ∙ sym (results_tell a b p leaves.job.stages core.job.result)
 
 -- an entry that wins one, whose rows are kept
 pub wins_keep :
@@ -146,14 +147,15 @@ pub wins_keep :
     → IsSoundDesk work d → IsSoundCore (core_of d) → Enters d by event answer after
     → at.stage ≡ result_stage (core_of d).dag
     → at.partition < (stage_at (core_of d).dag at.stage).tasks
-    → Wins (core_of d).dag at (core_of after).dag → IsEvident work d.job event answer
+    → Wins (core_of d).dag at (core_of after).dag → IsPrompt (core_of after)
+    → IsEvident work d.job event answer
     → IsResult work d.job at.partition rows
     → after.results ≡ change_at d.results at.partition (λ _. Some rows)
     → IsSoundDesk work after
-wins_keep work d after by event answer at rows sound core enters stage within wins evident is
-    same =
+wins_keep work d after by event answer at rows sound core enters stage within wins prompt evident
+    is same =
     with_results work d after by event answer sound enters
-    (keeps_rest work d after by event answer sound enters wins.job evident)
+    (keeps_rest work d after by event answer sound enters wins.job evident) prompt
     (ap length same ∙ length_change_at d.results at.partition (λ _. Some rows))
     (λ p. won p (cases_eq at.partition p)) (λ p. own p (cases_eq at.partition p))
   where
@@ -183,7 +185,7 @@ wins_keep work d after by event answer at rows sound core enters stage within wi
     there : at.partition < length before
     there =
         let long : length before ≡ result_count (core_of d).dag =
-        rw core.result at (core.dag.results (result_stage (core_of d).dag)) in
+        rw core.job.result at (core.job.dag.results (result_stage (core_of d).dag)) in
         omega (arith, below, long)
 
     room : at.partition < length d.results
@@ -192,7 +194,7 @@ wins_keep work d after by event answer at rows sound core enters stage within wi
     tells : (p : ℕ) → has_result (core_of after).dag p
         ≡ at_or (change_at before at.partition (λ _. true)) p false
     tells p =
-        results_tell (core_of d).dag (core_of after).dag p wins.job.stages core.result
+        results_tell (core_of d).dag (core_of after).dag p wins.job.stages core.job.result
         ∙ ap (λ rs. at_or rs p false) now
 
     won : (p : ℕ) → (at.partition ≡ p) ⊎ (at.partition ≡ p → ⊥)
@@ -208,7 +210,7 @@ wins_keep work d after by event answer at rows sound core enters stage within wi
         ∙ ap (λ o. is_some o)
         (at_or_change_other d.results at.partition p None (λ _. Some rows) (λ e. ne (sym e)))
         ∙ sound.won p
-        ∙ done_is (core_of d).dag (result_stage (core_of d).dag) p core.result
+        ∙ done_is (core_of d).dag (result_stage (core_of d).dag) p core.job.result
         ∙ sym (at_or_change_other before at.partition p false (λ _. true) (λ e. ne (sym e)))
         ∙ sym (tells p)
 

@@ -1,5 +1,6 @@
 pub mod RoomLemmas
 pub mod DagLemmas
+pub mod PromptLemmas
 pub mod StepLemmas
 pub mod TaskLemmas
 pub mod KeepLemmas

@@ -1,5 +1,5 @@
 -- What holds of every desk holds behind each report.
-use Rattle.std.proofs.Common.{◌≡◌, ◌≢◌, ℕ, ◌&&◌, Bool, true, false, if◌then◌else◌, List, Option, Some, None, refl, ap, sym, subst, ◌∙◌, rules, true≢false}
+use Rattle.std.proofs.Common.{◌≡◌, ◌≢◌, ℕ, ◌&&◌, Bool, true, false, if◌then◌else◌, List, Option, Some, None, length, refl, ap, sym, subst, ◌∙◌, rules, true≢false}
 use Rattle.sc_base.specs.Lists.{at_or}
 use Rattle.sc_value.specs.Datum.{Datum}
 use Rattle.sc_ids.specs.Changes.{change_at}
@@ -28,10 +28,11 @@ use Rattle.sc_net.specs.declared.findings.Finding.{Finding}
 use Rattle.sc_net.specs.declared.findings.Finding.TheVariants as findings
 use Rattle.sc_desk.specs.DeskData.{DeskData, core_of}
 use Rattle.sc_desk.specs.Entries.{Enters}
-use Rattle.sc_desk.specs.Posts.{IsGiven, IsGivenIf, IsGivenOf, IsKnown, attempt_of, is_finished, results_after}
-use Rattle.sc_desk.specs.Sound.{EndedFor, IsResult, IsSoundDesk}
+use Rattle.sc_desk.specs.Posts.{IsGiven, IsGivenIf, IsGivenOf, IsKnown, Receives, attempt_of, is_finished, results_after}
+use Rattle.sc_desk.specs.Sound.{EndedFor, IsPrompt, IsResult, IsSoundDesk}
 use Rattle.sc_desk.proofs.KeepLemmas.{leaves_keep, wins_keep}
-use Rattle.sc_desk.proofs.StepLemmas.{IsTold, IsWon, posts_told, posts_win, steps_leave}
+use Rattle.sc_desk.proofs.PromptLemmas.{is_now, posts_now, posts_prompt}
+use Rattle.sc_desk.proofs.StepLemmas.{IsTold, IsWon, posts_leave, posts_told, posts_win}
 use Rattle.sc_desk.proofs.TaskLemmas.{result_target_is}
 
 -- ---- who reports
@@ -65,7 +66,7 @@ fits_so c after a outcome answer r step runs one =
     (subst (λ o. core.PostsOf o c a outcome answer after) one
     (subst (λ b. core.PostsIf b c a outcome answer after) runs step)).0
 
-pub answered_known :
+answered_known :
     (d : DeskData) (after : CoreData) (report : ReportData) (answer : Answer)
     → IsGiven d report.task
     → core.Posts (core_of d) (attempt_of report) (outcome_of report.finding) answer after
@@ -92,6 +93,28 @@ misfit_strange d report off known =
     by false e o f h = true≢false (sym h)
     by true e None f h = true≢false (sym h)
     by true e (Some r) f h = clash ((known r e f).fitting) (not_true _ h)
+
+-- who is no stranger is received, and told at once
+pub received :
+    (d after : DeskData) (by : Mark) (report : ReportData) (at : ℕ) (answer : Answer)
+    → IsPrompt (core_of d) → IsGiven d report.task → at ≡ length d.journal.entries
+    → Enters d by (Post (attempt_of report) (outcome_of report.finding)) answer after
+    → after.results ≡ results_after d.results report answer
+    → Receives d by report at answer after
+received d after by report at answer prompt given place enters results =
+    record {
+      known = answered_known d (core_of after) report answer given enters.step;
+      place = place;
+      enters = enters;
+      at_once = λ e. clash now (ap is_now e);
+      no_loss = λ e. clash now (ap is_now e);
+      results = results;
+    }
+  where
+    now : is_now answer ≡ true
+    now =
+        posts_now (core_of d) (core_of after) (attempt_of report) (outcome_of report.finding)
+        answer prompt.plan enters.step
 
 -- ---- what is told
 
@@ -139,6 +162,8 @@ finished_is says.Registered e = absurd (true≢false (sym e))
 finished_is says.Bogus e = absurd (true≢false (sym e))
 finished_is says.Again e = absurd (true≢false (sym e))
 finished_is says.Resubmitted e = absurd (true≢false (sym e))
+finished_is says.Shelved e = absurd (true≢false (sym e))
+finished_is says.Told e = absurd (true≢false (sym e))
 
 -- ---- the desk
 
@@ -151,6 +176,11 @@ pub posted_keeps :
 posted_keeps work d after by report answer sound whole true_of given enters results =
     one (is_finished answer) refl results
   where
+    prompt : IsPrompt (core_of after)
+    prompt =
+        posts_prompt (core_of d) (core_of after) (attempt_of report) (outcome_of report.finding)
+        answer sound.prompt enters.step
+
     of_job : IsTold (core_of d) (attempt_of report) → report.task.job ≡ d.job
     of_job told =
         ap (λ (t : TaskData). t.job)
@@ -171,6 +201,7 @@ posted_keeps work d after by report answer sound whole true_of given enters resu
     won e kept =
         let w : IsWon (core_of d) (attempt_of report) (outcome_of report.finding) (core_of after) =
         posts_win (core_of d) (core_of after) (attempt_of report) (outcome_of report.finding) whole
+        sound.prompt.plan
         (subst (λ x. core.Posts (core_of d) (attempt_of report) (outcome_of report.finding) x
         (core_of after)) e enters.step) in
         let has : HasRows work report.task report.finding =
@@ -181,14 +212,14 @@ posted_keeps work d after by report answer sound whole true_of given enters resu
         let kind : is_map (at_or (core_of d).dag.stages (attempt_of report).stage no_stage).target
         ≡ false =
         subst (λ (s : ℕ). is_map (at_or (core_of d).dag.stages s no_stage).target ≡ false)
-        (sym w.stage) whole.result in
+        (sym w.stage) whole.job.result in
         let is : IsResult work d.job (attempt_of report).partition has.rows =
         subst (λ (x : TargetData). own_value work x ≡ whole_stream has.rows)
         (ap (λ j. target_of work j (attempt_of report).stage (attempt_of report).partition) job
         ∙ result_target_is work d.job (core_of d).dag.stages (attempt_of report).stage
         (attempt_of report).partition sound.stages kind) has.own in
         wins_keep work d after by (Post (attempt_of report) (outcome_of report.finding)) answer
-        (attempt_of report) has.rows sound whole enters w.stage w.within w.wins evident is
+        (attempt_of report) has.rows sound whole enters w.stage w.within w.wins prompt evident is
         (kept ∙ ap (λ o. change_at d.results (attempt_of report).partition (λ _. o)) has.kept)
 
     one : (b : Bool) → is_finished answer ≡ b
@@ -199,6 +230,6 @@ posted_keeps work d after by report answer sound whole true_of given enters resu
     one false e kept =
         leaves_keep work d after by (Post (attempt_of report) (outcome_of report.finding)) answer
         sound whole enters
-        (steps_leave (core_of d) (core_of after)
-        (Post (attempt_of report) (outcome_of report.finding)) answer enters.step
-        (λ f. clash (ap is_finished f) e)) evident kept
+        (posts_leave (core_of d) (core_of after) (attempt_of report) (outcome_of report.finding)
+        answer sound.prompt.plan enters.step (λ f. clash (ap is_finished f) e)) prompt evident
+        kept

@@ -1,5 +1,5 @@
 -- What becomes of the stages and the results of a job, by what happens to its core.
-use Rattle.std.proofs.Common.{◌≡◌, ◌≢◌, ℕ, ◌<◌, ◌&&◌, not, Bool, true, false, if◌then◌else◌, Option, Some, None, slice_get, refl, ap, sym, subst, ◌∙◌, rules}
+use Rattle.std.proofs.Common.{◌≡◌, ◌≢◌, ℕ, ◌<◌, ◌&&◌, not, Bool, true, false, if◌then◌else◌, [], Option, Some, None, slice_get, refl, ap, sym, subst, ◌∙◌, rules}
 use Rattle.sc_ids.specs.Changes.{change_at}
 use Rattle.sc_ids.specs.declared.attempts.AttemptId.{AttemptId}
 use Rattle.sc_ids.specs.declared.blocks.Loc.{Loc}
@@ -27,14 +27,11 @@ use Rattle.sc_dag.proofs.Tests.{both_left, not_true}
 use Rattle.sc_core.specs.CoreData.{CoreData, job_runs, result_stage, running_of, taken_off, told_once, with_dag}
 use Rattle.sc_core.specs.Posts.{Posts, PostsIf, PostsOf, fits}
 use Rattle.sc_core.specs.Sound.{IsSoundCore}
-use Rattle.sc_core.specs.Steps.{Steps}
 use Rattle.sc_core.specs.Takes.{Takes}
 use Rattle.sc_core.specs.Tells.{FailsBy, FailsOrAborts, FollowsUp, IsGone, LooksAgain, Misses, MissesIf, Tells, TellsFailure, TellsFailureIf, TellsMap, TellsResult, after_failure, after_result, done_if, is_zombie_in, released, success_answer, with_result_of}
 use Rattle.sc_core.specs.declared.answers.Abort.TheVariants as aborts
 use Rattle.sc_core.specs.declared.answers.Answer.{Answer}
 use Rattle.sc_core.specs.declared.answers.Answer.TheVariants as says
-use Rattle.sc_core.specs.declared.events.Event.{Event}
-use Rattle.sc_core.specs.declared.events.Event.TheVariants.{Post, Take}
 use Rattle.sc_core.specs.declared.events.Outcome.{Outcome}
 use Rattle.sc_core.specs.declared.events.Outcome.TheVariants as outcomes
 use Rattle.sc_core.specs.declared.running.Running.{Running}
@@ -45,6 +42,7 @@ use Rattle.sc_core.proofs.StageCallLemmas.{completes_calm, completes_results, fa
 use Rattle.sc_core.proofs.StepLemmas.{posted}
 use Rattle.sc_core.proofs.TaskCallLemmas.{ended_moves, ended_results, failed_moves, failed_results, hold_free, hold_results, map_moves, map_results, result_moves, seen_calm}
 use Rattle.sc_history.proofs.StageRoomLemmas.{result_tracker}
+use Rattle.sc_desk.proofs.PromptLemmas.{told_to}
 use Rattle.sc_desk.proofs.RoomLemmas.{completes_rooms, fails_rooms, map_rooms, rooms, seen_rooms, submitted_rooms}
 use Rattle.sc_desk.proofs.DagLemmas.{Leaves, SameJob, hold_wants, leaves_itself, leaves_of, leaves_then, new_result, repeated_result, same_of, same_then, with_one, within_stage}
 
@@ -338,13 +336,14 @@ takes_leave c after exec says.Bogus h = absurd h
 takes_leave c after exec says.Finished h = absurd h
 takes_leave c after exec says.Again h = absurd h
 takes_leave c after exec says.Resubmitted h = absurd h
+takes_leave c after exec says.Shelved h = absurd h
+takes_leave c after exec says.Told h = absurd h
 
--- no event that isn't answered so wins a result
-pub steps_leave :
-    (c after : CoreData) (event : Event) (answer : Answer) → Steps c event answer after
-    → answer ≢ says.Finished → Leaves c.dag after.dag
-steps_leave c after (Take exec) answer step other = takes_leave c after exec answer step
-steps_leave c after (Post a outcome) answer step other = by (job_runs c) step
+-- no report that isn't answered so wins a result
+pub posts_leave :
+    (c after : CoreData) (a : AttemptId) (outcome : Outcome) (answer : Answer) → c.plan ≡ []
+    → Posts c a outcome answer after → answer ≢ says.Finished → Leaves c.dag after.dag
+posts_leave c after a outcome answer plan step other = by (job_runs c) step
   where
     result : (b : Bool) (r : Running)
         → LeavesOrWins b (taken_off c a) r.hand_out.attempt answer after → Leaves c.dag after.dag
@@ -360,13 +359,14 @@ steps_leave c after (Post a outcome) answer step other = by (job_runs c) step
     tells r (outcomes.Failed cause) h =
         failure_leaves (taken_off c a) after r cause answer h
 
-    of : (o : Option Running) → PostsOf o c a outcome answer after → Leaves c.dag after.dag
-    of None (is, left) = left_as c after (told_once c) refl left
-    of (Some r) (fit, h) = tells r outcome h
+    of : (o : Option Running) → running_of c a ≡ o → PostsOf o c a outcome answer after
+        → Leaves c.dag after.dag
+    of None e (is, left) = left_as c after (told_once c) refl left
+    of (Some r) e (fit, h) = tells r outcome (told_to c after a outcome answer r plan e h)
 
     by : (b : Bool) → PostsIf b c a outcome answer after → Leaves c.dag after.dag
     by false (is, left) = left_as c after c refl left
-    by true h = of (running_of c a) h
+    by true h = of (running_of c a) refl h
 
 -- a result is won by the report of an attempt of the result stage that runs
 pub record IsWon (c : CoreData) (a : AttemptId) (outcome : Outcome) (after : CoreData) : Type 0 where
@@ -376,9 +376,9 @@ pub record IsWon (c : CoreData) (a : AttemptId) (outcome : Outcome) (after : Cor
   pub wins : Wins c.dag a after.dag
 
 pub posts_win :
-    (c after : CoreData) (a : AttemptId) (outcome : Outcome) → IsSoundCore c
+    (c after : CoreData) (a : AttemptId) (outcome : Outcome) → IsSoundCore c → c.plan ≡ []
     → Posts c a outcome says.Finished after → IsWon c a outcome after
-posts_win c after a outcome sound step = by (job_runs c) step
+posts_win c after a outcome sound plan step = by (job_runs c) step
   where
     result : (b : Bool) (r : Running)
         → LeavesOrWins b (taken_off c a) r.hand_out.attempt says.Finished after
@@ -393,7 +393,7 @@ posts_win c after a outcome sound step = by (job_runs c) step
     tells r e (outcomes.Failed cause) fit h =
         absurd (failure_says (taken_off c a) after r cause h)
     tells r e outcomes.Result fit h =
-        let p = posted c a r sound e in
+        let p = posted c a r sound.job e in
         let kind : is_map (stage_at c.dag r.hand_out.attempt.stage).target ≡ false =
         not_true (is_map (stage_at c.dag r.hand_out.attempt.stage).target)
         (both_left _ _ fit) in
@@ -402,8 +402,8 @@ posts_win c after a outcome sound step = by (job_runs c) step
         record {
           outcome_is = refl;
           stage = subst (λ (b : AttemptId). b.stage ≡ result_stage c.dag) p.attempt
-              (runs_results c r sound p.well kind);
-          within = within_stage c.dag a r.exec sound.dag runs;
+              (runs_results c r sound.job p.well kind);
+          within = within_stage c.dag a r.exec sound.job.dag runs;
           wins = subst (λ b. Wins c.dag b after.dag) p.attempt
               (result (is_repeat c.dag r.hand_out.attempt) r
               (result_leaves (taken_off c a) after r says.Finished h));
@@ -412,7 +412,8 @@ posts_win c after a outcome sound step = by (job_runs c) step
     of : (o : Option Running) → running_of c a ≡ o → PostsOf o c a outcome says.Finished after
         → IsWon c a outcome after
     of None e (is, left) = absurd (search (rules, is))
-    of (Some r) e (fit, h) = tells r e outcome fit h
+    of (Some r) e (fit, h) =
+        tells r e outcome fit (told_to c after a outcome says.Finished r plan e h)
 
     by : (b : Bool) → PostsIf b c a outcome says.Finished after → IsWon c a outcome after
     by false (is, left) = absurd (search (rules, is))

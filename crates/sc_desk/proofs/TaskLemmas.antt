@@ -166,9 +166,9 @@ pub givable :
 givable job c after exec (says.Task h) numbered sound (asking, out, lt, is) =
     let left : IsSoundCore (with_task c exec h) = subst IsSoundCore is sound in
     let well : RunsWell (with_task c exec h) (running_on h exec) =
-    last_of (RunsWell (with_task c exec h)) c.running (running_on h exec) left.running in
+    last_of (RunsWell (with_task c exec h)) c.running (running_on h exec) left.job.running in
     is_task job c h numbered
-    (within_stage (with_task c exec h).dag h.attempt exec left.dag well.in_set)
+    (within_stage (with_task c exec h).dag h.attempt exec left.job.dag well.in_set)
     (ap length out.inputs)
 givable job c after exec (says.Wait out) numbered sound h = tt
 givable job c after exec (says.Busy held) numbered sound h = tt
@@ -183,6 +183,8 @@ givable job c after exec says.Bogus numbered sound h = absurd h
 givable job c after exec says.Finished numbered sound h = absurd h
 givable job c after exec says.Again numbered sound h = absurd h
 givable job c after exec says.Resubmitted numbered sound h = absurd h
+givable job c after exec says.Shelved numbered sound h = absurd h
+givable job c after exec says.Told numbered sound h = absurd h
 
 -- what a task of the stage that gives the results is to compute
 pub result_target_is :

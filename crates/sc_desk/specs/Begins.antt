@@ -21,7 +21,7 @@ pub record Begins (work : WorkData) (carried : CarriedData) (last : Option CoreD
   pub goal_is : d.job.goal ≡ goal
   pub cut : IsCut work carried (goal_node work goal) d.job.graph
   pub carried_on : d.carried ≡ after_job carried d.job.graph
-  pub opening : IsOpening d.job.graph work.limits 0 last d.journal.opening
+  pub opening : IsOpening d.job.graph work.limits 0 [] last d.journal.opening
   pub entries : d.journal.entries ≡ []
   pub core : core_of d ≡ d.journal.opening
   pub results : d.results ≡ replicate (result_count (core_of d).dag) None
@@ -34,14 +34,15 @@ IsHandedBack work carried goal back =
     ⊎ ((graph : List StageData) × IsCut work carried (goal_node work goal) graph
     × (back ≡ after_job carried graph))
 
--- the tracker of the job before, where there is one, fits the work
+-- what the job before leaves, where there is one, fits the work: its tracker does, and its plan has
+-- no lines
 abbrev pub FitsLast : WorkData → Option CoreData → Type 0
 FitsLast work None = Unit {0}
-FitsLast work (Some last) = FitsWork work last.dag.tracker
+FitsLast work (Some last) = FitsWork work last.dag.tracker × (last.plan ≡ [])
 
 -- a journal of a job that begins: nothing has happened
 pub record IsFresh (graph : List StageData) (limits : Limits) (last : Option CoreData)
     (j : JournalData) : Type 0 where
-  pub opening_is : IsOpening graph limits 0 last j.opening
+  pub opening_is : IsOpening graph limits 0 [] last j.opening
   pub none : j.entries ≡ []
   pub core_is : j.core ≡ j.opening

@@ -1,5 +1,5 @@
 -- What becomes of a report that is posted.
-use Rattle.std.specs.Prelude.{ℕ, ◌≡◌, Bool, true, false, List, Option, Some, None, if◌then◌else◌, length}
+use Rattle.std.specs.Prelude.{ℕ, ◌≡◌, ◌≢◌, Bool, true, false, List, Option, Some, None, if◌then◌else◌, length}
 use Rattle.sc_ids.specs.Changes.{change_at}
 use Rattle.sc_ids.specs.declared.attempts.AttemptId.{AttemptId}
 use Rattle.sc_ids.specs.declared.attempts.Mark.{Mark}
@@ -60,12 +60,15 @@ abbrev pub IsGiven : DeskData → TaskData → Type 0
 IsGiven d t =
     IsGivenIf (job_runs (core_of d)) (running_of (core_of d) t.hand_out.attempt) d.job t
 
--- a report is received: it is no stranger, and its entry, at this place, has what the core answers
+-- a report is received: it is no stranger, and its entry, at this place, has what the core answers,
+-- which is never that it is to be told later, nor that an executor is told lost
 pub record Receives (d : DeskData) (by : Mark) (report : ReportData) (at : ℕ) (answer : Answer)
     (after : DeskData) : Type 0 where
   pub known : IsKnown d report
   pub place : at ≡ length d.journal.entries
   pub enters : Enters d by (Post (attempt_of report) (outcome_of report.finding)) answer after
+  pub at_once : answer ≢ says.Shelved
+  pub no_loss : answer ≢ says.Told
   pub results : after.results ≡ results_after d.results report answer
 
 -- a report is posted: it is received, or a stranger that is handed back with nothing changed

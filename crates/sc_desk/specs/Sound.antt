@@ -1,5 +1,5 @@
 -- What holds of every desk.
-use Rattle.std.specs.Prelude.{ℕ, ◌≡◌, ◌≢◌, ◌<◌, All, Bool, true, List, Option, Some, None, IfSome, is_some, length}
+use Rattle.std.specs.Prelude.{ℕ, ◌≡◌, ◌≢◌, ◌<◌, All, Bool, true, List, [], Option, Some, None, IfSome, is_some, length}
 use Rattle.sc_base.specs.Lists.{at_or}
 use Rattle.sc_value.specs.Datum.{Datum}
 use Rattle.sc_expr.specs.declared.exprs.Raise.{Raise}
@@ -15,13 +15,13 @@ use Rattle.sc_stagecut.specs.Carrying.{AreRightBounds, IsCarriedFor}
 use Rattle.sc_dag.specs.DagData.{DagData, stage_at}
 use Rattle.sc_dag.specs.Openings.{AreNumbered}
 use Rattle.sc_dag.specs.Outputs.{is_done}
-use Rattle.sc_core.specs.CoreData.{CoreData, result_stage}
+use Rattle.sc_core.specs.CoreData.{CoreData, job_runs, result_stage}
 use Rattle.sc_core.specs.Openings.{IsOpening}
 use Rattle.sc_core.specs.declared.answers.Answer.{Answer}
 use Rattle.sc_core.specs.declared.answers.Answer.TheVariants as says
 use Rattle.sc_core.specs.declared.entries.Entry.{Entry}
 use Rattle.sc_core.specs.declared.events.Event.{Event}
-use Rattle.sc_core.specs.declared.events.Event.TheVariants.{Post, Take}
+use Rattle.sc_core.specs.declared.events.Event.TheVariants.{Post, Release, Take, TellLost}
 use Rattle.sc_core.specs.declared.events.Outcome.{Outcome}
 use Rattle.sc_core.specs.declared.events.Outcome.TheVariants as outcomes
 use Rattle.sc_jobs.specs.Fitting.{FitsWork}
@@ -73,24 +73,36 @@ EndedFor work job a (outcomes.Map loc) = Unit {0}
 EndedFor work job a outcomes.Result = Unit {0}
 EndedFor work job a (outcomes.Failed cause) = FailedFor work job a cause
 
--- what happened has its evidence: a report that was told, and not ignored, is true of its attempt
+-- what happened has its evidence: a report that was told, and not ignored, is true of its attempt,
+-- and no report is told late yet, nor an executor told lost
 abbrev pub IsEvident : WorkData → JobData → Event → Answer → Type 0
 IsEvident work job (Take exec) answer = Unit {0}
 IsEvident work job (Post a outcome) answer = answer ≢ says.Ignored → EndedFor work job a outcome
+IsEvident work job (Release key) answer = ⊥
+IsEvident work job (TellLost exec) answer = ⊥
 
 abbrev pub HasEvidence : WorkData → JobData → Entry → Type 0
 HasEvidence work job e = IsEvident work job e.event e.answer
 
 -- ---- desks
 
+-- a core tells each report at once: its plan has no lines, while its job runs no report is to be
+-- told later, and an attempt is out until it is told
+pub record IsPrompt (c : CoreData) : Type 0 where
+  pub plan : c.plan ≡ []
+  pub shelf : job_runs c ≡ true → c.shelf ≡ []
+  pub out : All (λ r. r.is_out ≡ true) c.running
+
 -- every desk
 pub record IsSoundDesk (work : WorkData) (d : DeskData) : Type 0 where
-  -- its job began behind another one or none, and saves nothing
+  -- its job began behind another one or none, under a plan without lines, and saves nothing
   pub last : Option CoreData
-  pub opened : IsOpening d.job.graph work.limits 0 last d.journal.opening
+  pub opened : IsOpening d.job.graph work.limits 0 [] last d.journal.opening
   -- the core has the job's stages by their numbers, and the work's limits
   pub stages : AreNumbered d.job.graph (core_of d).dag.stages
   pub limits : (core_of d).dag.limits ≡ work.limits
+  -- and tells each report at once
+  pub prompt : IsPrompt (core_of d)
   -- there is a place for each result, with rows exactly where the core has it
   pub places : length d.results ≡ result_count (core_of d).dag
   pub won : (p : ℕ) → is_some (result_at d.results p) ≡ has_result (core_of d).dag p

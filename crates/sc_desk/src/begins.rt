@@ -16,6 +16,7 @@ use crate::desks::Desk;
 use sc_columns::Rows;
 use sc_core::{Core, Journal};
 use sc_jobs::{Goal, Job};
+use sc_plan::Plan;
 use sc_stagecut::Carried;
 use sc_work::{Naming, SharedWork};
 use std::alloc::{AllocError, AllocFailed, Global};
@@ -23,7 +24,8 @@ use std::alloc::{AllocError, AllocFailed, Global};
 impl<W: Naming> Desk<W> {
     /// The desk of a job that begins, behind what is carried and behind the core of another job or
     /// none. Where memory is wanting, what is carried is handed back, with the new stages of the
-    /// job or without them.
+    /// job or without them. The core is opened under a plan without lines, so each report is told
+    /// at once, and nobody is told lost: reports aren't told late yet.
     pub fn begin(
         alloc: Global,
         work: SharedWork<W>,
@@ -115,8 +117,9 @@ fn journal_of<W: Naming>(
     job.is_job();
     are_sound(last);
     let limits = work.get().limits();
-    let opening = Core::open(alloc, job.graph(), limits, 0, last)?;
-    let core = Core::open(alloc, job.graph(), limits, 0, last)?;
+    let plan = Plan::empty(alloc);
+    let opening = Core::open(alloc, job.graph(), limits, 0, &plan, last)?;
+    let core = Core::open(alloc, job.graph(), limits, 0, &plan, last)?;
     Ok(Journal::begin(alloc, opening, core))
 }
 

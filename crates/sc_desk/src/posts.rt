@@ -34,8 +34,8 @@ pub enum Posted<W: Naming> {
 
 impl<W: Naming> Desk<W> {
     /// A report comes. It is told to the core, with an entry, and the rows of a result that
-    /// finishes its partition are kept; a stranger is handed back, and enters nothing. A refused
-    /// call changes nothing and hands the report back.
+    /// finishes its partition are kept; a stranger is handed back, and enters nothing. No report
+    /// is told late yet. A refused call changes nothing and hands the report back.
     pub fn post(&mut self, by: Mark, report: Report<W>) -> Result<Posted<W>, AllocFailed<Report<W>>>
         ensures posted { IfOk result (λ p. Posts self.old by report p self.new) }
         ensures refused { OnErr result (self.new ≡ self.old) }
@@ -129,7 +129,7 @@ fn is_finished(answer: &Answer) -> bool
         Answer::Task(_) | Answer::Wait { .. } | Answer::Busy { .. } | Answer::Lost => false,
         Answer::Stopped { .. } | Answer::Ended | Answer::Aborted(_) => false,
         Answer::Ignored | Answer::Repeated | Answer::Registered | Answer::Bogus => false,
-        Answer::Again | Answer::Resubmitted => false,
+        Answer::Again | Answer::Resubmitted | Answer::Shelved | Answer::Told => false,
     }
 }
 

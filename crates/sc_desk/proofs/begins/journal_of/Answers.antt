@@ -21,9 +21,13 @@ begin-requires g c =
     opened_alike g.W.Naming.work c.limits-limits.result c.args.job.now
     (option_map (λ l. l.now) c.args.last) c.in_ok-core.core c.in_ok-opening.opening
     c.is_job.ensures c.requires c.are_sound.ensures
-    (subst (λ graph. IsOpening graph c.limits-limits.result 0
+    (subst (λ plan. IsOpening c.args.job.now.graph c.limits-limits.result 0 plan
+    (option_map (λ l. l.now) c.args.last) c.in_ok-core.core) c.empty-plan.ensures
+    (subst (λ graph. IsOpening graph c.limits-limits.result 0 c.empty-plan.result
     (option_map (λ l. l.now) c.args.last) c.in_ok-core.core) c.graph-2.ensures
-    c.in_ok-core.ensures)
-    (subst (λ graph. IsOpening graph c.limits-limits.result 0
+    c.in_ok-core.ensures))
+    (subst (λ plan. IsOpening c.args.job.now.graph c.limits-limits.result 0 plan
+    (option_map (λ l. l.now) c.args.last) c.in_ok-opening.opening) c.empty-plan.ensures
+    (subst (λ graph. IsOpening graph c.limits-limits.result 0 c.empty-plan.result
     (option_map (λ l. l.now) c.args.last) c.in_ok-opening.opening) c.graph.ensures
-    c.in_ok-opening.ensures)
+    c.in_ok-opening.ensures))

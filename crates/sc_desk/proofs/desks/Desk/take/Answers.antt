@@ -7,6 +7,7 @@ use Rattle.sc_desk.specs.DeskData.{desk_data}
 use Rattle.sc_desk.specs.Sound.{IsSoundDesk}
 use Rattle.sc_desk.proofs.TaskLemmas.{givable}
 use Rattle.sc_desk.proofs.KeepLemmas.{leaves_keep}
+use Rattle.sc_desk.proofs.PromptLemmas.{takes_prompt}
 use Rattle.sc_desk.proofs.StepLemmas.{takes_leave}
 use Rattle.sc_desk.proofs.desks.Desk.take.Goals as goal
 use Rattle.sc_desk.proofs.desks.Desk.take.Goals.{in-Ok, in-Err}
@@ -38,7 +39,9 @@ invariant_of-self g c =
             carried = refl;
           })
           (takes_leave c.self.inside.journal.core c.enter.new.self.core c.args.exec
-          w.in-Ok.answer w.in-Ok.ensures.step) tt refl
+          w.in-Ok.answer w.in-Ok.ensures.step)
+          (takes_prompt c.self.inside.journal.core c.enter.new.self.core c.args.exec
+          w.in-Ok.answer c.self.invariant.prompt w.in-Ok.ensures.step) tt refl
       | in-Err w ↦
           subst (λ (j : JournalData). IsSoundDesk g.W.Naming.work
           (desk_data c.self.inside.job c.self.inside.carried j c.self.inside.results.items))
