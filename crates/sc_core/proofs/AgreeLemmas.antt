@@ -234,7 +234,8 @@ steps_agree_by calls others one c (Release key) a b x y sound s t = by (job_runs
     next = without_shelved c key
 
     late : (r : Shelved) → IsShelvedWell c r → (o : Option Running) → running_of c r.attempt ≡ o
-        → TellsTo o next r.attempt r.outcome a x → TellsTo o next r.attempt r.outcome b y → Same a b x y
+        → TellsTo o next r.attempt r.outcome a x → TellsTo o next r.attempt r.outcome b y
+        → Same a b x y
     late r well None e (u, is) (v, is') = (u ∙ sym v, is ∙ sym is')
     late r well (Some q) e u v =
         let await = awaits_it c r q well e in
@@ -253,7 +254,6 @@ steps_agree_by calls others one c (Release key) a b x y sound s t = by (job_runs
         → Same a b x y
     by false e (u, is) (v, is') = (u ∙ sym v, is ∙ sym is')
     by true e u v = of (shelved_of c key) refl e u v
-
 steps_agree_by calls others one c (TellLost exec) a b x y sound (may, s) (may', t) =
     by (are_lost (without_executor c exec).dag.tracker.trust) s t
   where

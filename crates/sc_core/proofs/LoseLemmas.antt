@@ -213,8 +213,8 @@ lose_sound calls others c exec sound may =
 
     keeps : Keeps (result_stage c.dag) mid (all_released these mid)
     keeps =
-        all_keep calls others (result_stage c.dag) these mid ((calls c.dag sound.job.dag).9 exec live)
-        on.0 sound.job.result
+        all_keep calls others (result_stage c.dag) these mid
+        ((calls c.dag sound.job.dag).9 exec live) on.0 sound.job.result
         (under_kept c.dag lost (result_stage c.dag) refl (lost_results c.dag exec)
         sound.job.result on (sound.job.goes_on job).result)
 

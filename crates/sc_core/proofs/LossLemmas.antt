@@ -174,7 +174,8 @@ lost_loses d exec sound =
       unheld = λ all s. subst (λ o. All IsUnheld (attempts_in o))
           (sym (slice_get-map (without_executor exec) d.states s))
           (unheld (slice_get d.states s) (all s));
-      given = λ b g. ap (λ o. given_in o b) (lost_set d exec b) ∙ given_left exec b (set_of d b) ∙ g;
+      given = λ b g. ap (λ o. given_in o b) (lost_set d exec b)
+          ∙ given_left exec b (set_of d b) ∙ g;
     }
   where
     lost : (e : ℕ) → (e == exec) ≡ false → (x : Bool)

@@ -65,8 +65,8 @@ opening_is value graph limits saved last t told now free dag plan kept tracker b
 
 -- it is sound
 pub opening_sound : (graph : List StageData) (limits : Limits) (saved : ℕ)
-    (plan : List PlanLine) (last before : Option CoreData) (c : CoreData) → before ≡ last → IsJob graph
-    → FitsJob (tracker_behind last limits) graph → IfSome last IsSoundCore
+    (plan : List PlanLine) (last before : Option CoreData) (c : CoreData) → before ≡ last
+    → IsJob graph → FitsJob (tracker_behind last limits) graph → IfSome last IsSoundCore
     → IsOpening graph limits saved plan before c → IsSoundCore c
 opening_sound graph limits saved plan last before c is job fits sound opening =
     openings_are_sound graph limits saved plan last c job fits sound (rw (← is) opening)

@@ -493,8 +493,8 @@ unshelved c key s shelf found =
           (λ r. is_of s.attempt r ≡ false → r.is_out ≡ false
           → is_shelved after.shelf r.hand_out.attempt ≡ true)
           (λ r h other is_in.
-              shelved_beside c.shelf key s r.hand_out.attempt shelf.rising found
-              (same_sym s.attempt r.hand_out.attempt ∙ other) (h is_in))
+          shelved_beside c.shelf key s r.hand_out.attempt shelf.rising found
+          (same_sym s.attempt r.hand_out.attempt ∙ other) (h is_in))
           c.running shelf.out;
       each = All-weaker (IsShelvedWell c) (IsShelvedWell after)
           (alike_each c after refl refl refl refl) after.shelf
@@ -556,7 +556,10 @@ shelved_job c a outcome delay sound =
       apart = pairs c.running sound.apart;
       unheld = sound.unheld;
       budget = sound.budget;
-      goes_on = λ r. record { settled = (sound.goes_on r).settled; result = (sound.goes_on r).result };
+      goes_on = λ r. record {
+        settled = (sound.goes_on r).settled;
+        result = (sound.goes_on r).result;
+      };
       done = sound.done;
     }
   where

@@ -303,8 +303,10 @@ steps_are_spent c after (Post a outcome) answer sound step spends runs = by (job
         (length (outs (map (as_in a) next.running))) (length c.shelf)
         (length (next.shelf ++ to_be_told next a outcome delay ∷ []))
         (length (filter (is_untold c.dag.tracker) c.plan))
-        (rw (length-append next.shelf (to_be_told next a outcome delay ∷ []),
-        length-append c.shelf (to_be_told c a outcome delay ∷ []))
+        (rw (
+          length-append next.shelf (to_be_told next a outcome delay ∷ []),
+          length-append c.shelf (to_be_told c a outcome delay ∷ []),
+        )
         (let fewer = outs_fewer a r c.running e out in
         let more = outs_in a next.running in omega (arith, fewer, more)))
 
@@ -335,8 +337,8 @@ steps_are_spent c after (Post a outcome) answer sound step spends runs = by (job
         subst (λ x. left_to_do x < left_to_do c) (sym is)
         (still r e out delay (comes_twice c a))
 
-    of : (o : Option Running) → running_of c a ≡ o → spends_nothing c (Post a outcome) answer ≡ false
-        → PostsOf o c a outcome answer after
+    of : (o : Option Running) → running_of c a ≡ o
+        → spends_nothing c (Post a outcome) answer ≡ false → PostsOf o c a outcome answer after
         → left_to_do after < left_to_do c
     of None e none h = absurd (true≢false (sym (out_none e) ∙ none))
       where
@@ -371,7 +373,8 @@ steps_are_spent c after (Release key) answer sound step spends runs = by (job_ru
         (let lt = fewer s e in omega (arith, lt)))
     late s e (Some r) tells =
         told_less c (taken_off next s.attempt) after
-        (tells_left (taken_off next s.attempt) after r s.outcome answer tells) runs refl refl refl refl
+        (tells_left (taken_off next s.attempt) after r s.outcome answer tells) runs
+        refl refl refl refl
         (let lt = fewer s e in
         let less = outs_left (is_of s.attempt) c.running in omega (arith, lt, less))
 

@@ -190,7 +190,8 @@ steps_keep_by calls maps results failures others c after (Release key) answer so
     kept = calm_sound c next sound.job refl refl refl sound.job.goes_on sound.job.done
 
     told : (s : Shelved) → Unshelved c next s.attempt → job_runs c ≡ true → IsShelvedWell c s
-        → (o : Option Running) → running_of c s.attempt ≡ o → TellsTo o next s.attempt s.outcome answer after → IsSoundCore after
+        → (o : Option Running) → running_of c s.attempt ≡ o
+        → TellsTo o next s.attempt s.outcome answer after → IsSoundCore after
     told s u job waits None e (says, is) =
         subst IsSoundCore (sym is)
         (record {
@@ -218,7 +219,6 @@ steps_keep_by calls maps results failures others c after (Release key) answer so
     by : (b : Bool) → job_runs c ≡ b → ReleasesIf b c key answer after → IsSoundCore after
     by false e (says, is) = subst IsSoundCore (sym is) sound
     by true e h = of (shelved_of c key) refl e h
-
 steps_keep_by calls maps results failures others c after (TellLost exec) answer sound (may, step) =
     by (are_lost (without_executor c exec).dag.tracker.trust) step
   where

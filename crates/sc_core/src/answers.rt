@@ -88,8 +88,8 @@ pub enum Answer {
     Resubmitted,
 }
 
-/// The answer to an event that isn't enabled: a report that doesn't fit its running attempt, a release
-/// where no report of the key is to be told later, or a loss that isn't due.
+/// The answer to an event that isn't enabled: a report that doesn't fit its running attempt, a
+/// release where no report of the key is to be told later, or a loss that isn't due.
 #[derive(Clone, Copy, Debug, PartialEq, Eq)]
 pub struct NotEnabled;
 

@@ -33,11 +33,7 @@ impl State {
     }
 
     /// A second copy of a report that is told now is to be told later, where one comes.
-    pub fn shelve_copy(
-        &mut self,
-        attempt: AttemptId,
-        outcome: Outcome,
-    ) -> Result<(), AllocError>
+    pub fn shelve_copy(&mut self, attempt: AttemptId, outcome: Outcome) -> Result<(), AllocError>
         ensures ok { OnOk result (self.new.0 ≡ shelved_if (comes_twice self.old.0 attempt)
             self.old.0 attempt outcome 0) }
         ensures err { OnErr result (self.new.0 ≡ self.old.0) }
@@ -51,12 +47,7 @@ impl State {
     }
 
     /// A report is to be told later.
-    fn shelve(
-        &mut self,
-        attempt: AttemptId,
-        outcome: Outcome,
-        delay: u64,
-    ) -> Result<(), AllocError>
+    fn shelve(&mut self, attempt: AttemptId, outcome: Outcome, delay: u64) -> Result<(), AllocError>
         ensures ok { OnOk result (self.new.0 ≡ shelved self.old.0 attempt outcome delay) }
         ensures err { OnErr result (self.new.0 ≡ self.old.0) }
         ensures ready { self.new.1 ≡ self.old.1 }

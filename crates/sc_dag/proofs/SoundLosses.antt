@@ -87,8 +87,11 @@ gone_ages t exec found sound e =
         → (trust_of (after_gone t exec found) exec).mark ≡ Some t.epoch
     by None is new = absurd (search (rules, new))
     by (Some x) is new =
-        rw (e, at_or_change_same t.trust exec untold (seen_at found t.epoch)
-        (slice_get_within t.trust exec x is)) refl
+        rw (
+          e,
+          at_or_change_same t.trust exec untold (seen_at found t.epoch)
+              (slice_get_within t.trust exec x is),
+        ) refl
 
 lost_ages :
     (t : TrackerData) (exec : ℕ) → IsSoundTracker t
@@ -102,8 +105,11 @@ lost_ages t exec sound e =
         → (trust_of (after_executor_lost t exec) exec).mark ≡ Some t.epoch
     by None is live = absurd (search (rules, live))
     by (Some x) is live =
-        rw (e, at_or_change_same t.trust exec untold (lost_at t.epoch)
-        (slice_get_within t.trust exec x is)) refl
+        rw (
+          e,
+          at_or_change_same t.trust exec untold (lost_at t.epoch)
+              (slice_get_within t.trust exec x is),
+        ) refl
 
 -- ---- an output that may be forgotten
 

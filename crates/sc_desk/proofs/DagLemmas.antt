@@ -137,7 +137,8 @@ new_result d a now e = rw e (done (is_complete won a.stage) ∙ here)
     won = with_state both a.stage (with_result a.partition)
 
     done : (b : Bool)
-        → results_in (slice_get (if b then with_state won a.stage completed else won).states a.stage)
+        → results_in
+        (slice_get (if b then with_state won a.stage completed else won).states a.stage)
         ≡ results_in (slice_get won.states a.stage)
     done true = state_results won a.stage completed (λ state. refl) a.stage
     done false = refl

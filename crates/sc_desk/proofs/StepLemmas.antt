@@ -369,7 +369,8 @@ posts_leave c after a outcome answer plan step other = by (job_runs c) step
     by true h = of (running_of c a) refl h
 
 -- a result is won by the report of an attempt of the result stage that runs
-pub record IsWon (c : CoreData) (a : AttemptId) (outcome : Outcome) (after : CoreData) : Type 0 where
+pub record IsWon (c : CoreData) (a : AttemptId) (outcome : Outcome) (after : CoreData)
+    : Type 0 where
   pub outcome_is : outcome ≡ outcomes.Result
   pub stage : a.stage ≡ result_stage c.dag
   pub within : a.partition < (stage_at c.dag a.stage).tasks

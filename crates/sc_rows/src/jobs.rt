@@ -54,7 +54,8 @@ fn begun<R: Abort + AllocGlobal>(
 ) -> Journal
     requires job { IsJob graph.now }
     requires fits { FitsJob (tracker_behind (option_map (λ l. l.now) last) limits) graph.now }
-    ensures { IsOpening graph.now limits 0 plan.now (option_map (λ l. l.now) last.entry) result.core }
+    ensures { IsOpening graph.now limits 0 plan.now (option_map (λ l. l.now) last.entry)
+        result.core }
 {
     is_sound_behind(last);
     let opening = Core::open(rt.alloc(), graph, limits, 0, plan, last).expect(rt, "memory");

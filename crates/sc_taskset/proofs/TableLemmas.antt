@@ -147,9 +147,10 @@ IsParted rows p place =
 pub parted_from : (rows : List Row) (p place : ℕ)
     → IsPartitionPoint (λ r. ltb r.partition p ≡ true) (λ r. ltb r.partition p ≡ false) rows place
     → IsParted rows p place
-parted_from rows p place point =
-    (λ k d l. (let h = point.0 k d (omega arith) l in grind (arith, nat_tests, h)),
-    λ k d le l. (let h = point.1 k d le l in grind (arith, nat_tests, h)))
+parted_from rows p place point = (
+  λ k d l. (let h = point.0 k d (omega arith) l in grind (arith, nat_tests, h)),
+  λ k d le l. (let h = point.1 k d le l in grind (arith, nat_tests, h)),
+)
 
 -- an item that is there, whatever is read past the end
 pub get_same : {A : Type 0} (xs : List A) (i : ℕ) (d e : A) → i < length xs

@@ -15,12 +15,7 @@ use sc_ids::ExecId;
 use std::alloc::AllocError;
 
 /// Hands a partition out once more, unless the number of its attempts is at its type's end.
-pub fn hand_in(
-    rows: &mut Table,
-    partition: u32,
-    exec: ExecId,
-    now: u64,
-) -> Result<(), AllocError>
+pub fn hand_in(rows: &mut Table, partition: u32, exec: ExecId, now: u64) -> Result<(), AllocError>
     requires { IfSome (find (is_row_of partition) rows.old)
         (λ r. length (copies_of r) < 2) }
     ensures ok { (failures : List Failure)

@@ -37,7 +37,10 @@ fn first_copyable(rows: &Table, exec: ExecId) -> Option<Row>
         → option_map (task_of failures) result
         ≡ find (is_copyable_task exec) (tasks_of failures rows.now) }
 {
-    rows.as_slice().iter().find(|row| row.is_copyable(exec)).copied()
+    rows.as_slice()
+        .iter()
+        .find(|row| row.is_copyable(exec))
+        .copied()
 }
 
 /// Whether all of them are finished.

@@ -155,7 +155,11 @@ fn recounted(unfinished: usize, old: Row, new: Row) -> usize
     } else {
         unfinished - 1
     };
-    if new.is_finished() { others } else { others + 1 }
+    if new.is_finished() {
+        others
+    } else {
+        others + 1
+    }
 }
 
 /// How many rows aren't finished.

@@ -14,7 +14,8 @@ use Rattle.sc_desk.proofs.desks.Desk.take.Goals.{in-Ok, in-Err}
 
 pub told-requires : goal.told-requires
 told-requires g c =
-    let sound : IsSoundCore c.self.inside.journal.core = subst IsSoundCore c.core.ensures c.is_sound.ensures in
+    let sound : IsSoundCore c.self.inside.journal.core =
+    subst IsSoundCore c.core.ensures c.is_sound.ensures in
     rw c.in_ok-job.ensures
     (givable c.self.inside.job c.self.inside.journal.core c.enter.new.self.core c.args.exec
     c.in-Ok.answer c.self.invariant.stages
