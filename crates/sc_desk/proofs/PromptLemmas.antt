@@ -2,7 +2,6 @@
 use Rattle.std.proofs.Common.{◌≡◌, ℕ, ◌&&◌, not, All, Bool, true, false, [], Option, Some, None, slice_get, refl, ap, sym, subst, ◌∙◌}
 use Rattle.std.proofs.lemmas.List.Elements.{All-filter, All-push}
 use Rattle.sc_ids.specs.declared.attempts.AttemptId.{AttemptId}
-use Rattle.sc_ids.specs.declared.blocks.Loc.{Loc}
 use Rattle.sc_ids.specs.declared.failures.FailureCause.{FailureCause}
 use Rattle.sc_ids.specs.declared.failures.FailureCause.TheVariants as causes
 use Rattle.sc_plan.specs.Attempts.{delay_of, is_doubled}
@@ -16,7 +15,7 @@ use Rattle.sc_dag.specs.Outputs.{is_complete}
 use Rattle.sc_dag.specs.Reports.{is_of_newest, map_success_of, reaches_limit_in, result_success_of, set_of}
 use Rattle.sc_dag.specs.declared.reports.Success.{Success}
 use Rattle.sc_dag.specs.declared.reports.Success.TheVariants as successes
-use Rattle.sc_core.specs.CoreData.{CoreData, is_of, job_runs, running_of, shelved_if, taken_off, told_once, with_dag}
+use Rattle.sc_core.specs.CoreData.{CoreData, is_of, job_runs, running_of, shelved_if, taken_off, with_dag}
 use Rattle.sc_core.specs.Posts.{Posts, PostsBy, PostsIf, PostsOf, TellsNow, comes_twice, delay_for}
 use Rattle.sc_core.specs.Takes.{Takes, running_on}
 use Rattle.sc_core.specs.Tells.{FailsBy, FailsOrAborts, IsGone, Misses, MissesIf, Tells, TellsFailure, TellsFailureIf, TellsTo, after_failure, is_zombie_in, success_answer}
