@@ -10,7 +10,7 @@ use crate::desk_views::{assert_gives, assert_went};
 use crate::streams::work_of;
 use crate::turns::{begun, first, receive, reported, run, stores_of, task_of, turn};
 use sc_core::{Abort as Why, Job};
-use sc_desk::{Posted, Taken};
+use sc_desk::{Closed, Posted, Taken};
 use sc_ids::{AttemptId, Mark};
 use sc_jobs::Goal;
 use sc_lineage::Work;
@@ -61,10 +61,13 @@ fn try_two_jobs<W: Naming, R: Abort + AllocGlobal>(rt: &R, work: Work)
     run(rt, &mut desk, &mut stores);
     assert_went(rt, &desk, COUNTED, "(b,2)\n(a,1)\n");
     assert_eq!(rt; desk.core().job(), Job::Done);
-    let closed = desk.close();
-    let last = Some(&closed.history.end);
+    let Closed {
+        history,
+        carried,
+        ..
+    } = desk.close();
     let goal = Goal::Action { number: 1 };
-    let mut desk = begun(rt, &work, closed.carried, last, goal);
+    let mut desk = begun(rt, &work, carried, Some(&history.end), goal);
     run(rt, &mut desk, &mut stores);
     assert_went(rt, &desk, COUNTED_AGAIN, "(b,2)\n(a,1)\n");
     assert_eq!(rt; desk.core().job(), Job::Done);
