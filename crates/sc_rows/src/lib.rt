@@ -39,12 +39,6 @@ mod comparisons;
 #[cfg(test)]
 mod cutting;
 #[cfg(test)]
-mod desk_results;
-#[cfg(test)]
-mod desk_views;
-#[cfg(test)]
-mod desks;
-#[cfg(test)]
 mod faults;
 #[cfg(test)]
 mod forms;
@@ -112,8 +106,6 @@ mod task_sets;
 mod tracking;
 #[cfg(test)]
 mod transcripts;
-#[cfg(test)]
-mod turns;
 #[cfg(test)]
 mod typing;
 #[cfg(test)]
