@@ -130,7 +130,8 @@ opening_is graph limits saved plan last c o =
 pub openings_agree :
     (graph : List StageData) (limits : Limits) (saved : ℕ) (plan : List PlanLine)
     (last : Option CoreData) (x y : CoreData) → IsJob graph
-    → FitsJob (tracker_behind last limits) graph → IfSome last IsSoundCore → IsOpening graph limits saved plan last x
+    → FitsJob (tracker_behind last limits) graph → IfSome last IsSoundCore
+    → IsOpening graph limits saved plan last x
     → IsOpening graph limits saved plan last y → x ≡ y
 openings_agree graph limits saved plan last x y job fits sound a b =
     opening_is graph limits saved plan last x a ∙ ap (opened limits saved plan last) dags
