@@ -1,0 +1,2 @@
+mod TrackLemmas
+mod TieLemmas

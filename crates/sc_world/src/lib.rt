@@ -1,0 +1,6 @@
+//! The world of a job: the desk, the stores of its executors, and the attempts that they hold.
+#![tactic(auto)]
+
+mod laws;
+
+pub use laws::reports_move_trackers;
