@@ -6,7 +6,7 @@ use Rattle.std.proofs.lemmas.Bool.{eq-eqb}
 use Rattle.std.proofs.lemmas.Bool.Decides.{nat_tests}
 use Rattle.std.proofs.lemmas.List.Elements.{All-cons, All-contains, All-head, All-nil, All-tail, All-weaker}
 use Rattle.std.proofs.lemmas.List.Folds.{find-append}
-use Rattle.sc_net.specs.declared.reports.ShelvedReport.{ShelvedReport}
+use Rattle.sc_net.specs.declared.shelved.ShelvedReport.{ShelvedReport}
 use Rattle.sc_net.specs.ShelfLaws.{Change, after}
 use Rattle.sc_net.specs.ShelfLaws.Change.{put_change, remove_change, clear_change}
 use Rattle.sc_net.specs.Shelves.{IsBefore, IsSoundShelf, ShelfData, cleared, first_due, is_due, is_under, report_of, shelved, with_report, without}

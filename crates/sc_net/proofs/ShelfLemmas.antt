@@ -7,7 +7,7 @@ use Rattle.std.proofs.lemmas.List.Elements.{All-filter, All-head, All-tail}
 use Rattle.std.proofs.lemmas.List.Folds.{find_at}
 use Rattle.std.proofs.lemmas.List.Quantifiers.{all_pairs_remove}
 use Rattle.std.proofs.lemmas.Option.{slice_get_past, slice_get_read}
-use Rattle.sc_net.specs.declared.reports.ShelvedReport.{ShelvedReport}
+use Rattle.sc_net.specs.declared.shelved.ShelvedReport.{ShelvedReport}
 use Rattle.sc_net.specs.Shelves.{IsBefore, IsSoundShelf, is_under, shelf_data, without}
 
 -- the first of a list is before each other one, and those stand as it asks for

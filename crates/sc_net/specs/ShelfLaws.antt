@@ -1,7 +1,7 @@
 -- What holds of every shelf.
 use Rattle.std.specs.Prelude.{◌≡◌, ◌≢◌, ◌≤◌, ◌<◌, ℕ, Bool, true, false, List, [], ◌∷◌, Some, None}
 use Rattle.std.specs.List.{Contains}
-use Rattle.sc_net.specs.declared.reports.ShelvedReport.{ShelvedReport}
+use Rattle.sc_net.specs.declared.shelved.ShelvedReport.{ShelvedReport}
 use Rattle.sc_net.specs.Shelves.{IsSoundShelf, ShelfData, cleared, first_due, is_due, report_of, with_report, without}
 
 -- a change of a shelf: a report is put, due then; the one under a key is taken off; all are dropped

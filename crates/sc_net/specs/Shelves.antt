@@ -2,7 +2,7 @@
 use Rattle.std.specs.Prelude.{◌<◌, ◌||◌, ◌==◌, ◌++◌, ℕ, suc, Bool, List, [], ◌∷◌, Option, not, nat_le}
 use Rattle.std.specs.List.{All, AllPairs, filter, find}
 use Rattle.std.specs.Option.{option_map}
-use Rattle.sc_net.specs.declared.reports.ShelvedReport.{ShelvedReport}
+use Rattle.sc_net.specs.declared.shelved.ShelvedReport.{ShelvedReport}
 
 -- a shelf of reports that are seen as R
 pub record ShelfData (R : Type 0) : Type 0 where

@@ -4,7 +4,7 @@
 ghost use Rattle.std.specs.Prelude.{◌≡◌, ◌==◌, [], IfErr, IfOk, OnErr, OnOk, length, option_copied};
 ghost use Rattle.sc_net.specs.Shelves.{IsSoundShelf, cleared, first_due as due_key, report_of, shelf_data, with_report, without};
 
-use crate::reports::{ShelvedReport, first_due, place_of};
+use crate::shelved::{ShelvedReport, first_due, place_of};
 use std::alloc::{AllocError, AllocFailed, Global};
 use std::marker::Model;
 

@@ -1,0 +1,4 @@
+pub mod OpeningLemmas
+pub mod StageRoomLemmas
+pub mod RoomLemmas
+pub mod MadeRoomLemmas

@@ -1,0 +1,213 @@
+-- No event changes for how many outputs of a shuffle there is room.
+use Rattle.std.proofs.Common.{◌≡◌, ℕ, ◌&&◌, not, Bool, true, false, if◌then◌else◌, [], ◌∷◌, Option, Some, None, slice_get, refl, ap, sym, subst, ◌∙◌}
+use Rattle.sc_ids.specs.declared.attempts.AttemptId.{AttemptId}
+use Rattle.sc_ids.specs.declared.blocks.Loc.{Loc}
+use Rattle.sc_ids.specs.declared.failures.FailureCause.{FailureCause}
+use Rattle.sc_ids.specs.declared.failures.FailureCause.TheVariants as causes
+use Rattle.sc_commit.specs.Committers.{committer_at}
+use Rattle.sc_commit.specs.Committing.{holds}
+use Rattle.sc_commit.specs.declared.committers.Ending.{Ending}
+use Rattle.sc_commit.specs.declared.committers.Ending.TheVariants as endings
+use Rattle.sc_taskset.specs.declared.tasks.Verdict.{Verdict}
+use Rattle.sc_taskset.specs.declared.tasks.Verdict.TheVariants as verdicts
+use Rattle.sc_tracker.specs.Trust.{is_newer}
+use Rattle.sc_dag.specs.DagData.{DagData}
+use Rattle.sc_dag.specs.Losses.{after_seen}
+use Rattle.sc_dag.specs.Outputs.{is_complete}
+use Rattle.sc_dag.specs.Reports.{after_failed, after_hold, after_map_success, is_of_newest, map_success_of, reaches_limit_in, result_success_of, set_of}
+use Rattle.sc_dag.specs.declared.reports.Success.{Success}
+use Rattle.sc_dag.specs.declared.reports.Success.TheVariants as successes
+use Rattle.sc_core.specs.CoreData.{CoreData, job_runs, running_of, taken_off, told_once, with_dag}
+use Rattle.sc_core.specs.Posts.{PostsIf, PostsOf}
+use Rattle.sc_core.specs.Takes.{Takes}
+use Rattle.sc_core.specs.Tells.{FailsBy, FailsOrAborts, IsGone, Misses, MissesIf, Tells, TellsFailure, TellsFailureIf, TellsMap, TellsResult, after_failure, after_result, done_if, is_zombie_in, released, with_result_of}
+use Rattle.sc_core.specs.declared.answers.Abort.TheVariants as aborts
+use Rattle.sc_core.specs.declared.answers.Answer.{Answer}
+use Rattle.sc_core.specs.declared.answers.Answer.TheVariants as says
+use Rattle.sc_core.specs.declared.events.Event.TheVariants.{Post, Take}
+use Rattle.sc_core.specs.declared.events.Outcome.{Outcome}
+use Rattle.sc_core.specs.declared.events.Outcome.TheVariants as outcomes
+use Rattle.sc_core.specs.declared.running.Running.{Running}
+use Rattle.sc_history.specs.Rooms.{KeepsRoom, ReplaysKeepRoom, StepsKeepRoom}
+use Rattle.sc_history.proofs.StageRoomLemmas.{LeavesRoom, fails_room, follows_room, map_room, result_tracker, room_itself, room_then, same_room, seen_room}
+
+-- ---- reports
+
+left_room : (c after : CoreData) (d : DagData) → LeavesRoom c.dag d → after.dag ≡ d
+    → KeepsRoom c after
+left_room c after d h e = subst (λ x. LeavesRoom c.dag x) (sym e) h
+
+dag_is : (x y : CoreData) → x ≡ y → x.dag ≡ y.dag
+dag_is x y e = ap (λ (z : CoreData). z.dag) e
+
+released_tracker : (c : CoreData) (a : AttemptId) (how : Ending)
+    → (released c a how).dag.tracker ≡ c.dag.tracker
+released_tracker c a how = by (holds a (committer_at c.committers a.partition))
+  where
+    by : (b : Bool) → (if b then after_hold c.dag a.stage a.partition false else c.dag).tracker
+        ≡ c.dag.tracker
+    by true = refl
+    by false = refl
+
+maps_room : (c after : CoreData) (r : Running) (loc : Loc) (answer : Answer)
+    → TellsMap c r loc answer after → KeepsRoom c after
+maps_room c after r loc answer (next, up, says, is) =
+    left_room c after next
+    (room_then c.dag.tracker mid.tracker next.tracker
+    (map_room c.dag r.hand_out.attempt loc r.hand_out.epoch c.now)
+    (follows_room (map_success_of c.dag r.hand_out.attempt loc r.hand_out.epoch) mid next
+    r.hand_out.attempt.stage up))
+    (dag_is after (with_dag c next) is)
+  where
+    mid : DagData
+    mid = after_map_success c.dag r.hand_out.attempt loc r.hand_out.epoch c.now
+
+results_room : (c after : CoreData) (r : Running) (answer : Answer)
+    → TellsResult c r answer after → KeepsRoom c after
+results_room c after r answer (says, is) =
+    same_room c.dag.tracker after.dag.tracker
+    (ap (λ (z : CoreData). z.dag.tracker) is ∙ by (result_success_of c.dag a))
+  where
+    a : AttemptId
+    a = r.hand_out.attempt
+
+    freed : CoreData
+    freed = released c r.hand_out.attempt endings.Succeeded
+
+    done : (b : Bool) (m : CoreData) → (done_if b m).dag.tracker ≡ m.dag.tracker
+    done true m = refl
+    done false m = refl
+
+    won : (done_if (is_complete (with_result_of freed a).dag a.stage)
+        (with_result_of freed a)).dag.tracker ≡ c.dag.tracker
+    won =
+        done (is_complete (with_result_of freed a).dag a.stage) (with_result_of freed a)
+        ∙ result_tracker freed.dag a freed.now ∙ released_tracker c a endings.Succeeded
+
+    by : (s : Success) → (after_result s c a).dag.tracker ≡ c.dag.tracker
+    by successes.Repeated = result_tracker c.dag a c.now
+    by successes.Registered = won
+    by successes.Bogus = won
+    by successes.Finished = won
+
+misses_room : (c after : CoreData) (a : AttemptId) (answer : Answer)
+    → Misses c a answer after → KeepsRoom c after
+misses_room c after a answer miss =
+    by (is_of_newest c.dag a && not (is_complete c.dag a.stage)) miss
+  where
+    verdict_room : (verdict : Verdict) (d : DagData) → LeavesRoom c.dag d
+        → FailsOrAborts c a verdict d answer after → KeepsRoom c after
+    verdict_room verdicts.Limit d h (says, is) =
+        left_room c after d h (ap (λ (z : CoreData). z.dag) is)
+    verdict_room verdicts.Again d h (says, is) =
+        left_room c after d h (ap (λ (z : CoreData). z.dag) is)
+
+    by : (b : Bool) → MissesIf b c a answer after → KeepsRoom c after
+    by true (verdict, d, f, or) =
+        verdict_room verdict d (fails_room c.dag d a.stage a.stage_attempt verdict f) or
+    by false (says, is) = left_room c after c.dag (room_itself c.dag.tracker) (ap (λ (z : CoreData). z.dag) is)
+
+cause_room :
+    (c after : CoreData) (a : AttemptId) (cause : FailureCause) (zombie : Bool) (answer : Answer)
+    → FailsBy cause zombie c a answer after → KeepsRoom c after
+cause_room c after a (causes.Gone exec wanted found) zombie answer h =
+    by (is_newer (slice_get c.dag.tracker.trust exec) found) zombie h
+  where
+    by : (x y : Bool) → IsGone x y c a exec found answer after → KeepsRoom c after
+    by true y k =
+        room_then c.dag.tracker (after_seen c.dag exec found).tracker after.dag.tracker
+        (seen_room c.dag exec found)
+        (misses_room (with_dag c (after_seen c.dag exec found)) after a answer k)
+    by false true (says, is) =
+        left_room c after c.dag (room_itself c.dag.tracker) (ap (λ (z : CoreData). z.dag) is)
+    by false false k = misses_room c after a answer k
+cause_room c after a (causes.Metadata last) zombie answer h = misses_room c after a answer h
+cause_room c after a causes.Planned zombie answer (says, is) =
+    left_room c after c.dag (room_itself c.dag.tracker) (ap (λ (z : CoreData). z.dag) is)
+cause_room c after a causes.Raised zombie answer (says, is) =
+    left_room c after c.dag (room_itself c.dag.tracker) (ap (λ (z : CoreData). z.dag) is)
+cause_room c after a (causes.Device fault) zombie answer (says, is) =
+    left_room c after c.dag (room_itself c.dag.tracker) (ap (λ (z : CoreData). z.dag) is)
+cause_room c after a causes.Denied zombie answer (says, is) =
+    left_room c after c.dag (room_itself c.dag.tracker) (ap (λ (z : CoreData). z.dag) is)
+
+failures_room :
+    (c after : CoreData) (r : Running) (cause : FailureCause) (answer : Answer)
+    → TellsFailure c r cause answer after → KeepsRoom c after
+failures_room c after r cause answer tells =
+    by (reaches_limit_in (set_of c.dag a) a cause) tells
+  where
+    a : AttemptId
+    a = r.hand_out.attempt
+
+    failed : CoreData
+    failed = after_failure c r.hand_out.attempt cause
+
+    same : failed.dag.tracker ≡ c.dag.tracker
+    same = released_tracker (with_dag c (after_failed c.dag a cause)) a endings.Failed
+
+    by : (b : Bool) → TellsFailureIf b c a cause answer after → KeepsRoom c after
+    by true (says, is) =
+        same_room c.dag.tracker after.dag.tracker
+        (ap (λ (z : CoreData). z.dag.tracker) is ∙ same)
+    by false h =
+        room_then c.dag.tracker failed.dag.tracker after.dag.tracker
+        (same_room c.dag.tracker failed.dag.tracker same)
+        (cause_room failed after a cause (is_zombie_in (set_of c.dag a)) answer h)
+
+tells_room :
+    (c after : CoreData) (r : Running) (outcome : Outcome) (answer : Answer)
+    → Tells c r outcome answer after → KeepsRoom c after
+tells_room c after r (outcomes.Map loc) answer h = maps_room c after r loc answer h
+tells_room c after r outcomes.Result answer h = results_room c after r answer h
+tells_room c after r (outcomes.Failed cause) answer h = failures_room c after r cause answer h
+
+-- ---- events
+
+at_once : (c after : CoreData) (d : CoreData) → d.dag.tracker ≡ c.dag.tracker → after ≡ d
+    → KeepsRoom c after
+at_once c after d same is =
+    same_room c.dag.tracker after.dag.tracker
+    (ap (λ (z : CoreData). z.dag.tracker) is ∙ same)
+
+takes_room : (c after : CoreData) (exec : ℕ) (answer : Answer) → Takes c exec answer after
+    → KeepsRoom c after
+takes_room c after exec (says.Task h) (asking, out, lt, is) = at_once c after _ refl is
+takes_room c after exec (says.Wait out) (asking, none, way, is) = at_once c after c refl is
+takes_room c after exec (says.Busy held) (runs, stays, live, has, is) = at_once c after c refl is
+takes_room c after exec says.Lost (runs, stays, lost, is) = at_once c after c refl is
+takes_room c after exec (says.Stopped first) (runs, left, is) = at_once c after c refl is
+takes_room c after exec says.Ended (runs, is) = at_once c after c refl is
+takes_room c after exec (says.Aborted aborts.Budget) (a, asking, offer, le, is) =
+    at_once c after _ refl is
+takes_room c after exec (says.Aborted (aborts.TaskLimit s n p)) h = absurd h
+takes_room c after exec (says.Aborted (aborts.StageLimit s)) h = absurd h
+takes_room c after exec (says.Aborted aborts.NoExecutor) h = absurd h
+takes_room c after exec says.Ignored h = absurd h
+takes_room c after exec says.Repeated h = absurd h
+takes_room c after exec says.Registered h = absurd h
+takes_room c after exec says.Bogus h = absurd h
+takes_room c after exec says.Finished h = absurd h
+takes_room c after exec says.Again h = absurd h
+takes_room c after exec says.Resubmitted h = absurd h
+
+pub steps_keep_room : StepsKeepRoom
+steps_keep_room c after (Take exec) answer step = takes_room c after exec answer step
+steps_keep_room c after (Post a outcome) answer step = by (job_runs c) step
+  where
+    of : (o : Option Running) → PostsOf o c a outcome answer after → KeepsRoom c after
+    of None (says, is) = at_once c after (told_once c) refl is
+    of (Some r) (fit, tells) = tells_room (taken_off c a) after r outcome answer tells
+
+    by : (b : Bool) → PostsIf b c a outcome answer after → KeepsRoom c after
+    by false (says, is) = at_once c after c refl is
+    by true h = of (running_of c a) h
+
+-- nor does a journal
+pub replays_keep_room : ReplaysKeepRoom
+replays_keep_room opening end [] is =
+    same_room opening.dag.tracker end.dag.tracker (ap (λ (x : CoreData). x.dag.tracker) is)
+replays_keep_room opening end (entry ∷ entries) (mid, step, rest) =
+    room_then opening.dag.tracker mid.dag.tracker end.dag.tracker
+    (steps_keep_room opening mid entry.event entry.answer step)
+    (replays_keep_room mid end entries rest)

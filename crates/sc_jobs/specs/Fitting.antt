@@ -1,0 +1,33 @@
+-- Trackers that fit the jobs of a work.
+use Rattle.std.specs.Prelude.{ℕ, ◌≡◌, [], All, length, replicate}
+use Rattle.sc_lineage.specs.ScriptData.{WorkData}
+use Rattle.sc_tracker.specs.TrackerData.{ShuffleData, TrackerData, tracker_data}
+use Rattle.sc_tracker.specs.declared.trust.Trust.{Trust}
+use Rattle.sc_dag.specs.Openings.{FitsJob, sized_for_all}
+use Rattle.sc_jobs.specs.JobData.{JobData}
+use Rattle.sc_jobs.specs.Plans.{IsJobFor, maps_of}
+
+-- a shuffle of a tracker has as many outputs as the work's shuffle has map tasks
+abbrev pub HasItsMaps : WorkData → ShuffleData → Type 0
+HasItsMaps work s = length s.outputs ≡ maps_of work s.shuffle
+
+-- each shuffle that a tracker has room for has as many outputs as it has map tasks
+abbrev pub FitsWork : WorkData → TrackerData → Type 0
+FitsWork work t = All (HasItsMaps work) t.shuffles
+
+-- a tracker that fits a work fits each of its jobs
+abbrev pub TrackersFit : Type 0
+TrackersFit =
+    (work : WorkData) (job : JobData) (t : TrackerData)
+    → IsJobFor work job → FitsWork work t → FitsJob t job.graph
+
+-- a new tracker fits
+abbrev pub NewTrackersFit : Type 0
+NewTrackersFit =
+    (work : WorkData) (trust : List Trust) (epoch : ℕ) → FitsWork work (tracker_data [] trust epoch)
+
+-- one with room for a job fits again
+abbrev pub SizedTrackersFit : Type 0
+SizedTrackersFit =
+    (work : WorkData) (job : JobData) (t : TrackerData)
+    → IsJobFor work job → FitsWork work t → FitsWork work (sized_for_all t job.graph)

@@ -1,0 +1,212 @@
+//! Jobs.
+#![tactic(auto)]
+
+ghost use Rattle.std.specs.Prelude.{◌≡◌, ◌↔◌, IfOk, IfSome, IsTrue, OnErr, is_some, true};
+ghost use Rattle.std.specs.Cmp.{partial_equiv_from_equiv};
+ghost use Rattle.std.specs.Option.{option_map};
+ghost use Rattle.sc_compute.specs.Stages.{bounds_at, node_at};
+ghost use Rattle.sc_compute.specs.Tasks.{IsTargetOf, target_data_of};
+ghost use Rattle.sc_lineage.specs.Views.{action_data_of};
+ghost use Rattle.sc_stagecut.specs.Carrying.{AreRightBounds, HasBounds, IsCarriedFor, after_job, is_sort};
+ghost use Rattle.sc_stagecut.specs.Cuts.{IsCut};
+ghost use Rattle.sc_jobs.specs.Equality.{jobs_are_equal, same_job};
+ghost use Rattle.sc_jobs.specs.JobData.{HasTask, IsGoal, goal_action, goal_node, stage_in, target_of};
+ghost use Rattle.sc_jobs.specs.Plans.{GivesResults, IsJobFor, MapsInto};
+
+use crate::goals::Goal;
+use crate::known::known_bounds;
+use crate::nodes::goal_node;
+use crate::same::same_graph;
+use sc_compute::Target;
+use sc_ids::{Stage, StageGraph, StageId};
+use sc_lineage::{Action, NodeId};
+use sc_part::Bounds;
+use sc_stagecut::{Carried, cut};
+use sc_work::{Naming, SharedWork};
+use std::alloc::{AllocError, Global};
+use std::marker::{Model, PhantomData};
+use std::sync::Arc;
+
+/// What the owners of a job share.
+#[derive(Drop)]
+struct Plan {
+    goal: Goal,
+    graph: StageGraph,
+    /// The bounds of each sort, where they were found.
+    bounds: Vec<Option<Bounds>>,
+    /// What is done with the rows of a sort's parent.
+    collect: Action,
+}
+
+/// A job of the work that `W` stands for: what it is for, its stages, and the bounds of their
+/// sorts. To share it copies nothing.
+#[derive(Drop)]
+pub struct Job<W: Naming> {
+    plan: Arc<Plan, Global>,
+    of: PhantomData<W>,
+}
+
+impl<W: Naming> Model for Job<W> {
+    ghost use Rattle.std.specs.Arc.{arc_value};
+    ghost use Rattle.std.specs.Prelude.{◌≡◌};
+    ghost use Rattle.sc_lineage.specs.ScriptData.{collect_action};
+    ghost use Rattle.sc_lineage.specs.Views.{action_data_of};
+    ghost use Rattle.sc_jobs.specs.JobData.{JobData, goal_node, job_code, job_data};
+    ghost use Rattle.sc_jobs.specs.Plans.{IsJobFor, KnowsBounds};
+
+    ghost Value = { JobData };
+
+    ghost coded = { job_code };
+
+    ghost view = { λ j. job_data (arc_value j.plan).goal (arc_value j.plan).graph };
+
+    ghost invariant = { λ j.
+        IsJobFor W.work (job_data (arc_value j.plan).goal (arc_value j.plan).graph)
+        × KnowsBounds W.work (arc_value j.plan).graph (arc_value j.plan).bounds.items
+        × (action_data_of (arc_value j.plan).collect
+        ≡ collect_action (goal_node W.work (arc_value j.plan).goal)) };
+}
+
+impl<W: Naming> Job<W> {
+    /// The job of a goal, behind what is carried; its new map stages are carried on. A refused call
+    /// changes nothing.
+    pub fn plan(
+        alloc: Global,
+        work: &SharedWork<W>,
+        carried: &mut Carried,
+        goal: Goal,
+    ) -> Result<Job<W>, AllocError>
+        requires goal { IsGoal W.work goal }
+        requires carried { IsCarriedFor W.work.script.nodes carried.old }
+        requires bounds { HasBounds W.work.script.nodes carried.old (goal_node W.work goal) }
+        requires right { AreRightBounds W.work carried.old }
+        ensures goal { IfOk result (λ j. j.goal ≡ goal) }
+        ensures graph { IfOk result (λ j.
+            IsCut W.work carried.old (goal_node W.work goal) j.graph) }
+        ensures carried { IfOk result (λ j. carried.new ≡ after_job carried.old j.graph) }
+        ensures refused { OnErr result (carried.new ≡ carried.old) }
+        ensures carried_on { IsCarriedFor W.work.script.nodes carried.new }
+        ensures still_right { AreRightBounds W.work carried.new }
+    {
+        Err(AllocError)
+    }
+
+    /// The same job again, which copies nothing of it.
+    pub fn share(&self) -> Result<Job<W>, AllocError>
+        ensures { IfOk result (λ j. j ≡ self.now) }
+    {
+        Ok(Job {
+            plan: Arc::try_clone(&self.plan)?,
+            of: PhantomData,
+        })
+    }
+
+    /// What it is for.
+    pub fn goal(&self) -> Goal
+        ensures { result ≡ self.now.goal }
+    {
+        self.plan.goal
+    }
+
+    /// Its stages, in the order of their numbers.
+    pub fn graph(&self) -> &StageGraph
+        ensures { result.now ≡ self.now.graph }
+    {
+        &self.plan.graph
+    }
+
+    /// The stage of a number, where it has one.
+    pub fn stage(&self, stage: StageId) -> Option<&Stage>
+        ensures { option_map (λ s. s.now) result ≡ stage_in self.now.graph stage }
+    {
+        self.graph().stages().iter().find(|s| s.id() == stage)
+    }
+
+    /// The bounds of a node, where it is a sort and they were found: those of each sort that has a
+    /// map stage in the job were.
+    pub fn bounds(&self, node: NodeId) -> Option<&Bounds>
+        ensures right { IfSome result (λ bounds. bounds.now ≡ bounds_at W.work node) }
+        ensures known { is_sort (node_at W.work node) ≡ true → MapsInto self.now.graph node
+            → is_some result ≡ true }
+    {
+        match self.plan.bounds.get(node as usize) {
+            Some(Some(bounds)) => Some(bounds),
+            _ => None,
+        }
+    }
+
+    /// What it is by its type: a job of the work.
+    pub fn is_job(&self)
+        ensures { IsJobFor W.work self.now }
+    {
+        let _ = &self.plan;
+    }
+
+    /// The stage whose tasks give its results: the last one.
+    pub fn result_stage(&self) -> &Stage
+        ensures { GivesResults W.work self.now result.now }
+    {
+        let stages = self.graph().stages();
+        &stages[stages.len() - 1]
+    }
+
+    /// What is done with the node that it is for.
+    pub fn action<'a>(&'a self, work: &'a SharedWork<W>) -> &'a Action
+        ensures { action_data_of result.now ≡ goal_action W.work self.now.goal }
+    {
+        work.is_named();
+        match self.plan.goal {
+            Goal::Action { number } => &work.get().script().actions()[number as usize],
+            Goal::Bounds { .. } => &self.plan.collect,
+        }
+    }
+
+    /// Whether it has a stage of a number, with a task for a partition.
+    pub fn has_task(&self, stage: StageId, partition: u32) -> bool
+        ensures { IsTrue result ↔ HasTask self.now.graph stage partition }
+    {
+        match self.stage(stage) {
+            Some(stage) => partition < stage.tasks(),
+            None => false,
+        }
+    }
+
+    /// What the task of a partition of a stage is to compute.
+    pub fn task_target<'a>(
+        &'a self,
+        work: &'a SharedWork<W>,
+        stage: StageId,
+        partition: u32,
+    ) -> Target<'a>
+        requires task { HasTask self.now.graph stage partition }
+        ensures target { target_data_of result ≡ target_of W.work self.now stage partition }
+        ensures known { IsTargetOf W.work (target_data_of result) }
+    {
+        match self.stage(stage).map(|stage| stage.target()) {
+            Some(sc_ids::Target::Map(shuffle)) => Target::Map {
+                node: shuffle.node,
+                side: shuffle.side,
+                map: partition,
+            },
+            _ => Target::Result {
+                action: self.action(work),
+                partition,
+            },
+        }
+    }
+}
+
+impl<W: Naming> PartialEq for Job<W> {
+    ghost eq = { same_job };
+
+    ghost laws = { partial_equiv_from_equiv jobs_are_equal };
+
+    /// Whether two jobs are for the same, by the same stages. No bounds are compared: by their type
+    /// they are of one work.
+    fn eq(&self, other: &Job<W>) -> bool
+        ensures value { result ≡ same_job self.now other.now }
+        ensures same { IsTrue result ↔ (self.now ≡ other.now) }
+    {
+        self.plan.goal == other.plan.goal && same_graph(self.graph(), other.graph())
+    }
+}

@@ -1,0 +1,98 @@
+//! Tasks.
+#![tactic(auto)]
+
+ghost use Rattle.std.specs.Prelude.{◌≡◌, ◌↔◌, IsTrue};
+ghost use Rattle.std.specs.Cmp.{partial_equiv_from_equiv};
+ghost use Rattle.sc_net.specs.Equality.{same_task, tasks_are_equal};
+ghost use Rattle.sc_net.specs.Tasks.{IsTaskOf, task_data};
+
+use sc_core::HandOut;
+use sc_ids::AttemptId;
+use sc_jobs::Job;
+use sc_work::{Naming, SharedWork};
+use std::marker::Model;
+
+/// A task of a job, as it is handed out to an executor: by its type it is one of the job's, and it
+/// has a location for each block that it reads.
+#[derive(Drop)]
+pub struct Task<W: Naming> {
+    work: SharedWork<W>,
+    job: Job<W>,
+    hand_out: HandOut,
+}
+
+impl<W: Naming> Model for Task<W> {
+    ghost use Rattle.sc_net.specs.Tasks.{IsTaskOf, TaskData, task_code, task_data};
+
+    ghost Value = { TaskData };
+
+    ghost coded = { task_code };
+
+    ghost view = { λ t. task_data t.job t.hand_out };
+
+    ghost invariant = { λ t. IsTaskOf t.job t.hand_out };
+}
+
+impl<W: Naming> Task<W> {
+    /// What was handed out of a job's tasks.
+    pub fn new(work: SharedWork<W>, job: Job<W>, hand_out: HandOut) -> Task<W>
+        requires task { IsTaskOf job hand_out }
+        ensures { result ≡ task_data job hand_out }
+    {
+        Task {
+            work,
+            job,
+            hand_out,
+        }
+    }
+
+    /// The work.
+    pub fn work(&self) -> &SharedWork<W>
+        ensures { result.now ≡ W.work }
+    {
+        self.work.is_named();
+        &self.work
+    }
+
+    /// The job that it is of.
+    pub fn job(&self) -> &Job<W>
+        ensures { result.now ≡ self.now.job }
+    {
+        &self.job
+    }
+
+    /// What was handed out with it.
+    pub fn hand_out(&self) -> &HandOut
+        ensures { result.now ≡ self.now.hand_out }
+    {
+        &self.hand_out
+    }
+
+    /// Which attempt it is.
+    pub fn attempt(&self) -> AttemptId
+        ensures { result ≡ self.now.hand_out.attempt }
+    {
+        self.hand_out.attempt()
+    }
+
+    /// What it is by its type: a task of its job.
+    pub fn is_task(&self)
+        ensures { IsTaskOf self.now.job self.now.hand_out }
+    {
+        let _ = &self.hand_out;
+    }
+}
+
+impl<W: Naming> PartialEq for Task<W> {
+    ghost eq = { same_task };
+
+    ghost laws = { partial_equiv_from_equiv tasks_are_equal };
+
+    /// Whether two tasks are one attempt of one job, given out in one epoch with the same inputs.
+    fn eq(&self, other: &Task<W>) -> bool
+        ensures value { result ≡ same_task self.now other.now }
+        ensures same { IsTrue result ↔ (self.now ≡ other.now) }
+    {
+        same_hand_out(&self.hand_out, &other.hand_out) && self.job == other.job
+    }
+}
