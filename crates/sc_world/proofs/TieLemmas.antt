@@ -12,7 +12,8 @@ use Rattle.sc_ids.proofs.ChangeLemmas.{slice_get_change_other, slice_get_change_
 use Rattle.sc_tracker.specs.Outputs.{forgotten_on, is_on, never, output_in, placed}
 use Rattle.sc_tracker.specs.TrackerData.{ShuffleData, TrackerData, output_of, outputs_under, trust_of}
 use Rattle.sc_tracker.specs.Tracking.{after_gone, registered}
-use Rattle.sc_tracker.specs.Trust.{Trust, is_newer, seen_at, trust_at, untold}
+use Rattle.sc_tracker.specs.declared.trust.Trust.{Trust}
+use Rattle.sc_tracker.specs.Trust.{is_newer, seen_at, trust_at, untold}
 use Rattle.sc_tracker.specs.declared.outputs.Output.{Output}
 use Rattle.sc_tracker.proofs.BlockLemmas.{forgets_on_one, registers_one, under_changed}
 use Rattle.sc_store.specs.BlockData.{BlockData, same_block}
