@@ -1,2 +1,3 @@
-mod TrackLemmas
 mod TieLemmas
+mod BegunLemmas
+mod TrackLemmas

@@ -71,7 +71,7 @@ one_later stores after exec s s' there is stands grows =
         (omega arith)
 
 -- a block's name is its numbers
-name_is : (a b : BlockId) → same_block a b ≡ true → a ≡ b
+pub name_is : (a b : BlockId) → same_block a b ≡ true → a ≡ b
 name_is a b e =
     ap (λ (n : ℕ). name n a.shuffle.side a.map) node ∙ ap (λ (s : ℕ). name b.shuffle.node s a.map) side
     ∙ ap (λ (m : ℕ). name b.shuffle.node b.shuffle.side m) map
@@ -87,6 +87,13 @@ name_is a b e =
 
     map : a.map ≡ b.map
     map = grind (arith, nat_tests, e)
+
+pub differ : (a b : BlockId) → same_block a b ≡ false → b ≢ a
+differ a b e is =
+    true≢false (sym (itself a) ∙ subst (λ n. same_block a n ≡ false) is e)
+  where
+    itself : (a : BlockId) → same_block a a ≡ true
+    itself a = grind (arith, nat_tests)
 
 -- a put block stands, and so does all that stood
 put_output :
@@ -167,11 +174,11 @@ changed_or_not [] i f d = inl refl
 changed_or_not (x ∷ xs) zero f d = inr refl
 changed_or_not (x ∷ xs) (suc i) f d = changed_or_not xs i f d
 
-same_last : (t : TrackerData) (block : BlockId) (loc : Loc)
-    → ((output_of (registered t block loc) block).last ≡ (output_of t block).last)
-    ⊎ ((output_of (registered t block loc) block).last ≡ Some loc)
-same_last t block loc =
-    by (changed_or_not (outputs_under t.shuffles block.shuffle) block.map (placed loc t.epoch) never)
+-- what is known of a block whose output was registered, where there may be no room for it
+pub same_or_placed : (t : TrackerData) (block : BlockId) (loc : Loc)
+    → (output_of (registered t block loc) block ≡ output_of t block)
+    ⊎ (output_of (registered t block loc) block ≡ placed loc t.epoch (output_of t block))
+same_or_placed t block loc = by (changed_or_not outputs block.map (placed loc t.epoch) never)
   where
     outputs : List Output
     outputs = outputs_under t.shuffles block.shuffle
@@ -179,16 +186,17 @@ same_last t block loc =
     is : output_of (registered t block loc) block
         ≡ at_or (change_at outputs block.map (placed loc t.epoch)) block.map never
     is = ap (λ os. output_in os block.map)
-        (under_changed t.shuffles block.shuffle (λ os. change_at os block.map (placed loc t.epoch)) refl)
+        (under_changed t.shuffles block.shuffle (λ os. change_at os block.map (placed loc t.epoch))
+        refl)
 
     by : (at_or (change_at outputs block.map (placed loc t.epoch)) block.map never
         ≡ at_or outputs block.map never)
         ⊎ (at_or (change_at outputs block.map (placed loc t.epoch)) block.map never
         ≡ placed loc t.epoch (at_or outputs block.map never))
-        → ((output_of (registered t block loc) block).last ≡ (output_of t block).last)
-        ⊎ ((output_of (registered t block loc) block).last ≡ Some loc)
-    by (inl e) = inl (ap (λ (o : Output). o.last) (is ∙ e))
-    by (inr e) = inr (ap (λ (o : Output). o.last) (is ∙ e))
+        → (output_of (registered t block loc) block ≡ output_of t block)
+        ⊎ (output_of (registered t block loc) block ≡ placed loc t.epoch (output_of t block))
+    by (inl e) = inl (is ∙ e)
+    by (inr e) = inr (is ∙ e)
 
 pub registered_tied : (stores : List StoreData) (t : TrackerData) (block : BlockId) (loc : Loc)
     → AreTied stores t → StandsAt stores block loc → AreTied stores (registered t block loc)
@@ -200,27 +208,20 @@ registered_tied stores t block loc tied stands =
     }
   where
     own : IfSome (output_of (registered t block loc) block).last (StandsAt stores block)
-    own = one (same_last t block loc)
+    own = one (same_or_placed t block loc)
       where
-        one : ((output_of (registered t block loc) block).last ≡ (output_of t block).last)
-            ⊎ ((output_of (registered t block loc) block).last ≡ Some loc)
+        one : (output_of (registered t block loc) block ≡ output_of t block)
+            ⊎ (output_of (registered t block loc) block ≡ placed loc t.epoch (output_of t block))
             → IfSome (output_of (registered t block loc) block).last (StandsAt stores block)
         one (inl e) = rw e (tied.last block)
         one (inr e) = rw e stands
-
-    itself : (b : BlockId) → same_block b b ≡ true
-    itself b = grind (arith, nat_tests)
 
     by : (b : BlockId) (x : Bool) → same_block block b ≡ x
         → IfSome (output_of (registered t block loc) b).last (StandsAt stores b)
     by b true e =
         subst (λ n. IfSome (output_of (registered t block loc) n).last (StandsAt stores n))
         (name_is block b e) own
-    by b false e =
-        let other : b ≢ block =
-            λ is. true≢false (sym (itself block)
-            ∙ subst (λ n. same_block block n ≡ false) is e) in
-        rw ((registers_one t block loc).1 b other) (tied.last b)
+    by b false e = rw ((registers_one t block loc).1 b (differ block b e)) (tied.last b)
 
 -- an event forgets no last place
 forgotten_last : (exec : ℕ) (o : Output) → (forgotten_on exec o).last ≡ o.last

@@ -15,10 +15,10 @@ use Rattle.sc_tracker.specs.TrackerData.{TrackerData}
 use Rattle.sc_tracker.specs.Tracking.{after_gone, is_bogus, registered}
 use Rattle.sc_tracker.specs.Trust.{is_newer}
 use Rattle.sc_base.specs.Lists.{at_or}
-use Rattle.sc_dag.specs.DagData.{DagData, no_stage, stage_at, with_state}
+use Rattle.sc_dag.specs.DagData.{DagData, StageState, changed_newest, changed_set, no_stage, stage_at, with_state}
 use Rattle.sc_dag.specs.Losses.{after_seen}
 use Rattle.sc_dag.specs.Outputs.{is_complete}
-use Rattle.sc_dag.specs.Reports.{CompletesMap, FailsStage, after_failed, after_hold, after_map_success, after_result_success, block_by, completed, completed_if, ended_in_own, is_finished_short, is_of_newest, is_repeat, map_success_of, reaches_limit_in, registered_by, result_success_of, set_of, succeeded_in_both, succeeded_in_own, with_failed, with_output, with_result}
+use Rattle.sc_dag.specs.Reports.{CompletesMap, FailsStage, after_failed, after_hold, after_map_success, after_result_success, block_by, completed, completed_if, ended_in_own, in_own_set, is_finished_short, is_of_newest, is_repeat, map_success_of, reaches_limit_in, registered_by, result_success_of, set_of, succeeded_in_both, succeeded_in_own, with_failed, with_output, with_result}
 use Rattle.sc_dag.specs.Submission.{IsSubmitted, this_stage, waiting_stages}
 use Rattle.sc_dag.specs.declared.reports.Success.{Success}
 use Rattle.sc_dag.specs.declared.reports.Success.TheVariants as successes
@@ -28,6 +28,12 @@ use Rattle.sc_core.specs.declared.answers.Answer.{Answer}
 use Rattle.sc_core.specs.declared.events.Outcome.{Outcome}
 use Rattle.sc_core.specs.declared.events.Outcome.TheVariants as outcomes
 use Rattle.sc_core.specs.declared.running.Running.{Running}
+use Rattle.sc_taskset.specs.Reports.{after_end, after_held, after_success}
+use Rattle.sc_taskset.specs.Reports.{after_failure as after_failure_of}
+use Rattle.sc_taskset.specs.TaskSetData.{TaskSetData}
+use Rattle.sc_tracker.specs.TrackerFacts.{IsSoundTracker}
+use Rattle.sc_world.specs.Begun.{AreBegun}
+use Rattle.sc_world.proofs.BegunLemmas.{KeepsCount, completed_count, failed_count, gone_was, newest_count, registered_was, result_count, set_count, state_begun, submitted_begun, tracker_begun}
 use Rattle.sc_world.specs.Tracks.{Learns, ReportsMoveTrackers, Tracks, own_block}
 
 -- ---- stages
@@ -36,13 +42,24 @@ use Rattle.sc_world.specs.Tracks.{Learns, ReportsMoveTrackers, Tracks, own_block
 pub record Same (d after : DagData) : Type 0 where
   pub stages : after.stages ≡ d.stages
   pub tracker : after.tracker ≡ d.tracker
+  pub begun : AreBegun d → AreBegun after
 
 same_then : (c d e : DagData) → Same c d → Same d e → Same c e
 same_then c d e h k =
-    record { stages = k.stages ∙ h.stages; tracker = k.tracker ∙ h.tracker }
+    record {
+      stages = k.stages ∙ h.stages;
+      tracker = k.tracker ∙ h.tracker;
+      begun = λ b. k.begun (h.begun b);
+    }
 
 itself : (d : DagData) → Same d d
-itself d = record { stages = refl; tracker = refl }
+itself d = record { stages = refl; tracker = refl; begun = λ b. b }
+
+-- one stage changed, whose attempts are as many
+one_same : (d : DagData) (s : ℕ) (f : StageState → StageState) → KeepsCount f
+    → Same d (with_state d s f)
+one_same d s f keeps =
+    record { stages = refl; tracker = refl; begun = state_begun d s f keeps }
 
 of_equal : (d after : DagData) → after ≡ d → Same d after
 of_equal d after is = subst (λ x. Same d x) (sym is) (itself d)
@@ -50,30 +67,44 @@ of_equal d after is = subst (λ x. Same d x) (sym is) (itself d)
 submitted_same : (d after : DagData) (submitted : ℕ → Bool)
     → IsSubmitted d submitted after → Same d after
 submitted_same d after submitted (looked, are, is) =
-    record { stages = ap (λ (x : DagData). x.stages) is; tracker = ap (λ (x : DagData). x.tracker) is }
+    record {
+      stages = ap (λ (x : DagData). x.stages) is;
+      tracker = ap (λ (x : DagData). x.tracker) is;
+      begun = submitted_begun d after submitted (looked, are, is);
+    }
 
 completes_same : (d after : DagData) (s : ℕ) → CompletesMap d s after → Same d after
 completes_same d after s is =
-    let h : Same (with_state d s completed) after =
-        submitted_same (with_state d s completed) after
-        (waiting_stages (with_state d s completed)) is in
-    record { stages = h.stages; tracker = h.tracker }
+    same_then d (with_state d s completed) after (one_same d s completed completed_count)
+    (submitted_same (with_state d s completed) after
+    (waiting_stages (with_state d s completed)) is)
 
 fails_same : (d after : DagData) (s number : ℕ) (verdict : Verdict)
     → FailsStage d s number verdict after → Same d after
 fails_same d after s number verdicts.Limit (often, is) =
-    record { stages = ap (λ (x : DagData). x.stages) is; tracker = ap (λ (x : DagData). x.tracker) is }
+    subst (λ x. Same d x) (sym is) (one_same d s (with_failed number) (failed_count number))
 fails_same d after s number verdicts.Again (often, is) =
-    let h : Same (with_state d s (with_failed number)) after =
-        submitted_same (with_state d s (with_failed number)) after (this_stage s) is in
-    record { stages = h.stages; tracker = h.tracker }
+    same_then d (with_state d s (with_failed number)) after
+    (one_same d s (with_failed number) (failed_count number))
+    (submitted_same (with_state d s (with_failed number)) after (this_stage s) is)
+
+-- a call of the attempt's own set
+own_same : (d : DagData) (a : AttemptId) (change : TaskSetData → TaskSetData)
+    → Same d (in_own_set d a change)
+own_same d a change =
+    one_same d a.stage (changed_set a.stage_attempt change) (set_count a.stage_attempt change)
 
 both_same : (d : DagData) (a : AttemptId) (now : ℕ) → Same d (succeeded_in_both d a now)
 both_same d a now = by (is_of_newest d a) refl
   where
     by : (b : Bool) → is_of_newest d a ≡ b → Same d (succeeded_in_both d a now)
-    by true e = rw e (record { stages = refl; tracker = refl })
-    by false e = rw e (record { stages = refl; tracker = refl })
+    by true e = rw e (own_same d a (λ set. after_success set a.partition (Some a.nth) now))
+    by false e =
+        rw e (same_then d (succeeded_in_own d a now) _
+        (own_same d a (λ set. after_success set a.partition (Some a.nth) now))
+        (one_same (succeeded_in_own d a now) a.stage
+        (changed_newest (λ set. after_success set a.partition None now))
+        (newest_count (λ set. after_success set a.partition None now))))
 
 result_same : (d : DagData) (a : AttemptId) (now : ℕ) → Same d (after_result_success d a now)
 result_same d a now = by (is_repeat d a) refl
@@ -83,15 +114,16 @@ result_same d a now = by (is_repeat d a) refl
 
     won : Same d mid
     won =
-        let h : Same d (succeeded_in_both d a now) = both_same d a now in
-        record { stages = h.stages; tracker = h.tracker }
+        same_then d (succeeded_in_both d a now) mid (both_same d a now)
+        (one_same (succeeded_in_both d a now) a.stage (with_result a.partition)
+        (result_count a.partition))
 
     done : (b : Bool) → is_complete mid a.stage ≡ b → Same mid (completed_if mid a.stage)
-    done true e = rw e (record { stages = refl; tracker = refl })
+    done true e = rw e (one_same mid a.stage completed completed_count)
     done false e = rw e (itself mid)
 
     by : (b : Bool) → is_repeat d a ≡ b → Same d (after_result_success d a now)
-    by true e = rw e (record { stages = refl; tracker = refl })
+    by true e = rw e (own_same d a (λ set. after_end set a.partition a.nth))
     by false e =
         rw e (same_then d mid (completed_if mid a.stage) won
         (done (is_complete mid a.stage) refl))
@@ -102,16 +134,22 @@ result_same d a now = by (is_repeat d a) refl
 pub record Heard (d : DagData) (block : Option BlockId) (outcome : Outcome) (after : DagData)
     : Type 0 where
   pub stages : after.stages ≡ d.stages
+  pub begun : AreBegun d → AreBegun after
   pub tracker : (after.tracker ≡ d.tracker) ⊎ Learns d.tracker block outcome after.tracker
 
 nothing_heard : (d : DagData) (block : Option BlockId) (outcome : Outcome) (after : DagData)
     → Same d after → Heard d block outcome after
-nothing_heard d block outcome after h = record { stages = h.stages; tracker = inl h.tracker }
+nothing_heard d block outcome after h =
+    record { stages = h.stages; begun = h.begun; tracker = inl h.tracker }
 
 heard_then : (d : DagData) (block : Option BlockId) (outcome : Outcome) (mid after : DagData)
     → Heard d block outcome mid → Same mid after → Heard d block outcome after
 heard_then d block outcome mid after h k =
-    record { stages = k.stages ∙ h.stages; tracker = by h.tracker }
+    record {
+      stages = k.stages ∙ h.stages;
+      begun = λ b. k.begun (h.begun b);
+      tracker = by h.tracker;
+    }
   where
     by : (mid.tracker ≡ d.tracker) ⊎ Learns d.tracker block outcome mid.tracker
         → (after.tracker ≡ d.tracker) ⊎ Learns d.tracker block outcome after.tracker
@@ -128,13 +166,22 @@ map_heard d a loc epoch now = by (is_repeat d a) (is_bogus d.tracker loc epoch) 
 
     placed : (o : Option BlockId) → block ≡ o
         → Heard d block (outcomes.Map loc) (with_output d a loc)
-    placed None e = rw e (record { stages = refl; tracker = inl refl })
-    placed (Some b) e = rw e (record { stages = refl; tracker = inr refl })
+    placed None e = rw e (record { stages = refl; begun = λ h. h; tracker = inl refl })
+    placed (Some b) e =
+        rw e (record {
+          stages = refl;
+          begun = tracker_begun d (registered d.tracker b loc) (registered_was d.tracker b loc);
+          tracker = inr refl;
+        })
 
     by : (x y : Bool) → is_repeat d a ≡ x → is_bogus d.tracker loc epoch ≡ y
         → Heard d block (outcomes.Map loc) (after_map_success d a loc epoch now)
-    by true y e f = rw e (record { stages = refl; tracker = inl refl })
-    by false true e f = rw (e, f) (record { stages = refl; tracker = inl refl })
+    by true y e f =
+        rw e (nothing_heard d block (outcomes.Map loc) (ended_in_own d a)
+        (own_same d a (λ set. after_end set a.partition a.nth)))
+    by false true e f =
+        rw (e, f) (nothing_heard d block (outcomes.Map loc) (succeeded_in_own d a now)
+        (own_same d a (λ set. after_success set a.partition (Some a.nth) now)))
     by false false e f =
         rw (e, f) (heard_then d block (outcomes.Map loc) (with_output d a loc)
         (succeeded_in_both (with_output d a loc) a now) (placed block refl)
@@ -160,7 +207,13 @@ follows_same success mid s after h = by success h
 tracks_dag : (c : CoreData) (a : AttemptId) (outcome : Outcome) (d : DagData)
     → Heard c.dag (own_block c a) outcome d → Tracks c a outcome (with_dag c d)
 tracks_dag c a outcome d h =
-    record { stages = h.stages; tracker = h.tracker; stays = refl; saves = λ e. e }
+    record {
+      stages = h.stages;
+      tracker = h.tracker;
+      begun = λ sound b. h.begun b;
+      stays = refl;
+      saves = λ e. e;
+    }
 
 tracks_same : (c : CoreData) (a : AttemptId) (outcome : Outcome) (mid after : CoreData)
     → Tracks c a outcome mid → after.dag ≡ mid.dag → after.left_first ≡ mid.left_first
@@ -170,6 +223,7 @@ tracks_same c a outcome mid after h dag stays saves =
       stages = ap (λ (d : DagData). d.stages) dag ∙ h.stages;
       tracker = subst (λ (d : DagData). (d.tracker ≡ c.dag.tracker)
           ⊎ Learns c.dag.tracker (own_block c a) outcome d.tracker) (sym dag) h.tracker;
+      begun = λ sound b. subst AreBegun (sym dag) (h.begun sound b);
       stays = stays ∙ h.stays;
       saves = λ e. saves ∙ h.saves e;
     }
@@ -205,7 +259,9 @@ released_frees c a how =
   where
     by : (b : Bool) → holds a (committer_at c.committers a.partition) ≡ b
         → Same c.dag (released c a how).dag
-    by true e = rw e (record { stages = refl; tracker = refl })
+    by true e =
+        rw e (one_same c.dag a.stage (changed_newest (λ set. after_held set a.partition false))
+        (newest_count (λ set. after_held set a.partition false)))
     by false e = rw e (itself c.dag)
 
 result_tracks : (c after : CoreData) (r : Running) (answer : Answer)
@@ -234,6 +290,7 @@ result_tracks c after r answer (says, is) =
         record {
           stages = s.stages ∙ f.dag.stages;
           tracker = inl (s.tracker ∙ f.dag.tracker);
+          begun = λ sound b. s.begun (f.dag.begun b);
           stays = f.stays;
           saves = f.saves;
         }
@@ -276,7 +333,13 @@ misses_same c after a answer miss = by (is_of_newest c.dag a && not (is_complete
 quiet_tracks : (c after : CoreData) (a : AttemptId) (outcome : Outcome) → Frees c after
     → Tracks c a outcome after
 quiet_tracks c after a outcome f =
-    record { stages = f.dag.stages; tracker = inl f.dag.tracker; stays = f.stays; saves = f.saves }
+    record {
+      stages = f.dag.stages;
+      tracker = inl f.dag.tracker;
+      begun = λ sound b. f.dag.begun b;
+      stays = f.stays;
+      saves = f.saves;
+    }
 
 frees_same : (c after : CoreData) → after ≡ c → Frees c after
 frees_same c after is =
@@ -296,6 +359,9 @@ cause_tracks c after a (causes.Gone exec wanted found) zombie answer h =
         record {
           stages = f.dag.stages;
           tracker = inr f.dag.tracker;
+          begun = λ sound b. f.dag.begun
+              (tracker_begun c.dag (after_gone c.dag.tracker exec found)
+              (gone_was c.dag.tracker exec found sound) b);
           stays = f.stays;
           saves = f.saves;
         }
@@ -319,7 +385,8 @@ failed_frees c a cause =
     let f : Frees (with_dag c (after_failed c.dag a cause)) (after_failure c a cause) =
         released_frees (with_dag c (after_failed c.dag a cause)) a endings.Failed in
     record {
-      dag = record { stages = f.dag.stages; tracker = f.dag.tracker };
+      dag = same_then c.dag (after_failed c.dag a cause) (after_failure c a cause).dag
+          (own_same c.dag a (λ set. after_failure_of set a.partition a.nth cause)) f.dag;
       stays = f.stays;
       saves = f.saves;
     }
@@ -330,6 +397,8 @@ behind c mid after a outcome f h =
     record {
       stages = h.stages ∙ f.dag.stages;
       tracker = by h.tracker;
+      begun = λ sound b.
+          h.begun (subst IsSoundTracker (sym f.dag.tracker) sound) (f.dag.begun b);
       stays = h.stays ∙ f.stays;
       saves = λ e. h.saves (f.saves e);
     }
@@ -363,7 +432,13 @@ failure_tracks c after r cause answer tells =
         → Tracks c r.hand_out.attempt (outcomes.Failed cause) after
     by true (says, is) =
         subst (λ x. Tracks c a (outcomes.Failed cause) x) (sym is)
-        (record { stages = f.dag.stages; tracker = inl f.dag.tracker; stays = f.stays; saves = f.saves })
+        (record {
+          stages = f.dag.stages;
+          tracker = inl f.dag.tracker;
+          begun = λ sound b. f.dag.begun b;
+          stays = f.stays;
+          saves = f.saves;
+        })
     by false h =
         behind c (after_failure c a cause) after a (outcomes.Failed cause) f
         (cause_tracks (after_failure c a cause) after a cause (is_zombie_in (set_of c.dag a)) answer h)

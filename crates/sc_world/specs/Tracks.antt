@@ -4,6 +4,7 @@ use Rattle.sc_ids.specs.declared.attempts.AttemptId.{AttemptId}
 use Rattle.sc_ids.specs.declared.blocks.BlockId.{BlockId}
 use Rattle.sc_ids.specs.declared.failures.FailureCause.TheVariants as causes
 use Rattle.sc_tracker.specs.TrackerData.{TrackerData}
+use Rattle.sc_tracker.specs.TrackerFacts.{IsSoundTracker}
 use Rattle.sc_tracker.specs.Tracking.{after_gone, registered}
 use Rattle.sc_dag.specs.DagData.{stage_at}
 use Rattle.sc_dag.specs.Reports.{block_by}
@@ -13,6 +14,7 @@ use Rattle.sc_core.specs.declared.answers.Answer.{Answer}
 use Rattle.sc_core.specs.declared.events.Outcome.{Outcome}
 use Rattle.sc_core.specs.declared.events.Outcome.TheVariants as outcomes
 use Rattle.sc_core.specs.declared.running.Running.{Running}
+use Rattle.sc_world.specs.Begun.{AreBegun}
 
 -- the tracker learns what a report tells: where its block lies, or that a generation was found
 abbrev pub Learns : TrackerData → Option BlockId → Outcome → TrackerData → Type 0
@@ -33,6 +35,8 @@ pub record Tracks (c : CoreData) (a : AttemptId) (outcome : Outcome) (after : Co
   pub stages : after.dag.stages ≡ c.dag.stages
   pub tracker : (after.dag.tracker ≡ c.dag.tracker)
       ⊎ Learns c.dag.tracker (own_block c a) outcome after.dag.tracker
+  -- all stays there once that was, of what begun stages read
+  pub begun : IsSoundTracker c.dag.tracker → AreBegun c.dag → AreBegun after.dag
   pub stays : after.left_first ≡ c.left_first
   pub saves : c.committers ≡ [] → after.committers ≡ []
 
