@@ -1,0 +1,54 @@
+-- What becomes of a report that is posted.
+use Rattle.std.specs.Prelude.{ℕ, ◌≡◌, List, Option, Some, length, true}
+use Rattle.sc_ids.specs.Changes.{change_at}
+use Rattle.sc_ids.specs.declared.attempts.AttemptId.{AttemptId}
+use Rattle.sc_ids.specs.declared.attempts.Mark.{Mark}
+use Rattle.sc_value.specs.Datum.{Datum}
+use Rattle.sc_core.specs.CoreData.{job_runs, running_of}
+use Rattle.sc_core.specs.Posts.{fits}
+use Rattle.sc_core.specs.declared.answers.Answer.{Answer}
+use Rattle.sc_core.specs.declared.answers.Answer.TheVariants as says
+use Rattle.sc_core.specs.declared.events.Event.TheVariants.{Post}
+use Rattle.sc_core.specs.declared.running.Running.{Running}
+use Rattle.sc_net.specs.Reports.{ReportData, outcome_of, rows_of}
+use Rattle.sc_net.specs.Tasks.{task_data}
+use Rattle.sc_desk.specs.DeskData.{DeskData, core_of}
+use Rattle.sc_desk.specs.Entries.{Enters}
+use Rattle.sc_desk.specs.declared.posts.Posted.{Posted}
+use Rattle.sc_desk.specs.declared.posts.Posted.TheVariants.{Receipt, Stranger}
+
+-- which attempt a report is of
+abbrev pub attempt_of : ReportData → AttemptId
+attempt_of report = report.task.hand_out.attempt
+
+-- a report is one of this running attempt: its task is the one that was given, and it fits it
+pub record IsOf (d : DeskData) (r : Running) (report : ReportData) : Type 0 where
+  pub given : report.task ≡ task_data d.job r.hand_out
+  pub fitting : fits (core_of d) r (outcome_of report.finding) ≡ true
+
+-- a report is no stranger: where its attempt runs here, it is one of it
+abbrev pub IsKnown : DeskData → ReportData → Type 0
+IsKnown d report =
+    (r : Running) → job_runs (core_of d) ≡ true
+    → running_of (core_of d) (attempt_of report) ≡ Some r → IsOf d r report
+
+-- the results with that of a report, where it is answered that its partition is finished
+abbrev pub results_after :
+    List (Option (List Datum)) → ReportData → Answer → List (Option (List Datum))
+results_after results report says.Finished =
+    change_at results (attempt_of report).partition (λ _. rows_of report.finding)
+results_after results report answer = results
+
+-- a report is received: it is no stranger, and its entry, at this place, has what the core answers
+pub record Receives (d : DeskData) (by : Mark) (report : ReportData) (at : ℕ) (answer : Answer)
+    (after : DeskData) : Type 0 where
+  pub known : IsKnown d report
+  pub place : at ≡ length d.journal.entries
+  pub enters : Enters d by (Post (attempt_of report) (outcome_of report.finding)) answer after
+  pub results : after.results ≡ results_after d.results report answer
+
+-- a report is posted: it is received, or a stranger that is handed back with nothing changed
+abbrev pub Posts : {W : _} → DeskData → Mark → ReportData → Posted W → DeskData → Type 0
+Posts d by report (Receipt at answer) after = Receives d by report at answer after
+Posts d by report (Stranger back) after =
+    (IsKnown d report → ⊥) × (back ≡ report) × (after ≡ d)

@@ -1,0 +1,40 @@
+-- What an executor that asks for a task gets.
+use Rattle.std.specs.Prelude.{ℕ, ◌≡◌}
+use Rattle.sc_ids.specs.declared.attempts.Mark.{Mark}
+use Rattle.sc_core.specs.declared.answers.Answer.{Answer}
+use Rattle.sc_core.specs.declared.answers.Answer.TheVariants as says
+use Rattle.sc_core.specs.declared.events.Event.TheVariants.{Take}
+use Rattle.sc_jobs.specs.JobData.{JobData}
+use Rattle.sc_net.specs.Tasks.{IsTaskOf, task_data}
+use Rattle.sc_desk.specs.DeskData.{DeskData}
+use Rattle.sc_desk.specs.Entries.{Enters}
+use Rattle.sc_desk.specs.declared.takes.Taken.{Taken}
+use Rattle.sc_desk.specs.declared.takes.Taken.TheVariants as takes
+
+-- what an executor gets is what the core answers; a task is one of the desk's job
+abbrev pub IsTaken : {W : _} → JobData → Taken W → Answer → Type 0
+IsTaken job (takes.Task t) (says.Task h) = t ≡ task_data job h
+IsTaken job (takes.Wait out) (says.Wait attempt) = out ≡ attempt
+IsTaken job (takes.Busy held) (says.Busy attempt) = held ≡ attempt
+IsTaken job takes.Lost says.Lost = Unit {0}
+IsTaken job (takes.Stopped exec) (says.Stopped first) = exec ≡ first
+IsTaken job takes.Ended says.Ended = Unit {0}
+IsTaken job (takes.Aborted why) (says.Aborted cause) = why ≡ cause
+IsTaken job taken answer = ⊥
+
+-- an executor asks: what it gets, and what that leaves
+abbrev pub Takes : {W : _} → DeskData → Mark → ℕ → Taken W → DeskData → Type 0
+Takes d by exec taken after =
+    (answer : Answer) × IsTaken d.job taken answer × Enters d by (Take exec) answer after
+    × (after.results ≡ d.results)
+
+-- an answer is one to an executor that asks, where a task is one of the job
+abbrev pub IsGivable : JobData → Answer → Type 0
+IsGivable job (says.Task h) = IsTaskOf job h
+IsGivable job (says.Wait out) = Unit {0}
+IsGivable job (says.Busy held) = Unit {0}
+IsGivable job says.Lost = Unit {0}
+IsGivable job (says.Stopped first) = Unit {0}
+IsGivable job says.Ended = Unit {0}
+IsGivable job (says.Aborted why) = Unit {0}
+IsGivable job answer = ⊥

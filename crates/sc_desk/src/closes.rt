@@ -1,0 +1,61 @@
+//! How a desk ends.
+#![tactic(auto)]
+
+ghost use Rattle.std.specs.Prelude.{◌≡◌};
+ghost use Rattle.sc_core.specs.Journals.{Replays};
+ghost use Rattle.sc_core.specs.declared.answers.Job.TheVariants.{Done};
+ghost use Rattle.sc_desk.specs.DeskData.{core_of};
+ghost use Rattle.sc_desk.specs.Sound.{AreAllResults, IsSoundDesk};
+
+use crate::desks::Desk;
+use sc_columns::Rows;
+use sc_core::JobHistory;
+use sc_jobs::Job;
+use sc_stagecut::Carried;
+use sc_work::Naming;
+
+/// What a desk leaves.
+#[derive(Drop)]
+pub struct Closed<W: Naming> {
+    /// How the job went.
+    pub history: JobHistory,
+    /// For each partition the rows of its result, where it has one.
+    pub results: Vec<Option<Rows>>,
+    /// What goes on to the next job.
+    pub carried: Carried,
+    /// The job.
+    pub job: Job<W>,
+}
+
+impl<W: Naming> Desk<W> {
+    /// How the job went, and what is left of it. It takes no memory.
+    pub fn close(self) -> Closed<W>
+        ensures opening { result.history.opening ≡ self.journal.opening }
+        ensures entries { result.history.entries.items ≡ self.journal.entries }
+        ensures end { result.history.end ≡ core_of self }
+        ensures replays { Replays result.history.opening result.history.entries.items
+            result.history.end }
+        ensures results { result.results.items ≡ self.results }
+        ensures carried { result.carried ≡ self.carried }
+        ensures job { result.job ≡ self.job }
+        ensures sound { IsSoundDesk W.work self }
+        ensures whole { (core_of self).job ≡ Done
+            → AreAllResults W.work result.job result.results.items }
+    {
+        self.journal.core().is_sound();
+        let Desk {
+            work: _,
+            job,
+            carried,
+            journal,
+            results,
+        } = self;
+        let history = journal.close();
+        Closed {
+            history,
+            results,
+            carried,
+            job,
+        }
+    }
+}

@@ -1,0 +1,78 @@
+//! An executor asks for a task.
+#![tactic(auto)]
+
+ghost use Rattle.std.specs.Prelude.{◌≡◌, IfOk, OnErr};
+ghost use Rattle.sc_desk.specs.Takes.{IsGivable, IsTaken, Takes};
+
+use crate::desks::Desk;
+use sc_core::{Abort, Answer, Event};
+use sc_ids::{AttemptId, ExecId, Mark};
+use sc_jobs::Job;
+use sc_net::Task;
+use sc_work::{Naming, SharedWork};
+use std::alloc::AllocError;
+
+/// What an executor that asks for a task gets.
+#[derive(Drop)]
+pub enum Taken<W: Naming> {
+    /// A task.
+    Task(Task<W>),
+    /// There is no task now; this attempt is under way.
+    Wait {
+        /// The attempt that is waited for.
+        out: AttemptId,
+    },
+    /// The executor has a task already.
+    Busy {
+        /// Its attempt.
+        held: AttemptId,
+    },
+    /// The executor was told lost.
+    Lost,
+    /// An executor left early.
+    Stopped {
+        /// The first that did.
+        exec: ExecId,
+    },
+    /// The job has ended.
+    Ended,
+    /// The job is aborted by this call.
+    Aborted(Abort),
+}
+
+impl<W: Naming> Desk<W> {
+    /// An executor asks for a task. It gets what the core answers, with an entry. A refused call
+    /// changes nothing.
+    pub fn take(&mut self, by: Mark, exec: ExecId) -> Result<Taken<W>, AllocError>
+        ensures taken { IfOk result (λ t. Takes self.old by exec t self.new) }
+        ensures refused { OnErr result (self.new ≡ self.old) }
+    {
+        let work = self.work.share()?;
+        let job = self.job.share()?;
+        match self.journal.enter(by, Event::Take { exec }) {
+            Ok(answer) => {
+                self.journal.core().is_sound();
+                Ok(told(work, job, answer))
+            }
+            Err(_) => Err(AllocError),
+        }
+    }
+}
+
+/// What the core's answer is for an executor.
+fn told<W: Naming>(work: SharedWork<W>, job: Job<W>, answer: Answer) -> Taken<W>
+    requires { IsGivable job answer }
+    ensures { IsTaken job result answer }
+{
+    match answer {
+        Answer::Task(hand_out) => Taken::Task(Task::new(work, job, hand_out)),
+        Answer::Wait { out } => Taken::Wait { out },
+        Answer::Busy { held } => Taken::Busy { held },
+        Answer::Lost => Taken::Lost,
+        Answer::Stopped { exec } => Taken::Stopped { exec },
+        Answer::Ended => Taken::Ended,
+        Answer::Aborted(why) => Taken::Aborted(why),
+        Answer::Ignored | Answer::Repeated | Answer::Registered => unreachable!(),
+        Answer::Bogus | Answer::Finished | Answer::Again | Answer::Resubmitted => unreachable!(),
+    }
+}
