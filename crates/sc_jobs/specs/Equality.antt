@@ -1,5 +1,6 @@
 -- Which jobs are the same, by a test of their parts.
-use Rattle.std.specs.Prelude.{ℕ, ◌≡◌, ◌==◌, ◌&&◌, nat_eq, Bool, true, false, Decides, ap, ap₂, refl, subst}
+use Rattle.std.specs.Prelude.{ℕ, ◌≡◌, ◌==◌, ◌&&◌, nat_eq, Bool, true, false, Decides}
+use Rattle.std.proofs.Common.{ap, ap₂, refl, subst}
 use Rattle.std.specs.Cmp.{IsEquivalence, decided, first_so, second_so, unsigned_Decides}
 use Rattle.std.specs.Cmp.Lexicographic.{pointwise, pointwise_decides}
 use Rattle.sc_ids.specs.Graphs.{StageData, stage_data}
@@ -88,17 +89,11 @@ same_target-decides a b = (λ h. to a b h, λ e. subst (λ x. same_target a x �
 pub same_stage-decides : (a b : StageData) → Decides (same_stage a b) (a ≡ b)
 same_stage-decides a b = (to, λ e. subst (λ x. same_stage a x ≡ true) e itself)
   where
-    abbrev parents : Bool
-    parents = pointwise nat_eq a.parents b.parents
-
-    abbrev tasks : Bool
-    tasks = (a.tasks == b.tasks) && parents
-
-    abbrev rest : Bool
-    rest = same_target a.target b.target && tasks
-
     to : same_stage a b ≡ true → a ≡ b
     to h =
+        let parents = pointwise nat_eq a.parents b.parents in
+        let tasks = (a.tasks == b.tasks) && parents in
+        let rest = same_target a.target b.target && tasks in
         let second = second_so (a.id == b.id) rest h in
         let third = second_so (same_target a.target b.target) tasks second in
         let id = (unsigned_Decides a.id b.id).0 (first_so (a.id == b.id) rest h) in

@@ -1,5 +1,5 @@
 -- Trackers that fit the jobs of a work.
-use Rattle.std.specs.Prelude.{ℕ, ◌≡◌, [], All, length, replicate}
+use Rattle.std.specs.Prelude.{ℕ, ◌≡◌, List, [], All, length}
 use Rattle.sc_lineage.specs.ScriptData.{WorkData}
 use Rattle.sc_tracker.specs.TrackerData.{ShuffleData, TrackerData, tracker_data}
 use Rattle.sc_tracker.specs.declared.trust.Trust.{Trust}

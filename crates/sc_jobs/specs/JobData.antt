@@ -5,7 +5,7 @@ use Rattle.std.specs.List.{find, flat_map}
 use Rattle.std.specs.Prelude.{refl}
 use Rattle.sc_base.specs.Lists.{at_or, numbers_below}
 use Rattle.sc_ids.specs.Graphs.{StageData, stage_data}
-use Rattle.sc_ids.specs.contracts.blocks.Target.{the_row as target}
+use Rattle.sc_ids.specs.contracts.blocks.Target.{the_row as target_row}
 use Rattle.sc_ids.specs.declared.blocks.BlockId.{BlockId}
 use Rattle.sc_ids.specs.declared.blocks.Target.{Target}
 use Rattle.sc_ids.specs.declared.blocks.Target.TheVariants as targets
@@ -14,7 +14,7 @@ use Rattle.sc_lineage.specs.ScriptData.{ActionData, WorkData, collect_action, no
 use Rattle.sc_lineage.specs.Targets.{TargetData, map_target, own_value, result_target}
 use Rattle.sc_dag.specs.Outputs.{block_of}
 use Rattle.sc_compute.specs.Stages.{mapped_in, node_at}
-use Rattle.sc_jobs.specs.contracts.goals.Goal.{the_row as goal}
+use Rattle.sc_jobs.specs.contracts.goals.Goal.{the_row as goal_row}
 use Rattle.sc_jobs.specs.declared.goals.Goal.{Goal}
 use Rattle.sc_jobs.specs.declared.goals.Goal.TheVariants as goals
 
@@ -32,13 +32,13 @@ job_data goal graph = record { goal = goal; graph = graph }
 abbrev pub stage_code : Coded StageData
 stage_code =
     code_by ((ℕ × Target) × (ℕ × List ℕ))
-    (coded× (coded× coded_ℕ target.coded) (coded× coded_ℕ (coded_list coded_ℕ)))
+    (coded× (coded× coded_ℕ target_row.coded) (coded× coded_ℕ (coded_list coded_ℕ)))
     (λ s. ((s.id, s.target), (s.tasks, s.parents)))
     (λ p. stage_data p.0.0 p.0.1 p.1.0 p.1.1) (λ _. refl)
 
 abbrev pub job_code : Coded JobData
 job_code =
-    code_by (Goal × List StageData) (coded× goal.coded (coded_list stage_code))
+    code_by (Goal × List StageData) (coded× goal_row.coded (coded_list stage_code))
     (λ j. (j.goal, j.graph)) (λ p. job_data p.0 p.1) (λ _. refl)
 
 -- What is done with the node that a job is for: its action, or for bounds the rows of the sort's

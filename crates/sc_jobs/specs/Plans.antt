@@ -8,6 +8,7 @@ use Rattle.sc_ids.specs.declared.blocks.Target.{Target}
 use Rattle.sc_ids.specs.declared.blocks.Target.TheVariants as targets
 use Rattle.sc_lineage.specs.ScriptData.{WorkData}
 use Rattle.sc_stagecut.specs.Carrying.{is_sort}
+use Rattle.sc_stagecut.specs.Numbering.{side_of}
 use Rattle.sc_dag.specs.Openings.{IsJob, number_behind}
 use Rattle.sc_dag.specs.Submission.{is_map}
 use Rattle.sc_compute.specs.Stages.{GoesThrough, bounds_at, local_count, mapped_in, node_at}
@@ -36,17 +37,20 @@ abbrev pub IsStageFor : WorkData → Goal → StageData → Type 0
 IsStageFor work goal stage = AreTasksFor work goal stage.target stage.tasks
 
 -- what every job keeps
-pub record IsJobFor (work : WorkData) (job : JobData) : Type 0 where
-  pub goal : IsGoal work job.goal
-  pub job : IsJob job.graph
-  pub stages : All (IsStageFor work job.goal) job.graph
+pub record IsJobFor (work : WorkData) (it : JobData) : Type 0 where
+  -- it is for something that is there
+  pub goal : IsGoal work it.goal
+  -- its stages can be run
+  pub job : IsJob it.graph
+  -- and make what it is for
+  pub stages : All (IsStageFor work it.goal) it.graph
 
--- a graph has the map stage of the only side of a node
+-- a graph has the map stage of a side of a node
 pub record MapsInto (graph : List StageData) (node : ℕ) : Type 0 where
   pub stage : StageData
   pub there : Contains graph stage
   pub side : ℕ
-  pub makes : stage.target ≡ targets.Map (record { node = node; side = side })
+  pub makes : stage.target ≡ targets.Map (side_of node side)
 
 -- the bounds that a job knows: those of each sort that has a map stage in it, and all are right
 pub record KnowsBounds (work : WorkData) (graph : List StageData)

@@ -10,12 +10,12 @@ ghost use Rattle.sc_lineage.specs.Views.{action_data_of};
 ghost use Rattle.sc_stagecut.specs.Carrying.{AreRightBounds, HasBounds, IsCarriedFor, after_job, is_sort};
 ghost use Rattle.sc_stagecut.specs.Cuts.{IsCut};
 ghost use Rattle.sc_jobs.specs.Equality.{jobs_are_equal, same_job};
-ghost use Rattle.sc_jobs.specs.JobData.{HasTask, IsGoal, goal_action, goal_node, stage_in, target_of};
+ghost use Rattle.sc_jobs.specs.JobData.{HasTask, IsGoal, goal_action, goal_node, stage_in, target_by, target_of};
 ghost use Rattle.sc_jobs.specs.Plans.{GivesResults, IsJobFor, MapsInto};
 
 use crate::goals::Goal;
 use crate::known::known_bounds;
-use crate::nodes::goal_node;
+use crate::nodes::{goal_is_known, goal_node};
 use crate::same::same_graph;
 use sc_compute::Target;
 use sc_ids::{Stage, StageGraph, StageId};
@@ -88,7 +88,20 @@ impl<W: Naming> Job<W> {
         ensures carried_on { IsCarriedFor W.work.script.nodes carried.new }
         ensures still_right { AreRightBounds W.work carried.new }
     {
-        Err(AllocError)
+        work.is_named();
+        let work = work.get();
+        work.is_sound();
+        goal_is_known(work, goal);
+        let node = goal_node(work, goal);
+        let graph = cut(alloc, work, node, carried)?;
+        let bounds = known_bounds(alloc, work.script(), carried)?;
+        let collect = Action::Collect { node };
+        let plan = Arc::new(alloc, Plan { goal, graph, bounds, collect })?;
+        carried.keep(&plan.graph)?;
+        Ok(Job {
+            plan,
+            of: PhantomData,
+        })
     }
 
     /// The same job again, which copies nothing of it.
@@ -146,6 +159,7 @@ impl<W: Naming> Job<W> {
     pub fn result_stage(&self) -> &Stage
         ensures { GivesResults W.work self.now result.now }
     {
+        self.is_job();
         let stages = self.graph().stages();
         &stages[stages.len() - 1]
     }
@@ -182,17 +196,53 @@ impl<W: Naming> Job<W> {
         ensures target { target_data_of result ≡ target_of W.work self.now stage partition }
         ensures known { IsTargetOf W.work (target_data_of result) }
     {
-        match self.stage(stage).map(|stage| stage.target()) {
-            Some(sc_ids::Target::Map(shuffle)) => Target::Map {
-                node: shuffle.node,
-                side: shuffle.side,
-                map: partition,
-            },
-            _ => Target::Result {
+        self.knows_target(work, stage, partition);
+        match self.stage(stage) {
+            Some(stage) => self.target_by(work, stage.target(), partition),
+            None => Target::Result {
                 action: self.action(work),
                 partition,
             },
         }
+    }
+
+    /// What a task that makes part of a stage's target is to compute.
+    fn target_by<'a>(
+        &'a self,
+        work: &'a SharedWork<W>,
+        target: sc_ids::Target,
+        partition: u32,
+    ) -> Target<'a>
+        ensures { target_data_of result ≡ target_by W.work self.now.goal target partition }
+    {
+        match target {
+            sc_ids::Target::Map(shuffle) => Target::Map {
+                node: shuffle.node,
+                side: shuffle.side,
+                map: partition,
+            },
+            sc_ids::Target::Result { .. } => Target::Result {
+                action: self.action(work),
+                partition,
+            },
+        }
+    }
+
+    /// What its tasks are to compute is there. A call does nothing.
+    fn knows_target(&self, work: &SharedWork<W>, stage: StageId, partition: u32)
+        requires { HasTask self.now.graph stage partition }
+        ensures { IsTargetOf W.work (target_of W.work self.now stage partition) }
+    {
+        self.is_job();
+        work.is_named();
+        work.get().is_sound();
+    }
+
+    /// Whether another job is for the same, by the same stages.
+    fn is_same(&self, other: &Job<W>) -> bool
+        ensures { result ≡ same_job self.now other.now }
+    {
+        self.plan.goal == other.plan.goal && same_graph(self.graph(), other.graph())
     }
 }
 
@@ -207,6 +257,6 @@ impl<W: Naming> PartialEq for Job<W> {
         ensures value { result ≡ same_job self.now other.now }
         ensures same { IsTrue result ↔ (self.now ≡ other.now) }
     {
-        self.plan.goal == other.plan.goal && same_graph(self.graph(), other.graph())
+        self.is_same(other)
     }
 }

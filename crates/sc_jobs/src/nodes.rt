@@ -1,11 +1,11 @@
 //! The node that a job is for.
 #![tactic(auto)]
 
-ghost use Rattle.std.specs.Prelude.{◌≡◌};
+ghost use Rattle.std.specs.Prelude.{◌≡◌, ◌<◌, length};
 ghost use Rattle.sc_compute.specs.Stages.{mapped_in};
 ghost use Rattle.sc_lineage.specs.ScriptData.{node_of_action};
 ghost use Rattle.sc_lineage.specs.Views.{action_data_of, node_data_of};
-ghost use Rattle.sc_jobs.specs.JobData.{goal_node};
+ghost use Rattle.sc_jobs.specs.JobData.{IsGoal, goal_node};
 
 use crate::goals::Goal;
 use sc_lineage::{Action, Node, NodeId, Work};
@@ -25,6 +25,15 @@ pub(crate) fn goal_node(work: &Work, goal: Goal) -> NodeId
             None => 0,
         },
     }
+}
+
+/// The node that a job of a goal begins at is there. A call does nothing.
+pub(crate) fn goal_is_known(work: &Work, goal: Goal)
+    requires { IsGoal work.now goal }
+    ensures { goal_node work.now goal < length work.now.script.nodes }
+{
+    let _ = goal;
+    work.is_sound();
 }
 
 /// The node of an action.

@@ -1,7 +1,7 @@
 //! Which stages are the same.
 #![tactic(auto)]
 
-ghost use Rattle.std.specs.Prelude.{◌≡◌, ◌↔◌, IsTrue};
+ghost use Rattle.std.specs.Prelude.{◌≡◌};
 ghost use Rattle.std.specs.Cmp.Lexicographic.{pointwise};
 ghost use Rattle.sc_jobs.specs.Equality.{same_stage};
 
@@ -12,7 +12,15 @@ pub(crate) fn same_graph(a: &StageGraph, b: &StageGraph) -> bool
     ensures { result ≡ pointwise same_stage a.now b.now }
 {
     let (a, b) = (a.stages(), b.stages());
-    a.len() == b.len() && (0..a.len()).all(|i| same_stage(&a[i], &b[i]))
+    if a.len() != b.len() {
+        return false;
+    }
+    for i in 0..a.len() {
+        if !same_stage(&a[i], &b[i]) {
+            return false;
+        }
+    }
+    true
 }
 
 /// Whether two stages are the same.

@@ -14,7 +14,7 @@ use Rattle.sc_tracker.specs.declared.outputs.Location.TheVariants as locations
 use Rattle.sc_core.specs.declared.events.Outcome.{Outcome}
 use Rattle.sc_core.specs.declared.events.Outcome.TheVariants as outcomes
 use Rattle.sc_net.specs.Tasks.{TaskData, blocks_of_task, is_map_task, is_planned, target_of_task, task_code}
-use Rattle.sc_net.specs.contracts.findings.Finding.{the_row as finding}
+use Rattle.sc_net.specs.contracts.findings.Finding.{the_row as finding_row}
 use Rattle.sc_net.specs.declared.findings.Finding.{Finding}
 use Rattle.sc_net.specs.declared.findings.Finding.TheVariants as findings
 
@@ -31,7 +31,7 @@ report_data task finding = record { task = task; finding = finding }
 -- the code of a report, by which proofs tell two of them apart
 abbrev pub report_code : Coded ReportData
 report_code =
-    code_by (TaskData × Finding) (coded× task_code finding.coded)
+    code_by (TaskData × Finding) (coded× task_code finding_row.coded)
     (λ r. (r.task, r.finding)) (λ p. report_data p.0 p.1) (λ _. refl)
 
 -- where a block lies

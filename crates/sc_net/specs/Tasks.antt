@@ -13,7 +13,7 @@ use Rattle.sc_plan.specs.PlanLines.{place_of}
 use Rattle.sc_dag.specs.Outputs.{block_of}
 use Rattle.sc_dag.specs.Submission.{is_map}
 use Rattle.sc_core.specs.HandOuts.{HandOutData}
-use Rattle.sc_core.specs.contracts.running.HandOut.{the_row as hand_out}
+use Rattle.sc_core.specs.contracts.running.HandOut.{the_row as hand_out_row}
 use Rattle.sc_jobs.specs.JobData.{HasTask, JobData, blocks_read, job_code, stage_in, target_of}
 
 -- a task
@@ -29,7 +29,7 @@ task_data job hand_out = record { job = job; hand_out = hand_out }
 -- the code of a task, by which proofs tell two of them apart
 abbrev pub task_code : Coded TaskData
 task_code =
-    code_by (JobData × HandOutData) (coded× job_code hand_out.coded)
+    code_by (JobData × HandOutData) (coded× job_code hand_out_row.coded)
     (λ t. (t.job, t.hand_out)) (λ p. task_data p.0 p.1) (λ _. refl)
 
 -- What is handed out is one task of a job: the job has a stage of its number, with its partition,

@@ -4,10 +4,11 @@
 ghost use Rattle.std.specs.Prelude.{◌≡◌, ◌↔◌, IsTrue};
 ghost use Rattle.std.specs.Cmp.{partial_equiv_from_equiv};
 ghost use Rattle.sc_net.specs.Equality.{same_task, tasks_are_equal};
-ghost use Rattle.sc_net.specs.Tasks.{IsTaskOf, task_data};
+ghost use Rattle.sc_net.specs.Tasks.{IsTaskOf, block_left, block_of_task, is_planned, task_data};
 
+use crate::same::same_hand_out;
 use sc_core::HandOut;
-use sc_ids::AttemptId;
+use sc_ids::{AttemptId, BlockId, Target};
 use sc_jobs::Job;
 use sc_work::{Naming, SharedWork};
 use std::marker::Model;
@@ -75,11 +76,40 @@ impl<W: Naming> Task<W> {
         self.hand_out.attempt()
     }
 
+    /// The block that it leaves, where it is one of a map stage.
+    pub fn block(&self) -> Option<BlockId>
+        ensures { result ≡ block_of_task self.now }
+    {
+        let attempt = self.attempt();
+        match self.job.stage(attempt.stage) {
+            Some(stage) => block_left(stage.target(), attempt.partition),
+            None => None,
+        }
+    }
+
+    /// Whether the fault plan fails the attempt.
+    pub fn is_planned(&self) -> bool
+        ensures { result ≡ is_planned W.work self.now }
+    {
+        self.work.is_named();
+        self.work.get().plan().fails(&self.attempt())
+    }
+
     /// What it is by its type: a task of its job.
     pub fn is_task(&self)
         ensures { IsTaskOf self.now.job self.now.hand_out }
     {
         let _ = &self.hand_out;
+    }
+}
+
+/// The block that a task of a partition leaves, where it is one of a map stage.
+fn block_left(target: Target, map: u32) -> Option<BlockId>
+    ensures { result ≡ block_left target map }
+{
+    match target {
+        Target::Map(shuffle) => Some(BlockId { shuffle, map }),
+        Target::Result { .. } => None,
     }
 }
 

@@ -1,0 +1,7 @@
+pub mod NodeLemmas
+pub mod StageLemmas
+pub mod PlanLemmas
+pub mod KnownLemmas
+pub mod TrackerLemmas
+pub mod SortLemmas
+pub mod EqualLemmas

@@ -1,0 +1,95 @@
+-- Which trackers fit the jobs of a work.
+use Rattle.std.proofs.Common.{◌≡◌, ◌∙◌, ℕ, Bool, true, false, ◌||◌, List, [], ◌∷◌, ◌++◌, length, replicate, if◌then◌else◌, inl, inr, ◌⊎◌, refl, ap, sym, subst, arith}
+use Rattle.std.proofs.lemmas.Bool.{cases_Bool, false≢true}
+use Rattle.std.proofs.lemmas.List.{length-replicate}
+use Rattle.std.proofs.lemmas.List.Elements.{All-append, All-cons, All-contains, All-contains_itself, All-head, All-nil, All-tail, All-weaker}
+use Rattle.std.specs.List.{All, Contains, list_any}
+use Rattle.sc_ids.specs.Graphs.{StageData, stage_data}
+use Rattle.sc_ids.specs.declared.blocks.ShuffleId.{ShuffleId}
+use Rattle.sc_ids.specs.declared.blocks.Target.{Target}
+use Rattle.sc_ids.specs.declared.blocks.Target.TheVariants as targets
+use Rattle.sc_lineage.specs.ScriptData.{WorkData}
+use Rattle.sc_tracker.specs.Outputs.{never}
+use Rattle.sc_tracker.specs.Tracking.{has_room, sized}
+use Rattle.sc_tracker.specs.TrackerData.{ShuffleData, TrackerData, is_of, outputs_of, outputs_under, shuffle_data, tracker_data}
+use Rattle.sc_tracker.proofs.BlockLemmas.{is_of_itself, one_shuffle, under_behind, under_here}
+use Rattle.sc_dag.specs.Openings.{FitsIn, FitsJob, sized_by, sized_for_all}
+use Rattle.sc_jobs.specs.Fitting.{FitsWork, HasItsMaps, NewTrackersFit, SizedTrackersFit, TrackersFit}
+use Rattle.sc_jobs.specs.JobData.{JobData}
+use Rattle.sc_jobs.specs.Plans.{AreTasksFor, IsJobFor, IsStageFor, maps_of}
+use Rattle.sc_jobs.specs.declared.goals.Goal.{Goal}
+
+module _ (work : WorkData) where
+  -- the outputs of a shuffle that there is room for
+  room_fits : (xs : List ShuffleData) (s : ShuffleId) → All (HasItsMaps work) xs
+      → list_any (is_of s) xs ≡ true → length (outputs_under xs s) ≡ maps_of work s
+  room_fits [] s all h = absurd (false≢true h)
+  room_fits (x ∷ xs) s all h =
+      by (room_fits xs s (All-tail (HasItsMaps work) x xs all)) (cases_Bool (is_of s x))
+    where
+      by : (list_any (is_of s) xs ≡ true → length (outputs_under xs s) ≡ maps_of work s)
+          → (is_of s x ≡ true) ⊎ (is_of s x ≡ false)
+          → length (outputs_under (x ∷ xs) s) ≡ maps_of work s
+      by others (inl here) =
+          let same : x.shuffle ≡ s =
+          one_shuffle x.shuffle s x (is_of_itself x.shuffle x.outputs) here in
+          ap length (under_here x xs s here) ∙ All-head (HasItsMaps work) x xs all
+          ∙ ap (maps_of work) same
+      by others (inr not) =
+          ap length (under_behind x xs s not)
+          ∙ others (sym (ap (λ b. b || list_any (is_of s) xs) not) ∙ h)
+
+  fits_in : (goal : Goal) (t : TrackerData) → FitsWork work t
+      → (stage : StageData) → IsStageFor work goal stage → FitsIn t stage
+  fits_in goal t fits stage is s makes = at (cases_Bool (has_room t s))
+    where
+      are : AreTasksFor work goal (targets.Map s) stage.tasks
+      are =
+          let P : Target → Type 0 = λ x. AreTasksFor work goal x stage.tasks in subst P makes is
+
+      at : (has_room t s ≡ true) ⊎ (has_room t s ≡ false)
+          → (has_room t s ≡ false) ⊎ (length (outputs_of t s) ≡ stage.tasks)
+      at (inr none) = inl none
+      at (inl room) = inr (room_fits t.shuffles s fits room ∙ sym are.1)
+
+  -- room for one shuffle more
+  fits_sized : (t : TrackerData) (s : ShuffleId) (maps : ℕ) → FitsWork work t
+      → maps ≡ maps_of work s → FitsWork work (sized t s maps)
+  fits_sized t s maps fits is = either (has_room t s)
+    where
+      either : (b : Bool) → FitsWork work
+          (if b then t else
+          tracker_data (t.shuffles ++ shuffle_data s (replicate maps never) ∷ []) t.trust t.epoch)
+      either true = fits
+      either false =
+          let one = shuffle_data s (replicate maps never) in
+          All-append (HasItsMaps work) t.shuffles (one ∷ []) fits
+          (All-cons (HasItsMaps work) one [] (length-replicate maps never ∙ is)
+          (All-nil (HasItsMaps work)))
+
+  fits_by : (goal : Goal) (t : TrackerData) (id tasks : ℕ) (target : Target) (parents : List ℕ)
+      → FitsWork work t → AreTasksFor work goal target tasks
+      → FitsWork work (sized_by t (stage_data id target tasks parents))
+  fits_by goal t id tasks (targets.Map s) parents fits are = fits_sized t s tasks fits are.1
+  fits_by goal t id tasks (targets.Result node) parents fits are = fits
+
+  fits_all : (goal : Goal) (graph : List StageData) (t : TrackerData)
+      → All (IsStageFor work goal) graph → FitsWork work t → FitsWork work (sized_for_all t graph)
+  fits_all goal [] t all fits = fits
+  fits_all goal (stage ∷ graph) t all fits =
+      fits_all goal graph (sized_by t stage) (All-tail (IsStageFor work goal) stage graph all)
+      (fits_by goal t stage.id stage.tasks stage.target stage.parents fits
+      (All-head (IsStageFor work goal) stage graph all))
+
+pub trackers_fit : TrackersFit
+trackers_fit work job t is fits =
+    All-weaker (Contains job.graph) (FitsIn t)
+    (λ stage c. fits_in work job.goal t fits stage
+    (All-contains (IsStageFor work job.goal) job.graph stage is.stages c))
+    job.graph (All-contains_itself job.graph)
+
+pub new_trackers_fit : NewTrackersFit
+new_trackers_fit work trust epoch = All-nil (HasItsMaps work)
+
+pub sized_trackers_fit : SizedTrackersFit
+sized_trackers_fit work job t is fits = fits_all work job.goal job.graph t is.stages fits

@@ -1,0 +1,4 @@
+pub mod ReadLemmas
+pub mod NextLemmas
+pub mod LeavingLemmas
+pub mod HandingLemmas

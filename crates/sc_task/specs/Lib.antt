@@ -1,0 +1,6 @@
+pub mod Cursors
+pub mod Nexts
+pub mod Handing
+pub mod States
+pub mod Steps
+pub mod Attempts

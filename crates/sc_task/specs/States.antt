@@ -1,0 +1,76 @@
+-- The states of an attempt, as plain data, and what holds of them.
+use Rattle.std.specs.Prelude.{ℕ, ◌≡◌, ◌++◌, false, List, Option, Some, IfSome, refl}
+use Rattle.std.specs.Coded.{Coded, code_by, coded×, coded_ℕ}
+use Rattle.std.specs.List.{AllZip}
+use Rattle.sc_value.specs.Datum.{Datum}
+use Rattle.sc_ids.specs.contracts.blocks.Loc.{the_row as loc_row}
+use Rattle.sc_ids.specs.declared.blocks.BlockId.{BlockId}
+use Rattle.sc_ids.specs.declared.blocks.Loc.{Loc}
+use Rattle.sc_lineage.specs.ScriptData.{WorkData}
+use Rattle.sc_store.specs.OwnBlocks.{IsOwnBlock}
+use Rattle.sc_net.specs.Reports.{IsResultOf}
+use Rattle.sc_net.specs.Tasks.{TaskData, block_of_task, blocks_of_task, is_planned, task_code}
+use Rattle.sc_task.specs.Cursors.{IsPlace, blocks_from}
+use Rattle.sc_task.specs.declared.cursors.Cursor.{Cursor}
+use Rattle.sc_task.specs.declared.made.Made.{Made}
+use Rattle.sc_task.specs.declared.made.Made.TheVariants as made
+
+-- an attempt that reads
+pub record AssignedData : Type 0 where
+  pub task : TaskData
+  -- how many blocks it has read
+  pub got : ℕ
+
+-- an attempt that has computed what it is to compute
+pub record ComputedData : Type 0 where
+  pub task : TaskData
+
+-- an attempt whose block was put
+pub record StoredData : Type 0 where
+  pub task : TaskData
+  -- where it was put
+  pub loc : Loc
+
+abbrev pub assigned_data : TaskData → ℕ → AssignedData
+assigned_data task got = record { task = task; got = got }
+
+abbrev pub computed_data : TaskData → ComputedData
+computed_data task = record { task = task }
+
+abbrev pub stored_data : TaskData → Loc → StoredData
+stored_data task loc = record { task = task; loc = loc }
+
+-- the codes of the states, by which proofs tell two of one kind apart
+abbrev pub assigned_code : Coded AssignedData
+assigned_code =
+    code_by (TaskData × ℕ) (coded× task_code coded_ℕ)
+    (λ a. (a.task, a.got)) (λ p. assigned_data p.0 p.1) (λ _. refl)
+
+abbrev pub computed_code : Coded ComputedData
+computed_code = code_by TaskData task_code (λ c. c.task) computed_data (λ _. refl)
+
+abbrev pub stored_code : Coded StoredData
+stored_code =
+    code_by (TaskData × Loc) (coded× task_code loc_row.coded)
+    (λ s. (s.task, s.loc)) (λ p. stored_data p.0 p.1) (λ _. refl)
+
+-- outputs are those of blocks, in order
+abbrev pub AreOf : WorkData → List BlockId → List (List (List Datum)) → Type 0
+AreOf work blocks outputs = AllZip (IsOwnBlock work) blocks outputs
+
+-- What was read of a task's blocks: the first of them, in order, and a cursor is at the others.
+pub record HasRead (work : WorkData) (t : TaskData) (got : List (List (List Datum)))
+    (cursor : Option Cursor) : Type 0 where
+  pub before : List BlockId
+  pub all : blocks_of_task t ≡ before ++ blocks_from t cursor
+  pub own : AreOf work before got
+  pub place : IfSome cursor IsPlace
+
+-- all blocks of a task were read, in order
+abbrev pub HasReadAll : WorkData → TaskData → List (List (List Datum)) → Type 0
+HasReadAll work t got = AreOf work (blocks_of_task t) got
+
+-- a value is what a task is to compute: a map task's own block, or the rows of its result
+abbrev pub IsMade : {W : _} → WorkData → TaskData → Made W → Type 0
+IsMade work t (made.Block block) = block_of_task t ≡ Some block.id
+IsMade work t (made.Rows rows) = IsResultOf work t rows

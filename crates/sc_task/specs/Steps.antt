@@ -1,0 +1,64 @@
+-- What the steps of an attempt do.
+use Rattle.std.specs.Prelude.{ℕ, ◌≡◌, ◌≤◌, ◌<◌, ◌+◌, false, Option, Some, None, is_some, true}
+use Rattle.sc_ids.specs.declared.blocks.BlockId.{BlockId}
+use Rattle.sc_ids.specs.declared.blocks.Loc.{Loc}
+use Rattle.sc_lineage.specs.ScriptData.{WorkData}
+use Rattle.sc_lineage.specs.Targets.{own_value}
+use Rattle.sc_store.specs.BlockData.{BlockData}
+use Rattle.sc_store.specs.OwnBlocks.{IsOwnBlock}
+use Rattle.sc_store.specs.StoreData.{StoreData, output_in}
+use Rattle.sc_store.specs.Storing.{Puts}
+use Rattle.sc_net.specs.Reports.{ReportData, report_data}
+use Rattle.sc_net.specs.Tasks.{TaskData, block_of_task, is_planned, target_of_task}
+use Rattle.sc_net.specs.declared.findings.Finding.{Finding}
+use Rattle.sc_net.specs.declared.findings.Finding.TheVariants as findings
+use Rattle.sc_task.specs.States.{AssignedData, assigned_data, computed_data}
+use Rattle.sc_task.specs.declared.next.Next.{Next}
+use Rattle.sc_task.specs.declared.next.Next.TheVariants.{Fetch, Missing, Complete}
+use Rattle.sc_task.specs.declared.took.Did.{Did}
+use Rattle.sc_task.specs.declared.took.Did.TheVariants as dids
+use Rattle.sc_task.specs.declared.took.Took.{Took}
+use Rattle.sc_task.specs.declared.took.Took.TheVariants as tooks
+
+-- What an attempt gets that fetches a block from the store of its location: the block, exactly
+-- where the store isn't past that generation and has it. Else it reports that the block is gone,
+-- exactly where the store is past it; or the block is absent, and the state stays.
+abbrev pub Fetches : {W : _}
+    → AssignedData → StoreData → BlockId → Loc → Took W → Type 0
+Fetches a store block loc (tooks.Next after) =
+    (store.generation ≤ loc.generation) × (is_some (output_in store block) ≡ true)
+    × (after ≡ assigned_data a.task (a.got + 1))
+Fetches a store block loc (tooks.Gone report) =
+    (loc.generation < store.generation)
+    × (report ≡ report_data a.task (findings.Gone loc.exec loc.generation store.generation))
+Fetches a store block loc (tooks.Absent state at) =
+    (store.generation ≤ loc.generation) × (output_in store block ≡ None)
+    × (state ≡ a) × (at ≡ loc)
+
+-- what an attempt gets that does this next
+abbrev pub Reads : {W : _} → AssignedData → StoreData → Next → Took W → Type 0
+Reads a store (Fetch block loc) took = Fetches a store block loc took
+Reads a store (Missing last) took = ⊥
+Reads a store Complete took = ⊥
+
+-- What a failed attempt reports in place of what it computes: that the plan fails it, exactly where
+-- it does; and else its own raise.
+abbrev pub FailsAs : WorkData → TaskData → Finding → Type 0
+FailsAs work t findings.Planned = is_planned work t ≡ true
+FailsAs work t (findings.Raised r) =
+    (is_planned work t ≡ false) × ((own_value work (target_of_task work t)).raise ≡ Some r)
+FailsAs work t finding = ⊥
+
+-- what an attempt does that has read all: it fails, or computes what doesn't raise
+abbrev pub Computes : {W : _} → WorkData → TaskData → Did W → Type 0
+Computes work t (dids.Computed computed) =
+    (is_planned work t ≡ false) × ((own_value work (target_of_task work t)).raise ≡ None)
+    × (computed ≡ computed_data t)
+Computes work t (dids.Failed report) =
+    (report.task ≡ t) × FailsAs work t report.finding
+
+-- the own block of a map task is put into a store
+abbrev pub PutsOwn : WorkData → TaskData → StoreData → StoreData → Type 0
+PutsOwn work t before after =
+    (block : BlockData) × (block_of_task t ≡ Some block.id)
+    × IsOwnBlock work block.id block.output × Puts before block after

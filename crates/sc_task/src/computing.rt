@@ -1,0 +1,186 @@
+//! What a task leaves, computed from what was read.
+#![tactic(auto)]
+
+ghost use Rattle.std.specs.Prelude.{◌≡◌, ◌<◌, IfOk, OnOk, Some, ℕ, length};
+ghost use Rattle.sc_compute.specs.Stages.{AreRight, HasBounds, HasMade, mapped_in, node_at};
+ghost use Rattle.sc_compute.specs.Tasks.{HasAll, IsSideOf, IsTargetOf, Leaves, target_data_of};
+ghost use Rattle.sc_jobs.specs.JobData.{blocks_left};
+ghost use Rattle.sc_jobs.specs.Plans.{MapsInto};
+ghost use Rattle.sc_lineage.specs.ScriptData.{node_of_action};
+ghost use Rattle.sc_lineage.specs.Views.{action_data_of};
+ghost use Rattle.sc_net.specs.Tasks.{target_of_task};
+ghost use Rattle.sc_task.specs.Handing.{IsOfWork};
+ghost use Rattle.sc_task.specs.States.{AreOf, HasReadAll};
+
+use crate::cursors::parents_of;
+use sc_compute::{Computed, Stages, Target, compute};
+use sc_ids::{Stage, Target as StageTarget};
+use sc_lineage::{Action, Node, NodeId, Work};
+use sc_net::Task;
+use sc_shuffle::MapOutput;
+use sc_work::Naming;
+use std::alloc::{AllocError, Global};
+
+/// What a task leaves, computed from what was read of its blocks.
+pub(crate) fn left_by<W: Naming>(
+    alloc: Global,
+    task: &Task<W>,
+    got: &[MapOutput],
+) -> Result<Computed, AllocError>
+    requires all { HasReadAll W.work task.now got.now }
+    ensures { IfOk result (Leaves W.work (target_of_task W.work task.now)) }
+{
+    task.is_task();
+    let attempt = task.attempt();
+    let shared = task.work();
+    let work = shared.get();
+    let target = task.job().task_target(shared, attempt.stage, attempt.partition);
+    let stages = made_for(alloc, work, task, got, target)?;
+    compute(alloc, work, &stages, target)
+}
+
+/// What has to be made before a target of a task's job can be computed, from what was read of the
+/// task's blocks.
+fn made_for<W: Naming>(
+    alloc: Global,
+    work: &Work,
+    task: &Task<W>,
+    got: &[MapOutput],
+    target: Target<'_>,
+) -> Result<Stages, AllocError>
+    requires named { work.now ≡ W.work }
+    requires all { HasReadAll work.now task.now got.now }
+    requires target { target_data_of target ≡ target_of_task work.now task.now }
+    requires known { IsTargetOf work.now (target_data_of target) }
+    ensures right { IfOk result (AreRight work.now) }
+    ensures has { IfOk result (λ s. HasAll work.now s (target_data_of target.entry)) }
+{
+    let mut stages = handed(alloc, work, task, got)?;
+    match target {
+        Target::Map { node, side, .. } => {
+            stages.prepare(alloc, work, mapped_by(work, node, side))?;
+            tell_bounds(work, task, &mut stages, node)?;
+        }
+        Target::Result { action, .. } => stages.prepare(alloc, work, node_of(action))?,
+    }
+    Ok(stages)
+}
+
+/// What was read of a task's blocks, handed in for the shuffles that they are of.
+fn handed<W: Naming>(
+    alloc: Global,
+    work: &Work,
+    task: &Task<W>,
+    got: &[MapOutput],
+) -> Result<Stages, AllocError>
+    requires named { work.now ≡ W.work }
+    requires all { HasReadAll work.now task.now got.now }
+    ensures { IfOk result (AreRight work.now) }
+{
+    task.job().is_job();
+    let mut stages = Stages::new(alloc, work)?;
+    let mut rest = got;
+    for parent in parents_of(task) {
+        if let Some(stage) = task.job().stage(*parent) {
+            let (outputs, others) = rest.split_at(count_left(stage));
+            hand_in(alloc, work, &mut stages, stage, outputs)?;
+            rest = others;
+        }
+    }
+    Ok(stages)
+}
+
+/// How many blocks a stage leaves.
+fn count_left(stage: &Stage) -> usize
+    ensures { result ≡ length (blocks_left (Some stage.now)) }
+{
+    match stage.target() {
+        StageTarget::Map(_) => stage.tasks() as usize,
+        StageTarget::Result { .. } => 0,
+    }
+}
+
+/// Hands in what the tasks of a stage left.
+fn hand_in(
+    alloc: Global,
+    work: &Work,
+    stages: &mut Stages,
+    stage: &Stage,
+    outputs: &[MapOutput],
+) -> Result<(), AllocError>
+    requires right { AreRight work.now stages.old }
+    requires stage { IsOfWork work.now stage.now }
+    requires of { AreOf work.now (blocks_left (Some stage.now)) outputs.now }
+    ensures right { AreRight work.now stages.new }
+{
+    match stage.target() {
+        StageTarget::Map(shuffle) => {
+            let outputs = shared(alloc, outputs)?;
+            stages.hand_in(work, shuffle.node, shuffle.side, outputs)
+        }
+        StageTarget::Result { .. } => Ok(()),
+    }
+}
+
+/// The same outputs again, of which nothing is copied.
+fn shared(alloc: Global, outputs: &[MapOutput]) -> Result<Vec<MapOutput>, AllocError>
+    ensures { IfOk result (λ v. v.items ≡ outputs.now) }
+{
+    let mut out = Vec::with_capacity(alloc, outputs.len())?;
+    for output in outputs {
+        out.push(output.share()?)?;
+    }
+    Ok(out)
+}
+
+/// Tells the bounds of a node that a map stage of the job deals out for, where it is a sort.
+fn tell_bounds<W: Naming>(
+    work: &Work,
+    task: &Task<W>,
+    stages: &mut Stages,
+    node: NodeId,
+) -> Result<(), AllocError>
+    requires named { work.now ≡ W.work }
+    requires right { AreRight work.now stages.old }
+    requires maps { MapsInto task.now.job.graph node }
+    ensures right { AreRight work.now stages.new }
+    ensures told { OnOk result (HasBounds stages.new node (node_at work.now node)) }
+    ensures kept { (k : ℕ) → HasMade stages.old k → HasMade stages.new k }
+{
+    match task.job().bounds(node) {
+        Some(bounds) => stages.tell_bounds(work, node, bounds.share()?),
+        None => Ok(()),
+    }
+}
+
+/// The node whose partitions go into a side of a node.
+fn mapped_by(work: &Work, node: NodeId, side: u8) -> NodeId
+    requires known { node < length work.now.script.nodes }
+    requires side { IsSideOf (node_at work.now node) side }
+    ensures mapped { result ≡ mapped_in (node_at work.now node) side }
+    ensures known { result < length work.now.script.nodes }
+{
+    work.is_sound();
+    match &work.script().nodes()[node as usize] {
+        Node::Shuffle { parent, .. } => *parent,
+        Node::Meet { left, right, .. } => {
+            if side == 0 {
+                *left
+            } else {
+                *right
+            }
+        }
+        _ => unreachable!(),
+    }
+}
+
+/// The node of an action.
+fn node_of(action: &Action) -> NodeId
+    ensures { result ≡ node_of_action (action_data_of action.now) }
+{
+    match action {
+        Action::Collect { node } => *node,
+        Action::Count { node } => *node,
+        Action::Reduce { node, .. } => *node,
+    }
+}

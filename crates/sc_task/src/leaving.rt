@@ -1,0 +1,64 @@
+//! What attempts do by what was computed.
+#![tactic(auto)]
+
+ghost use Rattle.std.specs.Prelude.{◌≡◌, All, Some, false};
+ghost use Rattle.sc_compute.specs.Tasks.{Leaves};
+ghost use Rattle.sc_compute.specs.declared.targets.Computed.{Computed};
+ghost use Rattle.sc_lineage.specs.Targets.{own_value};
+ghost use Rattle.sc_net.specs.Reports.{IsWithoutRaise, report_data};
+ghost use Rattle.sc_net.specs.Tasks.{blocks_of_task, is_planned, target_of_task};
+ghost use Rattle.sc_net.specs.declared.findings.Finding.{Finding};
+ghost use Rattle.sc_task.specs.States.{computed_data};
+ghost use Rattle.sc_task.specs.Steps.{Computes};
+
+use crate::computed::Computed;
+use crate::took::Did;
+use sc_compute::Computed as Left;
+use sc_expr::Raise;
+use sc_lineage::Stream;
+use sc_net::{Finding, Report, Task};
+use sc_shuffle::MapOutput;
+use sc_store::Block;
+use sc_work::Naming;
+
+/// What an attempt does whose task leaves this, where nothing that it reads raises and the plan
+/// doesn't fail it.
+pub(crate) fn did<W: Naming>(task: Task<W>, left: Left) -> Did<W>
+    requires left { Leaves W.work (target_of_task W.work task) left }
+    requires inputs { All (IsWithoutRaise W.work) (blocks_of_task task) }
+    requires planned { is_planned W.work task ≡ false }
+    ensures { Computes W.work task result }
+{
+    match left {
+        Left::Output(output) => Did::Computed(of_output(task, output)),
+        Left::Raised(raise) => Did::Failed(raised(task, raise)),
+        Left::Result(stream) => {
+            let Stream { rows, raise } = stream;
+            match raise {
+                Some(raise) => Did::Failed(raised(task, raise)),
+                None => Did::Computed(Computed::of_rows(task, rows)),
+            }
+        }
+    }
+}
+
+/// An attempt that has computed the block of a map task.
+fn of_output<W: Naming>(task: Task<W>, output: MapOutput) -> Computed<W>
+    requires left { Leaves W.work (target_of_task W.work task) (Computed.Output output) }
+    requires planned { is_planned W.work task ≡ false }
+    ensures { result ≡ computed_data task }
+{
+    match task.block() {
+        Some(id) => Computed::of_block(task, Block::new(id, output)),
+        None => unreachable!(),
+    }
+}
+
+/// Reports that what a task is to compute raises.
+fn raised<W: Naming>(task: Task<W>, raise: Raise) -> Report<W>
+    requires own { (own_value W.work (target_of_task W.work task)).raise ≡ Some raise }
+    requires inputs { All (IsWithoutRaise W.work) (blocks_of_task task) }
+    ensures { result ≡ report_data task (Finding.Raised raise) }
+{
+    Report::new(task, Finding::Raised(raise))
+}
