@@ -1,17 +1,14 @@
 -- Lists that are compared item by item.
-use Rattle.std.proofs.Common.{◌≡◌, ◌↔◌, ◌∙◌, ℕ, zero, suc, ◌+◌, ◌<◌, ◌≤◌, ◌&&◌, Bool, true, false, IsTrue, List, [], ◌∷◌, length, drop, get_or, refl, ap, sym, subst, arith}
+use Rattle.std.proofs.Common.{◌≡◌, ◌↔◌, ◌∙◌, ℕ, zero, suc, ◌+◌, ◌<◌, ◌≤◌, ◌&&◌, Bool, true, false, IsTrue, List, [], ◌∷◌, length, drop, get_or, drop_of_length-le, refl, ap, sym, subst, arith}
+use Rattle.std.proofs.Math.Seq.{drop-cons}
 use Rattle.std.specs.Cmp.Lexicographic.{pointwise}
 use Rattle.sc_jobs.specs.Equality.{same_job, same_job-decides}
 use Rattle.sc_jobs.specs.JobData.{JobData}
 
 -- what a test that tells equality answers
 pub told : (a b : JobData) (r : Bool) → r ≡ same_job a b → IsTrue r ↔ (a ≡ b)
-told a b r is = (λ t. (same_job-decides a b).0 (sym is ∙ truth r t), λ e.
-  subst IsTrue (sym (is ∙ (same_job-decides a b).1 e)) tt)
-  where
-    truth : (x : Bool) → IsTrue x → x ≡ true
-    truth true t = refl
-    truth false t = absurd t
+told a b r is =
+    (λ t. (same_job-decides a b).0 (sym is ∙ t), λ e. is ∙ (same_job-decides a b).1 e)
 
 module _ {A : Type 0} (E : A → A → Bool) where
   -- lists of other lengths aren't the same
@@ -29,9 +26,9 @@ module _ {A : Type 0} (E : A → A → Bool) where
   -- the rest from one place on
   rest : (xs : List A) (i : ℕ) (d : A) → i < length xs
       → drop i xs ≡ get_or xs i d ∷ drop (i + 1) xs
-  rest [] i d within = absurd (omega arith)
-  rest (x ∷ xs) zero d within = refl
-  rest (x ∷ xs) (suc i) d within = rest xs i d (omega arith)
+  rest xs i d within =
+      let next : suc i ≡ i + 1 = omega arith in
+      drop-cons xs i d within ∙ ap (λ k. get_or xs i d ∷ drop k xs) next
 
   step : (xs ys : List A) (i : ℕ) (x y : A) → i < length xs → i < length ys
       → x ≡ get_or xs i x → y ≡ get_or ys i y
@@ -65,11 +62,5 @@ module _ {A : Type 0} (E : A → A → Bool) where
       → pointwise E (drop i xs) (drop i ys) ≡ all → all ≡ true
   all_same xs ys i all past same so_far =
       sym so_far
-      ∙ ap (λ zs. pointwise E zs (drop i ys)) (none xs i past)
-      ∙ ap (λ zs. pointwise E [] zs) (none ys i (omega (arith, past, same)))
-    where
-      none : (zs : List A) (k : ℕ) → length zs ≤ k → drop k zs ≡ []
-      none [] zero h = refl
-      none [] (suc k) h = refl
-      none (z ∷ zs) zero h = absurd (omega arith)
-      none (z ∷ zs) (suc k) h = none zs k (omega arith)
+      ∙ ap (λ zs. pointwise E zs (drop i ys)) (drop_of_length-le xs past)
+      ∙ ap (λ zs. pointwise E [] zs) (drop_of_length-le ys (omega (arith, past, same)))

@@ -8,19 +8,19 @@ use Rattle.sc_value.specs.Keys.{KeyData}
 use Rattle.sc_ids.specs.Graphs.{StageData}
 use Rattle.sc_lineage.specs.NodeData.{NodeData, cache_node, shuffle_node, sort_by_key}
 use Rattle.sc_lineage.specs.Meaning.{bounds_step, known_of, meanings_by}
-use Rattle.sc_lineage.specs.ScriptData.{WorkData, IsSoundScript}
+use Rattle.sc_lineage.specs.ScriptData.{ScriptData, WorkData, IsSoundScript, collect_action}
 use Rattle.sc_lineage.proofs.PlaceLemmas.{at_or-numbers_below, at_or-past, length-numbers_below, numbers_from-more, slice_get-at_or}
-use Rattle.sc_stagecut.specs.Carrying.{AreRightBounds, CarriedData, HasBounds, IsCarriedFor, is_sort, is_unbounded}
+use Rattle.sc_stagecut.specs.Carrying.{AreRightBounds, CarriedData, HasBounds, IsCarriedFor, after_job, is_sort, is_unbounded}
 use Rattle.sc_stagecut.specs.Cuts.{IsCut}
 use Rattle.sc_stagecut.specs.Numbering.{is_shuffle, side_of}
 use Rattle.sc_stagecut.specs.Reaching.{IsReached}
 use Rattle.sc_compute.specs.Stages.{bounds_at, node_at}
-use Rattle.sc_jobs.specs.JobData.{IsGoal, goal_node}
+use Rattle.sc_jobs.specs.JobData.{IsGoal, goal_node, job_data}
 use Rattle.sc_jobs.specs.Known.{known_at}
-use Rattle.sc_jobs.specs.Plans.{KnowsBounds, MapsInto}
+use Rattle.sc_jobs.specs.Plans.{IsJobFor, KnowsBounds, MapsInto}
 use Rattle.sc_jobs.specs.declared.goals.Goal.{Goal}
 use Rattle.sc_jobs.proofs.NodeLemmas.{is_shuffle_of, sort_is}
-use Rattle.sc_jobs.proofs.PlanLemmas.{lawful}
+use Rattle.sc_jobs.proofs.PlanLemmas.{lawful, planned}
 
 -- one node more
 pub known-more : {A : Type 0} (f : ℕ → A) (k : ℕ) (old new : List A) (x : A)
@@ -81,7 +81,7 @@ module _ (work : WorkData) (sound : IsSoundScript work.script) (carried : Carrie
           (either (is_sort (node_at work k)) refl within)
       at (inr past) =
           let len = length-numbers_below (length script) in
-          let all : length bounds ≤ k = omega (arith, past, len, length-map (known_at script carried.bounds) (numbers_below (length script))) in
+          let all : length bounds ≤ k = omega (arith, past, len, length-map (numbers_below (length script)) (known_at script carried.bounds)) in
           subst (Right k) (sym (at_or-past bounds k None all)) tt
 
   -- a side that has a map stage in the job
@@ -117,3 +117,34 @@ module _ (work : WorkData) (sound : IsSoundScript work.script) (carried : Carrie
 
   pub knows : KnowsBounds work graph bounds
   knows = record { right = are_right; known = are_known }
+
+-- What is planned for a work that a type names.
+pub holds : (named work : WorkData) (read : ScriptData) (carried : CarriedData) (goal : Goal)
+    (node : ℕ) (graph : List StageData) (told : List (Option (List KeyData)))
+    → work ≡ named → read ≡ work.script → node ≡ goal_node work goal
+    → IsSoundScript work.script → IsGoal named goal → IsCarriedFor named.script.nodes carried
+    → HasBounds named.script.nodes carried (goal_node named goal) → AreRightBounds named carried
+    → IsCut work carried node graph
+    → told ≡ map (known_at read.nodes carried.bounds) (numbers_below (length read.nodes))
+    → (IsJobFor named (job_data goal graph) × KnowsBounds named graph told
+    × (collect_action node ≡ collect_action (goal_node named goal)))
+    × IsCarriedFor named.script.nodes (after_job carried graph)
+holds named work read carried goal node graph told same read_is node_is was_sound is is_carried
+    has right was_cut told_are =
+    let at : node ≡ goal_node named goal = node_is ∙ ap (λ w. goal_node w goal) same in
+    let Sound : WorkData → Type 0 = λ w. IsSoundScript w.script in
+    let sound = subst Sound same was_sound in
+    let Cut : WorkData → Type 0 = λ w. IsCut w carried node graph in
+    let From : ℕ → Type 0 = λ n. IsCut named carried n graph in
+    let cut = subst From at (subst Cut same was_cut) in
+    let known = told_are
+    ∙ ap (λ (s : ScriptData). map (known_at s.nodes carried.bounds) (numbers_below (length s.nodes)))
+    (read_is ∙ ap (λ (w : WorkData). w.script) same) in (
+      (
+        planned named sound carried is_carried goal is graph cut,
+        subst (KnowsBounds named graph) (sym known)
+            (knows named sound carried is_carried goal is graph cut has right),
+        ap collect_action at,
+      ),
+      (lawful named sound carried is_carried goal is graph cut).carried_on,
+    )

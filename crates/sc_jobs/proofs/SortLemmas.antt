@@ -27,7 +27,7 @@ lacking_is (Some node) bounds h =
     let sort = sort_is node (and_parts (is_sort node) (not (is_some bounds)) h).0 in
     (sort.0, sort.1, ap Some sort.2)
 
-pub -- a sort is a shuffle
+-- a sort is a shuffle
 sort_shuffles : (work : WorkData) (sort parent n : ℕ)
     → slice_get work.script.nodes sort ≡ Some (shuffle_node sort_by_key parent n)
     → is_shuffle work.script.nodes (side_of sort 0) ≡ true
@@ -43,7 +43,7 @@ sort_shuffles work sort parent n is =
     shuffled_by (hash_partitioner m) = refl
     shuffled_by range_partitioner = refl
 
-first_bounds_can_be_found : FirstBoundsCanBeFound
+pub first_bounds_can_be_found : FirstBoundsCanBeFound
 first_bounds_can_be_found work carried node sort sound first = (is_goal, has)
   where
     is_goal : IsGoal work (goals.Bounds sort)

@@ -96,7 +96,15 @@ impl<W: Naming> Job<W> {
         let graph = cut(alloc, work, node, carried)?;
         let bounds = known_bounds(alloc, work.script(), carried)?;
         let collect = Action::Collect { node };
-        let plan = Arc::new(alloc, Plan { goal, graph, bounds, collect })?;
+        let plan = Arc::new(
+            alloc,
+            Plan {
+                goal,
+                graph,
+                bounds,
+                collect,
+            },
+        )?;
         carried.keep(&plan.graph)?;
         Ok(Job {
             plan,

@@ -44,10 +44,12 @@ fn is_sort(script: &Script, node: usize) -> bool
     ensures { result ≡ is_sort (at_or script.now.nodes node (cache_node 0)) }
 {
     match script.nodes().get(node) {
-        Some(Node::Shuffle {
-            kind: Shuffling::SortByKey,
-            ..
-        }) => true,
+        Some(
+            Node::Shuffle {
+                kind: Shuffling::SortByKey,
+                ..
+            },
+        ) => true,
         _ => false,
     }
 }
