@@ -1,8 +1,8 @@
 -- The reports of attempts fit them, and the inputs of tasks stand.
 use Rattle.std.proofs.Common.{◌≡◌, ◌≢◌, ◌⊎◌, inl, inr, ℕ, zero, suc, ◌<◌, ◌==◌, ◌&&◌, not, Bool, true, false, cond, All, List, [], ◌∷◌, ◌++◌, Contains, Option, Some, None, IfSome, find, map, length, nat_lt, slice_get, refl, ap, sym, subst, ◌∙◌, arith, rules, true≢false}
-use Rattle.std.specs.List.{AllZip, flat_map, list_any}
+use Rattle.std.specs.List.{AllZip, filter, flat_map, list_any}
 use Rattle.std.proofs.lemmas.Bool.Decides.{nat_tests}
-use Rattle.std.proofs.lemmas.List.Elements.{All-cons, All-contains, All-nil}
+use Rattle.std.proofs.lemmas.List.Elements.{All-cons, All-contains, All-head, All-nil, All-tail, All-weaker, Contains-append_left, Contains-append_right, Contains-push}
 use Rattle.sc_base.specs.Lists.{at_or, numbers_below}
 use Rattle.sc_ids.specs.Graphs.{StageData}
 use Rattle.sc_ids.specs.declared.blocks.BlockId.{BlockId}
@@ -19,6 +19,7 @@ use Rattle.sc_dag.specs.DagData.{DagData, no_stage, stage_at}
 use Rattle.sc_dag.specs.Openings.{AreNumbered}
 use Rattle.sc_dag.specs.Outputs.{block_of}
 use Rattle.sc_dag.specs.Submission.{is_map}
+use Rattle.sc_dag.proofs.NumberLemmas.{filter_below}
 use Rattle.sc_core.specs.CoreData.{CoreData}
 use Rattle.sc_core.specs.HandOuts.{HandOutData, inputs_of, locations_by}
 use Rattle.sc_core.specs.Posts.{fits, is_here, is_same_loc, was_last}
@@ -146,6 +147,20 @@ report_fits work stores c r t finding numbered task same true_of says no_save =
 
 -- ---- what is handed out stands
 
+Contains-head : {A : Type 0} (x : A) (xs : List A) → Contains (x ∷ xs) x
+Contains-head x xs = Contains-append_left (x ∷ []) xs x (Contains-push [] x)
+
+Contains-tail : {A : Type 0} (x : A) (xs : List A) (y : A) → Contains xs y → Contains (x ∷ xs) y
+Contains-tail x xs y in = Contains-append_right (x ∷ []) xs y in
+
+-- numbers below a bound are below it
+all_below : (n : ℕ) → All (λ m. m < n) (numbers_below n)
+all_below n = subst (λ ms. All (λ m. m < n) ms) (all_kept (numbers_below n)) (filter_below (λ m. true) n)
+  where
+    all_kept : (ms : List ℕ) → filter (λ m. true) ms ≡ ms
+    all_kept [] = refl
+    all_kept (m ∷ ms) = ap (λ xs. m ∷ xs) (all_kept ms)
+
 zip_append : {A B : Type 0} (R : A → B → Type 0) (xs xs' : List A) (ys ys' : List B)
     → AllZip R xs ys → AllZip R xs' ys' → AllZip R (xs ++ xs') (ys ++ ys')
 zip_append R [] xs' [] ys' h k = k
@@ -154,38 +169,54 @@ zip_append R (x ∷ xs) xs' [] ys' h k = absurd h
 zip_append R (x ∷ xs) xs' (y ∷ ys) ys' (r, h) k = (r, zip_append R xs xs' ys ys' h k)
 
 zip_maps : {A B C : Type 0} (R : A → B → Type 0) (f : C → A) (g : C → B) (xs : List C)
-    → ((x : C) → R (f x) (g x)) → AllZip R (map f xs) (map g xs)
+    → All (λ x. R (f x) (g x)) xs → AllZip R (map f xs) (map g xs)
 zip_maps R f g [] h = tt
-zip_maps R f g (x ∷ xs) h = (h x, zip_maps R f g xs h)
+zip_maps R f g (x ∷ xs) h =
+    (All-head (λ x. R (f x) (g x)) x xs h, zip_maps R f g xs (All-tail (λ x. R (f x) (g x)) x xs h))
+
+-- what a block of a target is in a relation to
+abbrev pub Stood : (BlockId → Location → Type 0) → TrackerData → Target → ℕ → Type 0
+Stood R t (targets.Map shuffle) m =
+    R (block_of shuffle m) (location_in (output_of t (block_of shuffle m)))
+Stood R t (targets.Result node) m = Unit {0}
 
 -- blocks and their locations, over some parents
 pub inputs_stand : (R : BlockId → Location → Type 0) (graph : List StageData) (d : DagData)
-    → AreNumbered graph d.stages → ((b : BlockId) → R b (location_in (output_of d.tracker b)))
-    → (parents : List ℕ)
+    → AreNumbered graph d.stages → (parents : List ℕ)
+    → ((parent : ℕ) → Contains parents parent → (m : ℕ) → m < (stage_at d parent).tasks
+    → Stood R d.tracker (stage_at d parent).target m)
     → AllZip R (flat_map (λ parent. blocks_left (stage_in graph parent)) parents)
         (flat_map (λ parent.
         locations_by d.tracker (stage_at d parent).target (stage_at d parent).tasks) parents)
-inputs_stand R graph d numbered holds [] = tt
-inputs_stand R graph d numbered holds (parent ∷ parents) =
+inputs_stand R graph d numbered [] holds = tt
+inputs_stand R graph d numbered (parent ∷ parents) holds =
     zip_append R (blocks_left (stage_in graph parent))
     (flat_map (λ parent. blocks_left (stage_in graph parent)) parents)
     (locations_by d.tracker (stage_at d parent).target (stage_at d parent).tasks)
     (flat_map (λ parent.
     locations_by d.tracker (stage_at d parent).target (stage_at d parent).tasks) parents)
-    (one (stage_in graph parent) refl) (inputs_stand R graph d numbered holds parents)
+    (one (stage_in graph parent) refl (holds parent (Contains-head parent parents)))
+    (inputs_stand R graph d numbered parents
+    (λ p in. holds p (Contains-tail parent parents p in)))
   where
     made : (target : Target) (tasks : ℕ)
+        → ((m : ℕ) → m < tasks → Stood R d.tracker target m)
         → AllZip R (blocks_by target tasks) (locations_by d.tracker target tasks)
-    made (targets.Map shuffle) tasks =
+    made (targets.Map shuffle) tasks h =
         zip_maps R (block_of shuffle)
         (λ m. location_in (output_of d.tracker (block_of shuffle m))) (numbers_below tasks)
-        (λ m. holds (block_of shuffle m))
-    made (targets.Result node) tasks = tt
+        (All-weaker (λ m. m < tasks)
+        (λ m. R (block_of shuffle m) (location_in (output_of d.tracker (block_of shuffle m)))) h
+        (numbers_below tasks) (all_below tasks))
+    made (targets.Result node) tasks h = tt
 
     one : (o : Option StageData) → stage_in graph parent ≡ o
+        → ((m : ℕ) → m < (stage_at d parent).tasks
+        → Stood R d.tracker (stage_at d parent).target m)
         → AllZip R (blocks_left (stage_in graph parent))
         (locations_by d.tracker (stage_at d parent).target (stage_at d parent).tasks)
-    one None e = rw (e, stage_lacks graph d.stages parent numbered e) tt
-    one (Some stage) e =
-        rw (e, stage_stands graph d.stages parent stage numbered e)
-        (made stage.target stage.tasks)
+    one None e h = rw (e, stage_lacks graph d.stages parent numbered e) tt
+    one (Some stage) e h =
+        let is : stage_at d parent ≡ stage = stage_stands graph d.stages parent stage numbered e in
+        rw (e, is) (made stage.target stage.tasks
+        (subst (λ (s : StageData). (m : ℕ) → m < s.tasks → Stood R d.tracker s.target m) is h))

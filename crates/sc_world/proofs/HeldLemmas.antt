@@ -89,6 +89,7 @@ later_sound work w stores sound later same own =
       out = λ job r there is.
           let o : IsOut w r = sound.out job r there is in
           record { attempt = o.attempt; held = o.held; same = o.same };
+      begun = sound.begun;
       no_save = sound.no_save;
       stays = sound.stays;
     }
@@ -160,6 +161,7 @@ goes_on_sound work w exec a next sound there same brings =
           (rw same (of (λ a. RunsOn (core_in w) exec (task_of a)) there (sound.runs job exec)))
           (sound.runs job);
       out = λ job r in is. still r (sound.out job r in is);
+      begun = sound.begun;
       no_save = sound.no_save;
       stays = sound.stays;
     }

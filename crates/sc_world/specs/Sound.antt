@@ -1,5 +1,5 @@
 -- What holds of every world.
-use Rattle.std.specs.Prelude.{ℕ, ◌≡◌, ◌≤◌, true, List, [], Option, Some, None, IfSome, Unit, length, slice_get, Contains}
+use Rattle.std.specs.Prelude.{ℕ, ◌≡◌, ◌≤◌, true, List, [], Option, Some, None, IfSome, length, slice_get, Contains}
 use Rattle.std.specs.List.{AllZip}
 use Rattle.sc_ids.specs.declared.blocks.BlockId.{BlockId}
 use Rattle.sc_ids.specs.declared.blocks.Loc.{Loc}
@@ -13,6 +13,7 @@ use Rattle.sc_net.specs.Tasks.{TaskData, block_of_task, blocks_of_task}
 use Rattle.sc_net.specs.declared.findings.Finding.{Finding}
 use Rattle.sc_net.specs.declared.findings.Finding.TheVariants as findings
 use Rattle.sc_task.specs.Attempts.{AttemptData, assigned, computed, stored, reported, task_of}
+use Rattle.sc_world.specs.Begun.{AreBegun}
 use Rattle.sc_world.specs.Ties.{AreTied, StandsAt, generation_at}
 use Rattle.sc_world.specs.WorldData.{WorldData, core_in, held_at}
 
@@ -79,6 +80,8 @@ pub record IsSoundWorld (work : WorkData) (w : WorldData) : Type 0 where
       → (exec : ℕ) → IfSome (held_at w exec) (λ a. RunsOn (core_in w) exec (task_of a))
   pub out : job_runs (core_in w) ≡ true
       → (r : Running) → Contains (core_in w).running r → r.is_out ≡ true → IsOut w r
+  -- all was registered once that the stages read which had an attempt
+  pub begun : AreBegun (core_in w).dag
   -- nothing is saved, and nobody has left
   pub no_save : (core_in w).committers ≡ []
   pub stays : (core_in w).left_first ≡ None
