@@ -21,7 +21,15 @@ pub(crate) fn same_hand_out(a: &HandOut, b: &HandOut) -> bool
 fn same_inputs(a: &[Location], b: &[Location]) -> bool
     ensures { result ≡ pointwise same_location a.now b.now }
 {
-    a.len() == b.len() && a.iter().zip(b).all(|(a, b)| same_location(*a, *b))
+    if a.len() != b.len() {
+        return false;
+    }
+    for i in 0..a.len() {
+        if !same_location(a[i], b[i]) {
+            return false;
+        }
+    }
+    true
 }
 
 /// Whether two inputs lie, or lay, at the same place.
