@@ -1,2 +1,3 @@
 pub mod ShelfLemmas
 pub mod LawLemmas
+mod TaskLemmas

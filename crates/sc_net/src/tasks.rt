@@ -123,6 +123,13 @@ impl<W: Naming> PartialEq for Task<W> {
         ensures value { result ≡ same_task self.now other.now }
         ensures same { IsTrue result ↔ (self.now ≡ other.now) }
     {
-        same_hand_out(&self.hand_out, &other.hand_out) && self.job == other.job
+        is_same(self, other)
     }
+}
+
+/// Whether two tasks are the same.
+fn is_same<W: Naming>(a: &Task<W>, b: &Task<W>) -> bool
+    ensures { result ≡ same_task a.now b.now }
+{
+    same_hand_out(&a.hand_out, &b.hand_out) && a.job == b.job
 }
