@@ -1,3 +1,6 @@
 pub mod RoomLemmas
 pub mod DagLemmas
 pub mod StepLemmas
+pub mod TaskLemmas
+pub mod KeepLemmas
+pub mod EndLemmas

@@ -25,7 +25,7 @@ use Rattle.sc_dag.specs.declared.reports.Success.{Success}
 use Rattle.sc_dag.specs.declared.reports.Success.TheVariants as successes
 use Rattle.sc_dag.proofs.Tests.{both_left, not_true}
 use Rattle.sc_core.specs.CoreData.{CoreData, job_runs, result_stage, running_of, taken_off, told_once, with_dag}
-use Rattle.sc_core.specs.Posts.{PostsIf, PostsOf, fits}
+use Rattle.sc_core.specs.Posts.{Posts, PostsIf, PostsOf, fits}
 use Rattle.sc_core.specs.Sound.{IsSoundCore}
 use Rattle.sc_core.specs.Steps.{Steps}
 use Rattle.sc_core.specs.Takes.{Takes}
@@ -310,7 +310,7 @@ failure_says c after r cause tells =
 
 -- ---- events
 
-takes_leave : (c after : CoreData) (exec : ℕ) (answer : Answer) → Takes c exec answer after
+pub takes_leave : (c after : CoreData) (exec : ℕ) (answer : Answer) → Takes c exec answer after
     → Leaves c.dag after.dag
 takes_leave c after exec (says.Task h) (asking, out, lt, is) =
     left_with c after (handed_out c.dag h.attempt exec c.now)
@@ -369,18 +369,16 @@ steps_leave c after (Post a outcome) answer step other = by (job_runs c) step
     by true h = of (running_of c a) h
 
 -- a result is won by the report of an attempt of the result stage that runs
-pub record IsWon (c : CoreData) (event : Event) (after : CoreData) : Type 0 where
-  pub attempt : AttemptId
-  pub event_is : event ≡ Post attempt outcomes.Result
-  pub stage : attempt.stage ≡ result_stage c.dag
-  pub within : attempt.partition < (stage_at c.dag attempt.stage).tasks
-  pub wins : Wins c.dag attempt after.dag
+pub record IsWon (c : CoreData) (a : AttemptId) (outcome : Outcome) (after : CoreData) : Type 0 where
+  pub outcome_is : outcome ≡ outcomes.Result
+  pub stage : a.stage ≡ result_stage c.dag
+  pub within : a.partition < (stage_at c.dag a.stage).tasks
+  pub wins : Wins c.dag a after.dag
 
-pub steps_win :
-    (c after : CoreData) (event : Event) → IsSoundCore c → Steps c event says.Finished after
-    → IsWon c event after
-steps_win c after (Take exec) sound step = absurd step
-steps_win c after (Post a outcome) sound step = by (job_runs c) step
+pub posts_win :
+    (c after : CoreData) (a : AttemptId) (outcome : Outcome) → IsSoundCore c
+    → Posts c a outcome says.Finished after → IsWon c a outcome after
+posts_win c after a outcome sound step = by (job_runs c) step
   where
     result : (b : Bool) (r : Running)
         → LeavesOrWins b (taken_off c a) r.hand_out.attempt says.Finished after
@@ -390,7 +388,7 @@ steps_win c after (Post a outcome) sound step = by (job_runs c) step
 
     tells : (r : Running) → running_of c a ≡ Some r → (outcome : Outcome)
         → fits c r outcome ≡ true → Tells (taken_off c a) r outcome says.Finished after
-        → IsWon c (Post a outcome) after
+        → IsWon c a outcome after
     tells r e (outcomes.Map loc) fit h = absurd (map_says (taken_off c a) after r loc h)
     tells r e (outcomes.Failed cause) fit h =
         absurd (failure_says (taken_off c a) after r cause h)
@@ -402,8 +400,7 @@ steps_win c after (Post a outcome) sound step = by (job_runs c) step
         let runs : runner_of c.dag a ≡ Some r.exec =
         subst (λ b. runner_of c.dag b ≡ Some r.exec) p.attempt p.well.in_set in
         record {
-          attempt = a;
-          event_is = refl;
+          outcome_is = refl;
           stage = subst (λ (b : AttemptId). b.stage ≡ result_stage c.dag) p.attempt
               (runs_results c r sound p.well kind);
           within = within_stage c.dag a r.exec sound.dag runs;
@@ -413,10 +410,30 @@ steps_win c after (Post a outcome) sound step = by (job_runs c) step
         }
 
     of : (o : Option Running) → running_of c a ≡ o → PostsOf o c a outcome says.Finished after
-        → IsWon c (Post a outcome) after
+        → IsWon c a outcome after
     of None e (is, left) = absurd (search (rules, is))
     of (Some r) e (fit, h) = tells r e outcome fit h
 
-    by : (b : Bool) → PostsIf b c a outcome says.Finished after → IsWon c (Post a outcome) after
+    by : (b : Bool) → PostsIf b c a outcome says.Finished after → IsWon c a outcome after
     by false (is, left) = absurd (search (rules, is))
     by true h = of (running_of c a) refl h
+
+-- a report that isn't ignored is of an attempt that runs
+pub record IsTold (c : CoreData) (a : AttemptId) : Type 0 where
+  pub one : Running
+  pub runs : job_runs c ≡ true
+  pub running : running_of c a ≡ Some one
+
+pub posts_told :
+    (c after : CoreData) (a : AttemptId) (outcome : Outcome) (answer : Answer)
+    → Posts c a outcome answer after → answer ≢ says.Ignored → IsTold c a
+posts_told c after a outcome answer step other = by (job_runs c) refl step
+  where
+    of : (o : Option Running) → running_of c a ≡ o → job_runs c ≡ true
+        → PostsOf o c a outcome answer after → IsTold c a
+    of None e runs (is, left) = absurd (other is)
+    of (Some r) e runs h = record { one = r; runs = runs; running = e }
+
+    by : (b : Bool) → job_runs c ≡ b → PostsIf b c a outcome answer after → IsTold c a
+    by false e (is, left) = absurd (other is)
+    by true e h = of (running_of c a) refl e h

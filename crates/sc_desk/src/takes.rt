@@ -49,11 +49,9 @@ impl<W: Naming> Desk<W> {
     {
         let work = self.work.share()?;
         let job = self.job.share()?;
+        self.journal.core().is_sound();
         match self.journal.enter(by, Event::Take { exec }) {
-            Ok(answer) => {
-                self.journal.core().is_sound();
-                Ok(told(work, job, answer))
-            }
+            Ok(answer) => Ok(told(work, job, answer)),
             Err(_) => Err(AllocError),
         }
     }

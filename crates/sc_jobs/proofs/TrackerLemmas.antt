@@ -1,20 +1,23 @@
 -- Which trackers fit the jobs of a work.
-use Rattle.std.proofs.Common.{◌≡◌, ◌∙◌, ℕ, Bool, true, false, ◌||◌, List, [], ◌∷◌, ◌++◌, length, replicate, if◌then◌else◌, inl, inr, ◌⊎◌, refl, ap, sym, subst, arith}
+use Rattle.std.proofs.Common.{◌≡◌, ◌∙◌, ℕ, zero, suc, ◌+◌, Bool, true, false, ◌||◌, List, [], ◌∷◌, ◌++◌, length, map, replicate, if◌then◌else◌, inl, inr, ◌⊎◌, refl, ap, sym, subst, arith}
 use Rattle.std.proofs.lemmas.Bool.{cases_Bool, false≢true}
-use Rattle.std.proofs.lemmas.List.{length-replicate}
+use Rattle.std.proofs.lemmas.List.{length-map, length-replicate}
 use Rattle.std.proofs.lemmas.List.Elements.{All-append, All-cons, All-contains, All-contains_itself, All-head, All-nil, All-tail, All-weaker}
-use Rattle.std.specs.List.{All, Contains, list_any}
+use Rattle.std.specs.List.{All, Contains, list_any, slice_get}
 use Rattle.sc_ids.specs.Graphs.{StageData, stage_data}
 use Rattle.sc_ids.specs.declared.blocks.ShuffleId.{ShuffleId}
 use Rattle.sc_ids.specs.declared.blocks.Target.{Target}
 use Rattle.sc_ids.specs.declared.blocks.Target.TheVariants as targets
 use Rattle.sc_lineage.specs.ScriptData.{WorkData}
-use Rattle.sc_tracker.specs.Outputs.{never}
-use Rattle.sc_tracker.specs.Tracking.{has_room, sized}
-use Rattle.sc_tracker.specs.TrackerData.{ShuffleData, TrackerData, is_of, outputs_of, outputs_under, shuffle_data, tracker_data}
+use Rattle.sc_ids.specs.Changes.{change_at}
+use Rattle.sc_ids.proofs.ChangeLemmas.{length_change_at}
+use Rattle.sc_tracker.specs.Outputs.{forgotten, forgotten_on, never, placed}
+use Rattle.sc_tracker.specs.Trust.{is_live, is_newer, lost_at, seen_at}
+use Rattle.sc_tracker.specs.Tracking.{has_room, sized, with_forgotten, with_forgotten_on, with_placed}
+use Rattle.sc_tracker.specs.TrackerData.{ShuffleData, TrackerData, is_of, outputs_of, outputs_under, place_of, shuffle_data, tracker_data}
 use Rattle.sc_tracker.proofs.BlockLemmas.{is_of_itself, one_shuffle, under_behind, under_here}
 use Rattle.sc_dag.specs.Openings.{FitsIn, FitsJob, sized_by, sized_for_all}
-use Rattle.sc_jobs.specs.Fitting.{FitsWork, HasItsMaps, NewTrackersFit, SizedTrackersFit, TrackersFit}
+use Rattle.sc_jobs.specs.Fitting.{ChangedTrackersFit, ChangesFit, FitsWork, HasItsMaps, NewTrackersFit, SizedTrackersFit, TrackersFit}
 use Rattle.sc_jobs.specs.JobData.{JobData}
 use Rattle.sc_jobs.specs.Plans.{AreTasksFor, IsJobFor, IsStageFor, maps_of}
 use Rattle.sc_jobs.specs.declared.goals.Goal.{Goal}
@@ -81,6 +84,56 @@ module _ (work : WorkData) where
       (fits_by goal t stage.id stage.tasks stage.target stage.parents fits
       (All-head (IsStageFor work goal) stage graph all))
 
+  -- outputs that change at their places
+  fits_each : (f : ShuffleData → ShuffleData)
+      → ((s : ShuffleData) → HasItsMaps work s → HasItsMaps work (f s))
+      → (xs : List ShuffleData) → All (HasItsMaps work) xs → All (HasItsMaps work) (map f xs)
+  fits_each f keeps [] all = All-nil (HasItsMaps work)
+  fits_each f keeps (x ∷ xs) all =
+      All-cons (HasItsMaps work) (f x) (map f xs) (keeps x (All-head (HasItsMaps work) x xs all))
+      (fits_each f keeps xs (All-tail (HasItsMaps work) x xs all))
+
+  fits_at : (f : ShuffleData → ShuffleData)
+      → ((s : ShuffleData) → HasItsMaps work s → HasItsMaps work (f s))
+      → (xs : List ShuffleData) (i : ℕ) → All (HasItsMaps work) xs
+      → All (HasItsMaps work) (change_at xs i f)
+  fits_at f keeps [] i all = All-nil (HasItsMaps work)
+  fits_at f keeps (x ∷ xs) zero all =
+      All-cons (HasItsMaps work) (f x) xs (keeps x (All-head (HasItsMaps work) x xs all))
+      (All-tail (HasItsMaps work) x xs all)
+  fits_at f keeps (x ∷ xs) (suc i) all =
+      All-cons (HasItsMaps work) x (change_at xs i f) (All-head (HasItsMaps work) x xs all)
+      (fits_at f keeps xs i (All-tail (HasItsMaps work) x xs all))
+
+  -- forgotten outputs are still as many
+  fits_forgotten : (exec : ℕ) (xs : List ShuffleData) → All (HasItsMaps work) xs
+      → All (HasItsMaps work) (map (with_forgotten_on exec) xs)
+  fits_forgotten exec =
+      fits_each (with_forgotten_on exec)
+      (λ s its. length-map s.outputs (forgotten_on exec) ∙ its)
+
+  fits_changed : (t : TrackerData) → FitsWork work t → ChangesFit work t
+  fits_changed t fits = record {
+    output = λ block loc.
+        fits_at (with_placed block.map loc t.epoch)
+        (λ s its. length_change_at s.outputs block.map (placed loc t.epoch) ∙ its) t.shuffles
+        (place_of t.shuffles block.shuffle) fits;
+    gone = λ exec found. either (is_newer (slice_get t.trust exec) found)
+        (tracker_data (map (with_forgotten_on exec) t.shuffles)
+        (change_at t.trust exec (seen_at found t.epoch)) (t.epoch + 1))
+        (fits_forgotten exec t.shuffles fits);
+    lost = λ exec. either (is_live (slice_get t.trust exec))
+        (tracker_data (map (with_forgotten_on exec) t.shuffles)
+        (change_at t.trust exec (lost_at t.epoch)) (t.epoch + 1))
+        (fits_forgotten exec t.shuffles fits);
+    all = fits_each with_forgotten (λ s its. length-map s.outputs forgotten ∙ its) t.shuffles fits;
+  }
+    where
+      either : (b : Bool) (other : TrackerData) → FitsWork work other
+          → FitsWork work (if b then other else t)
+      either true other is = is
+      either false other is = fits
+
 pub trackers_fit : TrackersFit
 trackers_fit work job t is fits =
     All-weaker (Contains job.graph) (FitsIn t)
@@ -93,3 +146,6 @@ new_trackers_fit work trust epoch = All-nil (HasItsMaps work)
 
 pub sized_trackers_fit : SizedTrackersFit
 sized_trackers_fit work job t is fits = fits_all work job.goal job.graph t is.stages fits
+
+pub changed_trackers_fit : ChangedTrackersFit
+changed_trackers_fit work t fits = fits_changed work t fits

@@ -1,3 +1,2 @@
 pub mod ShelfLemmas
 pub mod LawLemmas
-mod TaskLemmas

@@ -95,6 +95,14 @@ impl<W: Naming> Task<W> {
         self.work.get().plan().fails(&self.attempt())
     }
 
+    /// Whether it is what was handed out so, of this job.
+    pub fn is_of(&self, job: &Job<W>, hand_out: &HandOut) -> bool
+        ensures value { result ≡ same_task self.now (task_data job.now hand_out.now) }
+        ensures same { IsTrue result ↔ (self.now ≡ task_data job.now hand_out.now) }
+    {
+        same_hand_out(&self.hand_out, hand_out) && self.job == *job
+    }
+
     /// What it is by its type: a task of its job.
     pub fn is_task(&self)
         ensures { IsTaskOf self.now.job self.now.hand_out }
@@ -123,13 +131,6 @@ impl<W: Naming> PartialEq for Task<W> {
         ensures value { result ≡ same_task self.now other.now }
         ensures same { IsTrue result ↔ (self.now ≡ other.now) }
     {
-        is_same(self, other)
+        self.is_of(&other.job, &other.hand_out)
     }
-}
-
-/// Whether two tasks are the same.
-fn is_same<W: Naming>(a: &Task<W>, b: &Task<W>) -> bool
-    ensures { result ≡ same_task a.now b.now }
-{
-    same_hand_out(&a.hand_out, &b.hand_out) && a.job == b.job
 }

@@ -1,0 +1,226 @@
+-- What holds of every desk holds behind each entry.
+use Rattle.std.proofs.Common.{◌≡◌, ◌≢◌, ◌⊎◌, inl, inr, ℕ, ◌-◌, ◌<◌, ◌++◌, All, Bool, true, false, if◌then◌else◌, List, [], ◌∷◌, length, Option, Some, None, IfSome, is_some, slice_get, refl, ap, sym, subst, ◌∙◌, arith, rules, true≢false}
+use Rattle.std.proofs.lemmas.Bool.{cases_eq}
+use Rattle.std.proofs.lemmas.List.Elements.{All-push}
+use Rattle.sc_base.specs.Lists.{at_or}
+use Rattle.sc_value.specs.Datum.{Datum}
+use Rattle.sc_ids.specs.Changes.{change_at}
+use Rattle.sc_ids.specs.Graphs.{StageData}
+use Rattle.sc_ids.specs.declared.attempts.AttemptId.{AttemptId}
+use Rattle.sc_ids.specs.declared.attempts.Mark.{Mark}
+use Rattle.sc_ids.specs.declared.blocks.ShuffleId.{ShuffleId}
+use Rattle.sc_ids.specs.declared.blocks.Target.{Target}
+use Rattle.sc_ids.specs.declared.blocks.Target.TheVariants as targets
+use Rattle.sc_ids.proofs.ChangeLemmas.{at_or_change_other, at_or_change_same, length_change_at}
+use Rattle.sc_lineage.specs.ScriptData.{WorkData}
+use Rattle.sc_tracker.specs.TrackerData.{TrackerData}
+use Rattle.sc_dag.specs.DagData.{DagData, no_stage, stage_at}
+use Rattle.sc_dag.specs.Openings.{AreNumbered}
+use Rattle.sc_dag.specs.Outputs.{is_done, is_done_by, results_in}
+use Rattle.sc_dag.specs.Submission.{is_map}
+use Rattle.sc_core.specs.CoreData.{CoreData, result_stage}
+use Rattle.sc_core.specs.Sound.{IsSoundCore}
+use Rattle.sc_core.specs.declared.answers.Answer.{Answer}
+use Rattle.sc_core.specs.declared.events.Event.{Event}
+use Rattle.sc_jobs.specs.Fitting.{FitsWork, HasItsMaps}
+use Rattle.sc_jobs.specs.Plans.{maps_of}
+use Rattle.sc_desk.specs.DeskData.{DeskData, core_of}
+use Rattle.sc_desk.specs.Entries.{Enters}
+use Rattle.sc_desk.specs.Sound.{HasEvidence, IsEvident, IsResult, IsSoundDesk, has_result, result_at, result_count}
+use Rattle.sc_desk.proofs.RoomLemmas.{rooms, rooms_hold}
+use Rattle.sc_desk.proofs.DagLemmas.{Leaves, SameJob}
+use Rattle.sc_desk.proofs.StepLemmas.{Wins}
+
+-- ---- results in the core
+
+-- of a stage of results the results alone tell what is done
+pub done_is :
+    (d : DagData) (s p : ℕ) → is_map (stage_at d s).target ≡ false
+    → is_done d s p ≡ at_or (results_in (slice_get d.states s)) p false
+done_is d s p kind = by (stage_at d s).target kind
+  where
+    by : (target : Target) → is_map target ≡ false
+        → is_done_by d.tracker target (results_in (slice_get d.states s)) p
+        ≡ at_or (results_in (slice_get d.states s)) p false
+    by (targets.Map shuffle) k = absurd (true≢false k)
+    by (targets.Result node) k = refl
+
+-- the result stage stays the same, and so does its kind
+same_last : (d after : DagData) → after.stages ≡ d.stages → result_stage after ≡ result_stage d
+same_last d after stages = ap (λ (all : List StageData). length all - 1) stages
+
+same_stage : (d after : DagData) (s : ℕ) → after.stages ≡ d.stages
+    → stage_at after s ≡ stage_at d s
+same_stage d after s stages = ap (λ (all : List StageData). at_or all s no_stage) stages
+
+same_count : (d after : DagData) → after.stages ≡ d.stages → result_count after ≡ result_count d
+same_count d after stages =
+    ap (λ s. (stage_at after s).tasks) (same_last d after stages)
+    ∙ ap (λ (x : StageData). x.tasks) (same_stage d after (result_stage d) stages)
+
+-- what the core has of results is told by those of its result stage
+results_tell :
+    (d after : DagData) (p : ℕ) → after.stages ≡ d.stages
+    → is_map (stage_at d (result_stage d)).target ≡ false
+    → has_result after p ≡ at_or (results_in (slice_get after.states (result_stage d))) p false
+results_tell d after p stages kind =
+    ap (λ s. is_done after s p) (same_last d after stages)
+    ∙ done_is after (result_stage d) p
+    (ap (λ (x : StageData). is_map x.target) (same_stage d after (result_stage d) stages) ∙ kind)
+
+-- ---- entries
+
+-- all but the results, where the stages of the core stay
+record KeepsRest (work : WorkData) (d after : DeskData) : Type 0 where
+  stages : AreNumbered after.job.graph (core_of after).dag.stages
+  limits : (core_of after).dag.limits ≡ work.limits
+  count : result_count (core_of after).dag ≡ result_count (core_of d).dag
+  evidence : All (HasEvidence work after.job) after.journal.entries
+  fits : FitsWork work (core_of after).dag.tracker
+
+keeps_rest :
+    (work : WorkData) (d after : DeskData) (by : Mark) (event : Event) (answer : Answer)
+    → IsSoundDesk work d → Enters d by event answer after
+    → SameJob (core_of d).dag (core_of after).dag → IsEvident work d.job event answer
+    → KeepsRest work d after
+keeps_rest work d after by event answer sound enters same evident =
+    record {
+      stages = rw (enters.job, same.stages) sound.stages;
+      limits = same.limits ∙ sound.limits;
+      count = same_count (core_of d).dag (core_of after).dag same.stages;
+      evidence = rw (enters.job, enters.entries)
+          (All-push (HasEvidence work d.job) d.journal.entries _ sound.evidence evident);
+      fits = rooms_hold (λ r. r.1 ≡ maps_of work r.0) (core_of d).dag.tracker
+          (core_of after).dag.tracker same.rooms sound.fits;
+    }
+
+-- a desk with other results, of which what is kept is known
+with_results :
+    (work : WorkData) (d after : DeskData) (by : Mark) (event : Event) (answer : Answer)
+    → IsSoundDesk work d → Enters d by event answer after → KeepsRest work d after
+    → length after.results ≡ length d.results
+    → ((p : ℕ) → is_some (result_at after.results p) ≡ has_result (core_of after).dag p)
+    → ((p : ℕ) → IfSome (result_at after.results p) (IsResult work d.job p))
+    → IsSoundDesk work after
+with_results work d after by event answer sound enters rest long won own =
+    record {
+      last = sound.last;
+      opened = rw (enters.job, enters.opening) sound.opened;
+      stages = rest.stages;
+      limits = rest.limits;
+      places = long ∙ sound.places ∙ sym rest.count;
+      won = won;
+      own = rw enters.job own;
+      evidence = rest.evidence;
+      carried = rw enters.carried sound.carried;
+      bounds = rw enters.carried sound.bounds;
+      fits = rest.fits;
+    }
+
+-- an entry that wins no result
+pub leaves_keep :
+    (work : WorkData) (d after : DeskData) (by : Mark) (event : Event) (answer : Answer)
+    → IsSoundDesk work d → IsSoundCore (core_of d) → Enters d by event answer after
+    → Leaves (core_of d).dag (core_of after).dag → IsEvident work d.job event answer
+    → after.results ≡ d.results → IsSoundDesk work after
+leaves_keep work d after by event answer sound core enters leaves evident same =
+    with_results work d after by event answer sound enters
+    (keeps_rest work d after by event answer sound enters leaves.job evident)
+    (ap length same) won (rw same sound.own)
+  where
+    a : DagData
+    a = (core_of d).dag
+
+    b : DagData
+    b = (core_of after).dag
+
+    won : (p : ℕ) → is_some (result_at after.results p) ≡ has_result (core_of after).dag p
+    won p =
+        ap (λ rs. is_some (result_at rs p)) same ∙ sound.won p
+        ∙ done_is a (result_stage a) p core.result
+        ∙ ap (λ rs. at_or rs p false) (sym (leaves.results (result_stage a)))
+        ∙ sym (results_tell a b p leaves.job.stages core.result)
+
+-- an entry that wins one, whose rows are kept
+pub wins_keep :
+    (work : WorkData) (d after : DeskData) (by : Mark) (event : Event) (answer : Answer)
+    (at : AttemptId) (rows : List Datum)
+    → IsSoundDesk work d → IsSoundCore (core_of d) → Enters d by event answer after
+    → at.stage ≡ result_stage (core_of d).dag
+    → at.partition < (stage_at (core_of d).dag at.stage).tasks
+    → Wins (core_of d).dag at (core_of after).dag → IsEvident work d.job event answer
+    → IsResult work d.job at.partition rows
+    → after.results ≡ change_at d.results at.partition (λ _. Some rows)
+    → IsSoundDesk work after
+wins_keep work d after by event answer at rows sound core enters stage within wins evident is
+    same =
+    with_results work d after by event answer sound enters
+    (keeps_rest work d after by event answer sound enters wins.job evident)
+    (ap length same ∙ length_change_at d.results at.partition (λ _. Some rows))
+    (λ p. won p (cases_eq at.partition p)) (λ p. own p (cases_eq at.partition p))
+  where
+    a : DagData
+    a = (core_of d).dag
+
+    b : DagData
+    b = (core_of after).dag
+
+    last : ℕ
+    last = result_stage (core_of d).dag
+
+    before : List Bool
+    before = results_in (slice_get (core_of d).dag.states (result_stage (core_of d).dag))
+
+    now : results_in (slice_get (core_of after).dag.states (result_stage (core_of d).dag))
+        ≡ change_at (results_in (slice_get (core_of d).dag.states (result_stage (core_of d).dag)))
+        at.partition (λ _. true)
+    now =
+        subst (λ (s : ℕ). results_in (slice_get (core_of after).dag.states s)
+        ≡ change_at (results_in (slice_get (core_of d).dag.states s)) at.partition (λ _. true))
+        stage wins.results
+
+    below : at.partition < result_count (core_of d).dag
+    below = subst (λ (s : ℕ). at.partition < (stage_at (core_of d).dag s).tasks) stage within
+
+    there : at.partition < length before
+    there =
+        let long : length before ≡ result_count (core_of d).dag =
+        rw core.result at (core.dag.results (result_stage (core_of d).dag)) in
+        omega (arith, below, long)
+
+    room : at.partition < length d.results
+    room = omega (arith, below, sound.places)
+
+    tells : (p : ℕ) → has_result (core_of after).dag p
+        ≡ at_or (change_at before at.partition (λ _. true)) p false
+    tells p =
+        results_tell (core_of d).dag (core_of after).dag p wins.job.stages core.result
+        ∙ ap (λ rs. at_or rs p false) now
+
+    won : (p : ℕ) → (at.partition ≡ p) ⊎ (at.partition ≡ p → ⊥)
+        → is_some (result_at after.results p) ≡ has_result (core_of after).dag p
+    won p (inl e) =
+        subst (λ (q : ℕ). is_some (result_at after.results q) ≡ has_result (core_of after).dag q) e
+        (ap (λ rs. is_some (result_at rs at.partition)) same
+        ∙ ap (λ o. is_some o) (at_or_change_same d.results at.partition None (λ _. Some rows) room)
+        ∙ sym (at_or_change_same before at.partition false (λ _. true) there)
+        ∙ sym (tells at.partition))
+    won p (inr ne) =
+        ap (λ rs. is_some (result_at rs p)) same
+        ∙ ap (λ o. is_some o)
+        (at_or_change_other d.results at.partition p None (λ _. Some rows) (λ e. ne (sym e)))
+        ∙ sound.won p
+        ∙ done_is (core_of d).dag (result_stage (core_of d).dag) p core.result
+        ∙ sym (at_or_change_other before at.partition p false (λ _. true) (λ e. ne (sym e)))
+        ∙ sym (tells p)
+
+    own : (p : ℕ) → (at.partition ≡ p) ⊎ (at.partition ≡ p → ⊥)
+        → IfSome (result_at after.results p) (IsResult work d.job p)
+    own p (inl e) =
+        subst (λ (q : ℕ). IfSome (result_at after.results q) (IsResult work d.job q)) e
+        (rw (same, at_or_change_same d.results at.partition None (λ _. Some rows) room) is)
+    own p (inr ne) =
+        rw (
+          same,
+          at_or_change_other d.results at.partition p None (λ _. Some rows) (λ e. ne (sym e)),
+        ) (sound.own p)
