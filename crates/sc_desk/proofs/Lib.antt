@@ -4,3 +4,5 @@ pub mod StepLemmas
 pub mod TaskLemmas
 pub mod KeepLemmas
 pub mod EndLemmas
+pub mod PostLemmas
+pub mod BeginLemmas

@@ -1,11 +1,14 @@
 -- How a desk begins.
-use Rattle.std.specs.Prelude.{ℕ, ◌≡◌, ◌⊎◌, [], None, List, Option, replicate}
+use Rattle.std.specs.Prelude.{ℕ, ◌≡◌, ◌⊎◌, [], None, Some, List, Option, replicate}
 use Rattle.sc_ids.specs.Graphs.{StageData}
+use Rattle.sc_ids.specs.declared.limits.Limits.{Limits}
 use Rattle.sc_lineage.specs.ScriptData.{WorkData}
 use Rattle.sc_stagecut.specs.Carrying.{CarriedData, after_job}
 use Rattle.sc_stagecut.specs.Cuts.{IsCut}
 use Rattle.sc_core.specs.CoreData.{CoreData}
 use Rattle.sc_core.specs.Openings.{IsOpening}
+use Rattle.sc_core.specs.Journals.{JournalData}
+use Rattle.sc_jobs.specs.Fitting.{FitsWork}
 use Rattle.sc_jobs.specs.JobData.{goal_node}
 use Rattle.sc_jobs.specs.declared.goals.Goal.{Goal}
 use Rattle.sc_desk.specs.DeskData.{DeskData, core_of}
@@ -30,3 +33,15 @@ IsHandedBack work carried goal back =
     (back ≡ carried)
     ⊎ ((graph : List StageData) × IsCut work carried (goal_node work goal) graph
     × (back ≡ after_job carried graph))
+
+-- the tracker of the job before, where there is one, fits the work
+abbrev pub FitsLast : WorkData → Option CoreData → Type 0
+FitsLast work None = Unit {0}
+FitsLast work (Some last) = FitsWork work last.dag.tracker
+
+-- a journal of a job that begins: nothing has happened
+pub record IsFresh (graph : List StageData) (limits : Limits) (last : Option CoreData)
+    (j : JournalData) : Type 0 where
+  pub opening_is : IsOpening graph limits 0 last j.opening
+  pub none : j.entries ≡ []
+  pub core_is : j.core ≡ j.opening

@@ -1,5 +1,5 @@
 -- What becomes of a report that is posted.
-use Rattle.std.specs.Prelude.{ℕ, ◌≡◌, List, Option, Some, length, true}
+use Rattle.std.specs.Prelude.{ℕ, ◌≡◌, Bool, true, false, List, Option, Some, None, if◌then◌else◌, length}
 use Rattle.sc_ids.specs.Changes.{change_at}
 use Rattle.sc_ids.specs.declared.attempts.AttemptId.{AttemptId}
 use Rattle.sc_ids.specs.declared.attempts.Mark.{Mark}
@@ -11,7 +11,8 @@ use Rattle.sc_core.specs.declared.answers.Answer.TheVariants as says
 use Rattle.sc_core.specs.declared.events.Event.TheVariants.{Post}
 use Rattle.sc_core.specs.declared.running.Running.{Running}
 use Rattle.sc_net.specs.Reports.{ReportData, outcome_of, rows_of}
-use Rattle.sc_net.specs.Tasks.{task_data}
+use Rattle.sc_jobs.specs.JobData.{JobData}
+use Rattle.sc_net.specs.Tasks.{TaskData, task_data}
 use Rattle.sc_desk.specs.DeskData.{DeskData, core_of}
 use Rattle.sc_desk.specs.Entries.{Enters}
 use Rattle.sc_desk.specs.declared.posts.Posted.{Posted}
@@ -32,12 +33,32 @@ IsKnown d report =
     (r : Running) → job_runs (core_of d) ≡ true
     → running_of (core_of d) (attempt_of report) ≡ Some r → IsOf d r report
 
+-- an answer says that a partition has its result
+abbrev pub is_finished : Answer → Bool
+is_finished says.Finished = true
+is_finished answer = false
+
 -- the results with that of a report, where it is answered that its partition is finished
 abbrev pub results_after :
     List (Option (List Datum)) → ReportData → Answer → List (Option (List Datum))
-results_after results report says.Finished =
-    change_at results (attempt_of report).partition (λ _. rows_of report.finding)
-results_after results report answer = results
+results_after results report answer =
+    if is_finished answer
+    then change_at results (attempt_of report).partition (λ _. rows_of report.finding)
+    else results
+
+-- a task is the one that was given to a running attempt, where there is one
+abbrev pub IsGivenOf : Option Running → JobData → TaskData → Type 0
+IsGivenOf None job t = Unit {0}
+IsGivenOf (Some r) job t = t ≡ task_data job r.hand_out
+
+abbrev pub IsGivenIf : Bool → Option Running → JobData → TaskData → Type 0
+IsGivenIf true running job t = IsGivenOf running job t
+IsGivenIf false running job t = Unit {0}
+
+-- a task is the one that was given to its attempt, where that runs here
+abbrev pub IsGiven : DeskData → TaskData → Type 0
+IsGiven d t =
+    IsGivenIf (job_runs (core_of d)) (running_of (core_of d) t.hand_out.attempt) d.job t
 
 -- a report is received: it is no stranger, and its entry, at this place, has what the core answers
 pub record Receives (d : DeskData) (by : Mark) (report : ReportData) (at : ℕ) (answer : Answer)

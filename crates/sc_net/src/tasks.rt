@@ -100,6 +100,13 @@ impl<W: Naming> Task<W> {
         ensures value { result ≡ same_task self.now (task_data job.now hand_out.now) }
         ensures same { IsTrue result ↔ (self.now ≡ task_data job.now hand_out.now) }
     {
+        self.has_parts(job, hand_out)
+    }
+
+    /// The same, by a test of its parts.
+    fn has_parts(&self, job: &Job<W>, hand_out: &HandOut) -> bool
+        ensures { result ≡ same_task self.now (task_data job.now hand_out.now) }
+    {
         same_hand_out(&self.hand_out, hand_out) && self.job == *job
     }
 
