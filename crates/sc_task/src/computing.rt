@@ -57,12 +57,35 @@ fn made_for<W: Naming>(
 {
     let mut stages = handed(alloc, work, task, got)?;
     match target {
-        Target::Map { node, side, .. } => {
-            stages.prepare(alloc, work, mapped_by(work, node, side))?;
-            tell_bounds(work, task, &mut stages, node)?;
+        Target::Map { node, side, .. } => made_to_map(alloc, work, task, stages, node, side),
+        Target::Result { action, .. } => {
+            stages.prepare(alloc, work, node_of(action))?;
+            Ok(stages)
         }
-        Target::Result { action, .. } => stages.prepare(alloc, work, node_of(action))?,
     }
+}
+
+/// What was made, and beside it all that is to be made before what goes into a side of a node can
+/// be computed.
+fn made_to_map<W: Naming>(
+    alloc: Global,
+    work: &Work,
+    task: &Task<W>,
+    mut stages: Stages,
+    node: NodeId,
+    side: u8,
+) -> Result<Stages, AllocError>
+    requires named { work.now ≡ W.work }
+    requires right { AreRight work.now stages }
+    requires known { node < length work.now.script.nodes }
+    requires side { IsSideOf (node_at work.now node) side }
+    requires maps { MapsInto task.now.job.graph node }
+    ensures right { IfOk result (AreRight work.now) }
+    ensures made { IfOk result (λ s. HasMade s (mapped_in (node_at work.now node) side)) }
+    ensures told { IfOk result (λ s. HasBounds s node (node_at work.now node)) }
+{
+    stages.prepare(alloc, work, mapped_by(work, node, side))?;
+    tell_bounds(work, task, &mut stages, node)?;
     Ok(stages)
 }
 
@@ -81,11 +104,12 @@ fn handed<W: Naming>(
     let mut stages = Stages::new(alloc, work)?;
     let mut rest = got;
     for parent in parents_of(task) {
-        if let Some(stage) = task.job().stage(*parent) {
-            let (outputs, others) = rest.split_at(count_left(stage));
-            hand_in(alloc, work, &mut stages, stage, outputs)?;
-            rest = others;
-        }
+        let Some(stage) = task.job().stage(*parent) else {
+            continue;
+        };
+        let (outputs, others) = rest.split_at(count_left(stage));
+        hand_in(alloc, work, &mut stages, stage, outputs)?;
+        rest = others;
     }
     Ok(stages)
 }

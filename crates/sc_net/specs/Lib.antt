@@ -1,0 +1,5 @@
+pub mod Shelves
+pub mod ShelfLaws
+pub mod Tasks
+pub mod Equality
+pub mod Reports

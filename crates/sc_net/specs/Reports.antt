@@ -1,0 +1,82 @@
+-- Reports, and when they are true.
+use Rattle.std.specs.Prelude.{ℕ, ◌≡◌, ◌<◌, Bool, true, false, List, Option, Some, None, All, Contains, refl}
+use Rattle.std.specs.Coded.{Coded, code_by, coded×}
+use Rattle.sc_value.specs.Datum.{Datum}
+use Rattle.sc_expr.specs.declared.exprs.Raise.{Raise}
+use Rattle.sc_ids.specs.declared.blocks.BlockId.{BlockId}
+use Rattle.sc_ids.specs.declared.blocks.Loc.{Loc}
+use Rattle.sc_ids.specs.declared.failures.FailureCause.TheVariants as causes
+use Rattle.sc_lineage.specs.ScriptData.{WorkData}
+use Rattle.sc_lineage.specs.Streams.{whole_stream}
+use Rattle.sc_lineage.specs.Targets.{map_target, own_value}
+use Rattle.sc_tracker.specs.declared.outputs.Location.{Location}
+use Rattle.sc_tracker.specs.declared.outputs.Location.TheVariants as locations
+use Rattle.sc_core.specs.declared.events.Outcome.{Outcome}
+use Rattle.sc_core.specs.declared.events.Outcome.TheVariants as outcomes
+use Rattle.sc_net.specs.Tasks.{TaskData, blocks_of_task, is_map_task, is_planned, target_of_task, task_code}
+use Rattle.sc_net.specs.contracts.findings.Finding.{the_row as finding_row}
+use Rattle.sc_net.specs.declared.findings.Finding.{Finding}
+use Rattle.sc_net.specs.declared.findings.Finding.TheVariants as findings
+
+-- a report
+pub record ReportData : Type 0 where
+  -- the task that it is of
+  pub task : TaskData
+  -- what it says
+  pub finding : Finding
+
+abbrev pub report_data : TaskData → Finding → ReportData
+report_data task finding = record { task = task; finding = finding }
+
+-- the code of a report, by which proofs tell two of them apart
+abbrev pub report_code : Coded ReportData
+report_code =
+    code_by (TaskData × Finding) (coded× task_code finding_row.coded)
+    (λ r. (r.task, r.finding)) (λ p. report_data p.0 p.1) (λ _. refl)
+
+-- where a block lies
+abbrev pub loc_at : ℕ → ℕ → Loc
+loc_at exec generation = record { exec = exec; generation = generation }
+
+-- a task was given this for one of its inputs
+abbrev pub WasGiven : TaskData → Location → Type 0
+WasGiven t location = Contains t.hand_out.inputs location
+
+-- what the map task of a block is to have computed doesn't raise
+abbrev pub IsWithoutRaise : WorkData → BlockId → Type 0
+IsWithoutRaise work b =
+    (own_value work (map_target b.shuffle.node b.shuffle.side b.map)).raise ≡ None
+
+-- what a task is to compute raises, and nothing that it reads does
+pub record Raises (work : WorkData) (t : TaskData) (r : Raise) : Type 0 where
+  pub own : (own_value work (target_of_task work t)).raise ≡ Some r
+  pub inputs : All (IsWithoutRaise work) (blocks_of_task t)
+
+-- rows are the result of a task, which doesn't raise
+pub record IsResultOf (work : WorkData) (t : TaskData) (rows : List Datum) : Type 0 where
+  pub result : is_map_task t ≡ false
+  pub own : own_value work (target_of_task work t) ≡ whole_stream rows
+
+-- a finding is true of a task: it has its evidence
+abbrev pub IsTrueReport : WorkData → TaskData → Finding → Type 0
+IsTrueReport work t (findings.Map loc) = is_map_task t ≡ true
+IsTrueReport work t (findings.Result rows) = IsResultOf work t rows
+IsTrueReport work t findings.Planned = is_planned work t ≡ true
+IsTrueReport work t (findings.Raised r) = Raises work t r
+IsTrueReport work t (findings.Gone exec wanted found) =
+    WasGiven t (locations.Here (loc_at exec wanted)) × (wanted < found)
+IsTrueReport work t (findings.Missing last) = WasGiven t (locations.Missing (Some last))
+
+-- what the scheduler is told of a finding
+abbrev pub outcome_of : Finding → Outcome
+outcome_of (findings.Map loc) = outcomes.Map loc
+outcome_of (findings.Result rows) = outcomes.Result
+outcome_of findings.Planned = outcomes.Failed causes.Planned
+outcome_of (findings.Raised r) = outcomes.Failed causes.Raised
+outcome_of (findings.Gone exec wanted found) = outcomes.Failed (causes.Gone exec wanted found)
+outcome_of (findings.Missing last) = outcomes.Failed (causes.Metadata last)
+
+-- the rows that a finding carries
+abbrev pub rows_of : Finding → Option (List Datum)
+rows_of (findings.Result rows) = Some rows
+rows_of finding = None

@@ -1,0 +1,32 @@
+//! What goes between the driver and the executors: tasks out, and reports back.
+//!
+//! A [`Task`] is handed out to an executor: one partition of one stage of a job, with the places of
+//! the blocks that it reads. By its type the job has it, and each block has its place. What its
+//! attempt came to is a [`Report`], which keeps its task and tells a [`Finding`]. By its type a
+//! report is true: a result is what the task is to compute, a raise is its own and of nothing that
+//! it reads, and a block that was gone or missing is one of its inputs (`specs/Reports.antt`). So
+//! whoever is told need not ask who tells.
+//!
+//! A fault plan may have a report come late, or twice. What is to be told later stands on a
+//! [`Shelf`] under a key. It is due once so many reports were told, and anyway where nothing else
+//! can happen in the job. Contracts see a shelf as its reports in the order of their keys, and the
+//! next key. Keys count up and are never used again: a report that was taken off can't be told
+//! twice. The shelf is generic in the reports, which it moves and neither reads nor copies.
+//!
+//! Jobs come from `sc_jobs`, hand-outs from `sc_core`. Who computes and who is told stands above.
+#![tactic(auto)]
+
+mod findings;
+mod laws;
+mod reports;
+mod same;
+mod shelf;
+mod shelved;
+mod tasks;
+
+pub use findings::Finding;
+pub use laws::shelves_are_lawful;
+pub use reports::Report;
+pub use shelf::Shelf;
+pub use shelved::ShelvedReport;
+pub use tasks::Task;

@@ -1,0 +1,103 @@
+//! Reports.
+#![tactic(auto)]
+
+ghost use Rattle.std.specs.Prelude.{◌≡◌};
+ghost use Rattle.sc_net.specs.Reports.{IsTrueReport, outcome_of, report_data, rows_of};
+
+use crate::findings::Finding;
+use crate::tasks::Task;
+use sc_columns::Rows;
+use sc_core::Outcome;
+use sc_ids::{AttemptId, FailureCause};
+use sc_work::Naming;
+use std::marker::Model;
+
+/// What an attempt reports, which by its type is true of its task.
+#[derive(Drop)]
+pub struct Report<W: Naming> {
+    task: Task<W>,
+    finding: Finding,
+}
+
+impl<W: Naming> Model for Report<W> {
+    ghost use Rattle.sc_net.specs.Reports.{IsTrueReport, ReportData, report_code, report_data};
+
+    ghost Value = { ReportData };
+
+    ghost coded = { report_code };
+
+    ghost view = { λ r. report_data r.task r.finding };
+
+    ghost invariant = { λ r. IsTrueReport W.work r.task r.finding };
+}
+
+impl<W: Naming> Report<W> {
+    /// What was found by an attempt of a task.
+    pub fn new(task: Task<W>, finding: Finding) -> Report<W>
+        requires is_true { IsTrueReport W.work task finding }
+        ensures { result ≡ report_data task finding }
+    {
+        Report { task, finding }
+    }
+
+    /// The task.
+    pub fn task(&self) -> &Task<W>
+        ensures { result.now ≡ self.now.task }
+    {
+        &self.task
+    }
+
+    /// Which attempt it is of.
+    pub fn attempt(&self) -> AttemptId
+        ensures { result ≡ self.now.task.hand_out.attempt }
+    {
+        self.task.attempt()
+    }
+
+    /// What was found.
+    pub fn finding(&self) -> &Finding
+        ensures { result.now ≡ self.now.finding }
+    {
+        &self.finding
+    }
+
+    /// What the scheduler is told of it.
+    pub fn outcome(&self) -> Outcome
+        ensures { result ≡ outcome_of self.now.finding }
+    {
+        match &self.finding {
+            Finding::Map(loc) => Outcome::Map(*loc),
+            Finding::Result(_) => Outcome::Result,
+            Finding::Planned => Outcome::Failed(FailureCause::Planned),
+            Finding::Raised(_) => Outcome::Failed(FailureCause::Raised),
+            Finding::Gone {
+                exec,
+                wanted,
+                found,
+            } => Outcome::Failed(FailureCause::Gone {
+                exec: *exec,
+                wanted: *wanted,
+                found: *found,
+            }),
+            Finding::Missing { last } => Outcome::Failed(FailureCause::Metadata { last: *last }),
+        }
+    }
+
+    /// The rows of its result, where it tells one.
+    pub fn into_rows(self) -> Option<Rows>
+        ensures { result ≡ rows_of self.finding }
+    {
+        let Report { finding, .. } = self;
+        match finding {
+            Finding::Result(rows) => Some(rows),
+            _ => None,
+        }
+    }
+
+    /// What it is by its type: true of its task.
+    pub fn is_true(&self)
+        ensures { IsTrueReport W.work self.now.task self.now.finding }
+    {
+        let _ = &self.finding;
+    }
+}
