@@ -1,11 +1,12 @@
 -- The bounds that a job knows are right, and those of its sorts are there.
 use Rattle.std.proofs.Common.{◌≡◌, ◌∙◌, ℕ, ◌+◌, ◌<◌, ◌≤◌, Bool, true, false, IfSome, List, [], ◌∷◌, ◌++◌, Option, Some, None, is_some, length, map, if◌then◌else◌, inl, inr, ◌⊎◌, ◌&&◌, suc, refl, ap, ap₂, sym, subst, arith}
-use Rattle.std.proofs.lemmas.Bool.{cases_lt}
+use Rattle.std.proofs.lemmas.Bool.{cases_Bool, cases_lt}
 use Rattle.std.proofs.lemmas.List.{length-map, map-append}
+use Rattle.std.specs.List.{slice_get}
 use Rattle.sc_base.specs.Lists.{at_or, numbers_below}
 use Rattle.sc_value.specs.Keys.{KeyData}
 use Rattle.sc_ids.specs.Graphs.{StageData}
-use Rattle.sc_lineage.specs.NodeData.{NodeData, cache_node}
+use Rattle.sc_lineage.specs.NodeData.{NodeData, cache_node, shuffle_node, sort_by_key}
 use Rattle.sc_lineage.specs.Meaning.{bounds_step, known_of, meanings_by}
 use Rattle.sc_lineage.specs.ScriptData.{ScriptData, WorkData, IsSoundScript, collect_action}
 use Rattle.sc_lineage.proofs.PlaceLemmas.{at_or-numbers_below, at_or-past, length-numbers_below, numbers_from-more, slice_get-at_or}
@@ -80,8 +81,7 @@ module _ (work : WorkData) (sound : IsSoundScript work.script) (carried : Carrie
           (either (is_sort (node_at work k)) refl within)
       at (inr past) =
           let len = length-numbers_below (length script) in
-          let same = length-map (numbers_below (length script)) (known_at script carried.bounds) in
-          let all : length bounds ≤ k = omega (arith, past, len, same) in
+          let all : length bounds ≤ k = omega (arith, past, len, length-map (numbers_below (length script)) (known_at script carried.bounds)) in
           subst (Right k) (sym (at_or-past bounds k None all)) tt
 
   -- a side that has a map stage in the job
@@ -138,8 +138,7 @@ holds named work read carried goal node graph told same read_is node_is was_soun
     let From : ℕ → Type 0 = λ n. IsCut named carried n graph in
     let cut = subst From at (subst Cut same was_cut) in
     let known = told_are
-    ∙ ap (λ (s : ScriptData).
-    map (known_at s.nodes carried.bounds) (numbers_below (length s.nodes)))
+    ∙ ap (λ (s : ScriptData). map (known_at s.nodes carried.bounds) (numbers_below (length s.nodes)))
     (read_is ∙ ap (λ (w : WorkData). w.script) same) in (
       (
         planned named sound carried is_carried goal is graph cut,

@@ -5,9 +5,9 @@ use Rattle.std.proofs.lemmas.List.Elements.{All-get_or, All-head}
 use Rattle.std.specs.List.{slice_get}
 use Rattle.sc_base.specs.Lists.{at_or}
 use Rattle.sc_ids.specs.declared.blocks.ShuffleId.{ShuffleId}
-use Rattle.sc_lineage.specs.Dependencies.{Dependency, dependencies_by, dependencies_of, one_to_one, parent_of, range_behind, grouped, shuffled, unless_parted}
+use Rattle.sc_lineage.specs.Dependencies.{Dependency, dependencies_by, dependencies_of, one_to_one, parent_of, parents_of, range_behind, grouped, shuffled, unless_parted}
 use Rattle.sc_lineage.specs.Meaning.{known_of}
-use Rattle.sc_lineage.specs.NodeData.{NodeData, reduce_by_key, group_by_key, sort_by_key, repartition, text_node, parallelize_node, each_node, union_node, coalesce_node, cache_node, shuffle_node, meet_node}
+use Rattle.sc_lineage.specs.NodeData.{NodeData, ShufflingData, reduce_by_key, group_by_key, sort_by_key, repartition, text_node, parallelize_node, each_node, union_node, coalesce_node, cache_node, shuffle_node, meet_node}
 use Rattle.sc_lineage.specs.Partitioners.{PartitionerData, is_parted_by, no_partitioner}
 use Rattle.sc_lineage.specs.ScriptData.{WorkData, IsSoundScript, collect_action, node_of_action}
 use Rattle.sc_lineage.proofs.MeaningLemmas.{reads_before}
@@ -83,8 +83,7 @@ same_parent : (known : List PartitionerData) (d : Dependency)
 same_parent known (one_to_one parent) = refl
 same_parent known (range_behind parent others) = refl
 same_parent known (grouped parent n) = refl
-same_parent known (shuffled parent by) =
-    either (is_parted_by by (at_or known parent no_partitioner))
+same_parent known (shuffled parent by) = either (is_parted_by by (at_or known parent no_partitioner))
   where
     either : (b : Bool) → parent_of (if b then one_to_one parent else shuffled parent by) ≡ parent
     either true = refl

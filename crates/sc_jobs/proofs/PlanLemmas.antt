@@ -1,5 +1,6 @@
 -- What is cut for a goal is a job of the work.
-use Rattle.std.proofs.Common.{◌≡◌, ◌≢◌, ◌∙◌, ℕ, ◌<◌, true, List, [], ◌∷◌, ◌++◌, refl, ap, sym, subst, arith}
+use Rattle.std.proofs.Common.{◌≡◌, ◌≢◌, ◌∙◌, ℕ, zero, suc, ◌<◌, true, List, [], ◌∷◌, ◌++◌, filter, refl, ap, sym, subst, arith}
+use Rattle.std.proofs.lemmas.Bool.{false≢true}
 use Rattle.std.proofs.lemmas.List.Elements.{All-append, All-cons, All-contains, All-contains_itself, All-nil, All-weaker}
 use Rattle.std.proofs.lemmas.List.Kept.{AllPairs-cons, AllPairs-filter}
 use Rattle.std.specs.List.{All, AllPairs, AllZip, Contains}
@@ -7,6 +8,7 @@ use Rattle.sc_ids.specs.Graphs.{StageData}
 use Rattle.sc_ids.specs.declared.blocks.ShuffleId.{ShuffleId}
 use Rattle.sc_ids.specs.declared.blocks.Target.{Target}
 use Rattle.sc_ids.specs.declared.blocks.Target.TheVariants as targets
+use Rattle.sc_lineage.specs.Laws.{IsWithinDeclared}
 use Rattle.sc_lineage.specs.Meaning.{known_of}
 use Rattle.sc_lineage.specs.NodeData.{NodeData}
 use Rattle.sc_lineage.specs.ScriptData.{WorkData, IsSoundScript}
@@ -18,13 +20,13 @@ use Rattle.sc_stagecut.specs.Numbering.{is_shuffle}
 use Rattle.sc_stagecut.specs.declared.carried.Numbered.{Numbered}
 use Rattle.sc_stagecut.proofs.JobLemmas.{kept_there, once_with}
 use Rattle.sc_stagecut.proofs.LawLemmas.{cuts_are_lawful}
-use Rattle.sc_stagecut.proofs.OrderLemmas.{AllPairs-append, AllPairs-head, AllPairs-tail, zip_from}
+use Rattle.sc_stagecut.proofs.OrderLemmas.{AllPairs-append, AllPairs-head, AllPairs-tail, Contains-cases, zip_from}
 use Rattle.sc_stagecut.proofs.StageLemmas.{IsNumber, numbers_are}
 use Rattle.sc_dag.specs.Openings.{AreOfTwo, IsJob}
 use Rattle.sc_dag.specs.Submission.{is_map}
 use Rattle.sc_compute.specs.Stages.{local_count}
-use Rattle.sc_jobs.specs.JobData.{IsGoal, goal_node, job_data}
-use Rattle.sc_jobs.specs.Plans.{AreTasksFor, IsJobFor, IsStageFor}
+use Rattle.sc_jobs.specs.JobData.{IsGoal, JobData, goal_node, job_data}
+use Rattle.sc_jobs.specs.Plans.{AreTasksFor, IsJobFor, IsStageFor, maps_of}
 use Rattle.sc_jobs.specs.declared.goals.Goal.{Goal}
 use Rattle.sc_jobs.proofs.NodeLemmas.{goal_known, is_shuffle_of, mapped_same}
 

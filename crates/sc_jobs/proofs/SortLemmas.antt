@@ -1,14 +1,14 @@
 -- The bounds of the first sort that lacks them can be found.
-use Rattle.std.proofs.Common.{◌≡◌, ◌∙◌, ℕ, ◌<◌, true, not, List, Option, Some, None, is_some, if◌then◌else◌, refl, ap, subst, arith}
+use Rattle.std.proofs.Common.{◌≡◌, ◌∙◌, ℕ, ◌+◌, ◌<◌, Bool, true, false, not, ◌&&◌, List, [], ◌∷◌, Option, Some, None, is_some, if◌then◌else◌, refl, ap, sym, subst, arith}
 use Rattle.std.proofs.lemmas.Bool.{and_parts, false≢true}
-use Rattle.std.specs.List.{slice_get}
+use Rattle.std.specs.List.{Contains, slice_get}
 use Rattle.sc_base.specs.Lists.{at_or}
 use Rattle.sc_value.specs.Keys.{KeyData}
 use Rattle.sc_lineage.specs.Dependencies.{one_to_one, shuffled}
 use Rattle.sc_lineage.specs.NodeData.{NodeData, shuffle_node, sort_by_key}
 use Rattle.sc_lineage.specs.Partitioners.{PartitionerData, hash_partitioner, is_parted_by, no_partitioner, partitioners_of, range_partitioner}
-use Rattle.sc_lineage.specs.ScriptData.{WorkData}
-use Rattle.sc_stagecut.specs.Carrying.{HasBounds, is_sort, is_unbounded}
+use Rattle.sc_lineage.specs.ScriptData.{WorkData, IsSoundScript}
+use Rattle.sc_stagecut.specs.Carrying.{CarriedData, HasBounds, IsFirstLacking, LacksBounds, is_sort, is_unbounded}
 use Rattle.sc_stagecut.specs.Numbering.{is_shuffle, is_some_shuffle, side_of}
 use Rattle.sc_stagecut.specs.Reaching.{IsReached, dependencies_among, is_shuffled}
 use Rattle.sc_stagecut.proofs.PathLemmas.{reaches-further}

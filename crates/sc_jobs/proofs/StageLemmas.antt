@@ -4,6 +4,7 @@ use Rattle.std.proofs.lemmas.Bool.{cases_Bool, eq-eqb, eqb-true, false≢true}
 use Rattle.std.proofs.lemmas.List.{length-append}
 use Rattle.std.proofs.lemmas.List.Elements.{All-contains, Contains-append_right}
 use Rattle.std.specs.List.{AllPairs, Contains}
+use Rattle.sc_base.specs.Lists.{at_or}
 use Rattle.sc_ids.specs.Graphs.{StageData}
 use Rattle.sc_ids.specs.declared.blocks.Target.{Target}
 use Rattle.sc_ids.specs.declared.blocks.Target.TheVariants as targets
@@ -14,8 +15,9 @@ use Rattle.sc_dag.specs.Openings.{number_behind}
 use Rattle.sc_dag.specs.Submission.{is_map}
 use Rattle.sc_compute.specs.Stages.{local_count}
 use Rattle.sc_compute.specs.Tasks.{IsTargetOf}
-use Rattle.sc_jobs.specs.JobData.{HasPartition, HasTask, JobData, goal_node, stage_in, target_among, target_by, target_of}
+use Rattle.sc_jobs.specs.JobData.{HasPartition, HasTask, IsGoal, JobData, goal_node, stage_in, target_among, target_by, target_of}
 use Rattle.sc_jobs.specs.Plans.{AreTasksFor, GivesResults, IsJobFor, IsStageFor}
+use Rattle.sc_jobs.specs.declared.goals.Goal.{Goal}
 use Rattle.sc_jobs.proofs.NodeLemmas.{goal_known}
 
 -- a stage that is found has its number

@@ -1,5 +1,5 @@
 -- Which trackers fit the jobs of a work.
-use Rattle.std.proofs.Common.{◌≡◌, ◌∙◌, ℕ, zero, suc, ◌+◌, Bool, true, false, ◌||◌, List, [], ◌∷◌, ◌++◌, length, map, replicate, if◌then◌else◌, inl, inr, ◌⊎◌, ap, sym, subst}
+use Rattle.std.proofs.Common.{◌≡◌, ◌∙◌, ℕ, zero, suc, ◌+◌, Bool, true, false, ◌||◌, List, [], ◌∷◌, ◌++◌, length, map, replicate, if◌then◌else◌, inl, inr, ◌⊎◌, refl, ap, sym, subst, arith}
 use Rattle.std.proofs.lemmas.Bool.{cases_Bool, false≢true}
 use Rattle.std.proofs.lemmas.List.{length-map, length-replicate}
 use Rattle.std.proofs.lemmas.List.Elements.{All-append, All-cons, All-contains, All-contains_itself, All-head, All-nil, All-tail, All-weaker}
@@ -16,9 +16,10 @@ use Rattle.sc_tracker.specs.Trust.{is_live, is_newer, lost_at, seen_at}
 use Rattle.sc_tracker.specs.Tracking.{has_room, sized, with_forgotten, with_forgotten_on, with_placed}
 use Rattle.sc_tracker.specs.TrackerData.{ShuffleData, TrackerData, is_of, outputs_of, outputs_under, place_of, shuffle_data, tracker_data}
 use Rattle.sc_tracker.proofs.BlockLemmas.{is_of_itself, one_shuffle, under_behind, under_here}
-use Rattle.sc_dag.specs.Openings.{FitsIn, sized_by, sized_for_all}
+use Rattle.sc_dag.specs.Openings.{FitsIn, FitsJob, sized_by, sized_for_all}
 use Rattle.sc_jobs.specs.Fitting.{ChangedTrackersFit, ChangesFit, FitsWork, HasItsMaps, NewTrackersFit, SizedTrackersFit, TrackersFit}
-use Rattle.sc_jobs.specs.Plans.{AreTasksFor, IsStageFor, maps_of}
+use Rattle.sc_jobs.specs.JobData.{JobData}
+use Rattle.sc_jobs.specs.Plans.{AreTasksFor, IsJobFor, IsStageFor, maps_of}
 use Rattle.sc_jobs.specs.declared.goals.Goal.{Goal}
 
 module _ (work : WorkData) where

@@ -33,8 +33,7 @@ same_target (targets.Result a) (targets.Map b) = false
 abbrev pub same_stage : StageData → StageData → Bool
 same_stage a b =
     (a.id == b.id)
-    && (same_target a.target b.target
-    && ((a.tasks == b.tasks) && pointwise nat_eq a.parents b.parents))
+    && (same_target a.target b.target && ((a.tasks == b.tasks) && pointwise nat_eq a.parents b.parents))
 
 -- two jobs are the same
 abbrev pub same_job : JobData → JobData → Bool

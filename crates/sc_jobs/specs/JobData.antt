@@ -1,5 +1,5 @@
 -- A job as plain data: what it is for, and its stages.
-use Rattle.std.specs.Prelude.{ℕ, ◌==◌, ◌≡◌, ◌<◌, List, [], Option, Some, None, length, map, slice_get}
+use Rattle.std.specs.Prelude.{ℕ, ◌==◌, ◌≡◌, ◌<◌, Bool, List, [], Option, Some, None, length, map, slice_get}
 use Rattle.std.specs.Coded.{Coded, code_by, coded×, coded_list, coded_ℕ}
 use Rattle.std.specs.List.{find, flat_map}
 use Rattle.std.specs.Prelude.{refl}
@@ -11,7 +11,7 @@ use Rattle.sc_ids.specs.declared.blocks.Target.{Target}
 use Rattle.sc_ids.specs.declared.blocks.Target.TheVariants as targets
 use Rattle.sc_lineage.specs.NodeData.{shuffle_node, sort_by_key}
 use Rattle.sc_lineage.specs.ScriptData.{ActionData, WorkData, collect_action, node_of_action}
-use Rattle.sc_lineage.specs.Targets.{TargetData, map_target, result_target}
+use Rattle.sc_lineage.specs.Targets.{TargetData, map_target, own_value, result_target}
 use Rattle.sc_dag.specs.Outputs.{block_of}
 use Rattle.sc_compute.specs.Stages.{mapped_in, node_at}
 use Rattle.sc_jobs.specs.contracts.goals.Goal.{the_row as goal_row}

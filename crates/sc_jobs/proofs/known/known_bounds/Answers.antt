@@ -1,3 +1,4 @@
+use Rattle.std.proofs.Common.{rules}
 use Rattle.sc_jobs.specs.Known.{known_at}
 use Rattle.sc_jobs.proofs.KnownLemmas.{known-more}
 use Rattle.sc_jobs.proofs.known.known_bounds.Goals as goal

@@ -15,5 +15,4 @@ returns-clause-found c = λ work job stage is. (
 )
 
 pub returns-clause-targets : goal.returns-clause-targets
-returns-clause-targets c =
-    λ work job stage p sound is has. target_known work job is sound stage p has
+returns-clause-targets c = λ work job stage p sound is has. target_known work job is sound stage p has

@@ -1,4 +1,4 @@
-use Rattle.std.proofs.Common.{◌≡◌, ◌∙◌, ap, subst, sym}
+use Rattle.std.proofs.Common.{◌≡◌, ◌∙◌, ℕ, List, ap, subst, sym}
 use Rattle.sc_lineage.specs.ScriptData.{collect_action}
 use Rattle.sc_lineage.specs.Views.{action_data_of}
 use Rattle.sc_stagecut.specs.Carrying.{CarriedData, IsCarriedFor, after_job}
