@@ -1,5 +1,5 @@
 -- The reports of attempts fit them, and the inputs of tasks stand.
-use Rattle.std.proofs.Common.{◌≡◌, ◌≢◌, ◌⊎◌, inl, inr, ℕ, zero, suc, ◌<◌, ◌==◌, ◌&&◌, not, Bool, true, false, cond, All, List, [], ◌∷◌, ◌++◌, Contains, Option, Some, None, IfSome, find, map, length, nat_lt, slice_get, refl, ap, sym, subst, ◌∙◌, arith, rules, true≢false}
+use Rattle.std.proofs.Common.{◌≡◌, ◌≢◌, ◌⊎◌, inl, inr, ℕ, zero, suc, ◌<◌, ◌==◌, ◌&&◌, ◌||◌, Bool, true, false, All, List, [], ◌∷◌, ◌++◌, Contains, Option, Some, None, IfSome, find, map, length, nat_lt, slice_get, refl, ap, sym, subst, ◌∙◌, arith, rules, true≢false}
 use Rattle.std.specs.List.{AllZip, filter, flat_map, list_any}
 use Rattle.std.proofs.lemmas.Bool.Decides.{nat_tests}
 use Rattle.std.proofs.lemmas.List.Elements.{All-cons, All-contains, All-head, All-nil, All-tail, All-weaker, Contains-append_left, Contains-append_right, Contains-push}
@@ -77,12 +77,13 @@ stage_lacks graph stages id numbered e = by (numbered.only id)
 none_any : {A : Type 0} (q : A → Bool) (xs : List A) → list_any q xs ≡ false
     → All (λ x. q x ≡ false) xs
 none_any q [] e = All-nil (λ x. q x ≡ false)
-none_any {A = A} q (x ∷ xs) e = by (q x) refl e
+none_any {A = A} q (x ∷ xs) e = by (q x) refl (none_any q xs) e
   where
-    by : (b : Bool) → q x ≡ b → cond b true (list_any q xs) ≡ false
-        → All (λ y. q y ≡ false) (x ∷ xs)
-    by true h k = absurd (true≢false k)
-    by false h k = All-cons (λ y. q y ≡ false) x xs h (none_any q xs k)
+    by : (b : Bool) → q x ≡ b
+        → (list_any q xs ≡ false → All (λ y. q y ≡ false) xs)
+        → (b || list_any q xs) ≡ false → All (λ y. q y ≡ false) (x ∷ xs)
+    by true h more k = absurd (true≢false k)
+    by false h more k = All-cons (λ y. q y ≡ false) x xs h (more k)
 
 any_there : {A : Type 0} (q : A → Bool) (xs : List A) (x : A) → Contains xs x → q x ≡ true
     → list_any q xs ≡ true
@@ -151,7 +152,7 @@ Contains-head : {A : Type 0} (x : A) (xs : List A) → Contains (x ∷ xs) x
 Contains-head x xs = Contains-append_left (x ∷ []) xs x (Contains-push [] x)
 
 Contains-tail : {A : Type 0} (x : A) (xs : List A) (y : A) → Contains xs y → Contains (x ∷ xs) y
-Contains-tail x xs y in = Contains-append_right (x ∷ []) xs y in
+Contains-tail x xs y is_in = Contains-append_right (x ∷ []) xs y is_in
 
 -- numbers below a bound are below it
 all_below : (n : ℕ) → All (λ m. m < n) (numbers_below n)
@@ -197,7 +198,7 @@ inputs_stand R graph d numbered (parent ∷ parents) holds =
     locations_by d.tracker (stage_at d parent).target (stage_at d parent).tasks) parents)
     (one (stage_in graph parent) refl (holds parent (Contains-head parent parents)))
     (inputs_stand R graph d numbered parents
-    (λ p in. holds p (Contains-tail parent parents p in)))
+    (λ p is_in. holds p (Contains-tail parent parents p is_in)))
   where
     made : (target : Target) (tasks : ℕ)
         → ((m : ℕ) → m < tasks → Stood R d.tracker target m)

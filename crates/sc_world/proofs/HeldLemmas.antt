@@ -160,7 +160,7 @@ goes_on_sound work w exec a next sound there same brings =
       runs = λ job. held_each (λ e a. RunsOn (core_in w) e (task_of a)) w.held exec (Some next)
           (rw same (of (λ a. RunsOn (core_in w) exec (task_of a)) there (sound.runs job exec)))
           (sound.runs job);
-      out = λ job r in is. still r (sound.out job r in is);
+      out = λ job r is_in is. still r (sound.out job r is_in is);
       begun = sound.begun;
       no_save = sound.no_save;
       stays = sound.stays;

@@ -62,9 +62,9 @@ filter_all {A = A} P q (x ∷ xs) all = by (q x) refl (filter_all P q xs (All-ta
 
 in_filter : {A : Type 0} (q : A → Bool) (xs : List A) (x : A) → Contains (filter q xs) x
     → Contains xs x × (q x ≡ true)
-in_filter q xs x in =
+in_filter q xs x is_in =
     All-contains (λ y. Contains xs y × (q y ≡ true)) (filter q xs) x
-    (filter_all (Contains xs) q xs (All-contains_itself xs)) in
+    (filter_all (Contains xs) q xs (All-contains_itself xs)) is_in
 
 -- ---- the tracker
 
@@ -149,8 +149,8 @@ told_sound work w exec t finding answer desk r sound core numbered task held job
           sound.of_job);
       right = held_each (IsRight w.stores) w.held exec None tt sound.right;
       runs = λ x e. run e (exec == e) refl;
-      out = λ x one in is. held_out one (in_filter (λ q. not (is_of a q)) c.running one
-          (subst (λ rs. Contains rs one) left.running in)) is;
+      out = λ x one is_in is. held_out one (in_filter (λ q. not (is_of a q)) c.running one
+          (subst (λ rs. Contains rs one) left.running is_in)) is;
       begun = tracks.begun core.dag.tracker sound.begun;
       no_save = tracks.saves sound.no_save;
       stays = tracks.stays ∙ sound.stays;
@@ -250,7 +250,7 @@ told_sound work w exec t finding answer desk r sound core numbered task held job
     held_out : (one : Running)
         → Contains (core_in w).running one × (not (is_of t.hand_out.attempt one) ≡ true)
         → one.is_out ≡ true → IsOut (with_held (with_desk w desk) exec None) one
-    held_out one (in, other) is = by (exec == one.exec) refl (sound.out job one in is)
+    held_out one (is_in, other) is = by (exec == one.exec) refl (sound.out job one is_in is)
       where
         by : (x : Bool) → (exec == one.exec) ≡ x → IsOut w one
             → IsOut (with_held (with_desk w desk) exec None) one

@@ -94,9 +94,9 @@ stays_sound work w desk sound stay job =
           (sound.of_job exec);
       right = sound.right;
       runs = λ r exec. by exec (held_at w exec) (sound.runs (stay.runs r) exec);
-      out = λ r one in is.
+      out = λ r one is_in is.
           let o : IsOut w one = sound.out (stay.runs r) one
-              (subst (λ rs. Contains rs one) stay.running in) is in
+              (subst (λ rs. Contains rs one) stay.running is_in) is in
           record { attempt = o.attempt; held = o.held; same = o.same };
       begun = subst AreBegun (sym stay.dag) sound.begun;
       no_save = stay.committers ∙ sound.no_save;
@@ -178,7 +178,7 @@ offered_begun d s set e = by (slice_get d.states s) refl
     some : (xs : List StageAttempt) → set_in (slice_get xs (length xs - 1)) ≡ Some set
         → nat_lt 0 (length xs) ≡ true
     some [] h = search (rules, h)
-    some (x ∷ xs) h = refl
+    some (x ∷ xs) h = grind (arith, nat_tests)
 
     none : slice_get d.states s ≡ None → ⊥
     none h = search (rules, h, e)
@@ -223,8 +223,8 @@ given_stand w exec h sound out numbered tied begun =
         let is : stage_at d h.attempt.stage ≡ stage =
             stage_stands graph d.stages h.attempt.stage stage numbered e in
         rw (e, is) (inputs_stand (InputStands w.stores) graph d numbered stage.parents
-        (λ parent in m lt. stood (stage_at d parent).target m
-        (had parent (subst (λ (s : StageData). Contains s.parents parent) (sym is) in) m lt)))
+        (λ parent is_in m lt. stood (stage_at d parent).target m
+        (had parent (subst (λ (s : StageData). Contains s.parents parent) (sym is) is_in) m lt)))
 
 -- a task is given
 pub task_sound : (work : WorkData) (w : WorldData) (exec : ℕ) (h : HandOutData) (desk : DeskData)
@@ -248,8 +248,8 @@ task_sound work w exec h desk sound core numbered asks out is job place =
           sound.right;
       runs = λ r. rw is (held_each (λ e a. RunsOn (with_task c exec h) e (task_of a)) w.held exec
           (Some new) new_runs (λ e. more e (held_at w e) (sound.runs asks.runs e)));
-      out = λ r one in o. held_out one (Contains-push_cases c.running (running_on h exec) one
-          (subst (λ (x : CoreData). Contains x.running one) is in)) o;
+      out = λ r one is_in o. held_out one (Contains-push_cases c.running (running_on h exec) one
+          (subst (λ (x : CoreData). Contains x.running one) is is_in)) o;
       begun = rw is (state_begun c.dag h.attempt.stage _
           (newest_count (λ set. handed set h.attempt.partition exec c.now)) sound.begun);
       no_save = rw is sound.no_save;
@@ -314,7 +314,7 @@ task_sound work w exec h desk sound core numbered asks out is job place =
               ≡ Some new) same here;
           same = ap (λ (r : Running). r.hand_out) same;
         }
-    held_out one (inl in) o = by (exec == one.exec) refl (sound.out asks.runs one in o)
+    held_out one (inl is_in) o = by (exec == one.exec) refl (sound.out asks.runs one is_in o)
       where
         by : (x : Bool) → (exec == one.exec) ≡ x → IsOut w one
             → IsOut (with_held (with_desk w desk) exec (Some (assigned (task_data w.desk.job h) 0)))

@@ -1,3 +1,6 @@
 pub mod Begun
 pub mod Tracks
 pub mod Ties
+pub mod WorldData
+pub mod Sound
+pub mod Steps

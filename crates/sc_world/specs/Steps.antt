@@ -1,5 +1,5 @@
 -- The steps of a world: what each of them does, and when it is enabled.
-use Rattle.std.specs.Prelude.{ℕ, ◌+◌, ◌<◌, ◌≤◌, ◌≡◌, ◌≢◌, true, false, List, Option, Some, None, Unit, Contains, slice_get}
+use Rattle.std.specs.Prelude.{ℕ, ◌+◌, ◌<◌, ◌≤◌, ◌≡◌, ◌≢◌, ◌⊎◌, true, false, List, Option, Some, None, slice_get}
 use Rattle.sc_value.specs.Datum.{Datum}
 use Rattle.sc_ids.specs.declared.attempts.Mark.TheVariants as marks
 use Rattle.sc_ids.specs.declared.blocks.BlockId.{BlockId}

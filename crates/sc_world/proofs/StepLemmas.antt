@@ -1,0 +1,162 @@
+-- What holds of a world holds on, once an attempt has read, computed or put, or a store was wiped.
+use Rattle.std.proofs.Common.{◌≡◌, ◌⊎◌, inl, inr, ℕ, ◌+◌, ◌≤◌, Some, None, IsSomeAnd, option_map, slice_get, refl, ap, sym, subst, ◌∙◌, arith}
+use Rattle.sc_ids.specs.Changes.{change_at}
+use Rattle.sc_ids.specs.declared.blocks.BlockId.{BlockId}
+use Rattle.sc_ids.specs.declared.blocks.Loc.{Loc}
+use Rattle.sc_ids.proofs.ChangeLemmas.{length_change_at, slice_get_change_same}
+use Rattle.sc_lineage.specs.ScriptData.{WorkData}
+use Rattle.sc_plan.specs.declared.orders.Order.{Order}
+use Rattle.sc_store.specs.BlockData.{BlockData}
+use Rattle.sc_store.specs.StoreData.{StoreData}
+use Rattle.sc_store.specs.Storing.{Wipes}
+use Rattle.sc_store.specs.declared.answers.WipeAnswer.{WipeAnswer}
+use Rattle.sc_store.specs.declared.answers.WipeAnswer.TheVariants as wipes
+use Rattle.sc_net.specs.Reports.{loc_at}
+use Rattle.sc_net.specs.Tasks.{TaskData}
+use Rattle.sc_net.specs.declared.findings.Finding.{Finding}
+use Rattle.sc_net.specs.declared.findings.Finding.TheVariants as findings
+use Rattle.sc_task.specs.Attempts.{AttemptData, assigned, computed, stored, reported, task_of}
+use Rattle.sc_task.specs.Nexts.{next_of}
+use Rattle.sc_task.specs.Steps.{FailsAs, PutsOwn}
+use Rattle.sc_task.specs.declared.next.Next.{Next}
+use Rattle.sc_task.specs.declared.next.Next.TheVariants.{Fetch, Missing, Complete}
+use Rattle.sc_world.specs.Sound.{Brings, HasPut, IsSoundWorld}
+use Rattle.sc_world.specs.Steps.{Computes, Gets, HasMade, Makes, Puts, Reads, ReadsNext, WipesOne}
+use Rattle.sc_world.specs.Ties.{AreLater, StandsAt, StandsIn, generation_at, generation_in}
+use Rattle.sc_world.specs.WorldData.{WorldData, held_at, with_held, with_store}
+use Rattle.sc_world.proofs.HeldLemmas.{goes_on_sound, later_sound, own_changed}
+use Rattle.sc_world.proofs.TieLemmas.{one_later, put_here, put_stands, wiped_grows, wiped_stands}
+
+-- an attempt has read, or has found that a block is gone or missing
+pub reads_sound : (work : WorkData) (w : WorldData) (exec : ℕ) (after : WorldData)
+    → IsSoundWorld work w → Reads w exec after → IsSoundWorld work after
+reads_sound work w exec after sound reads = by (next_of reads.task reads.got) reads.reads
+  where
+    on : (next : AttemptData) → task_of next ≡ reads.task → Brings w.stores exec next
+        → after ≡ with_held w exec (Some next) → IsSoundWorld work after
+    on next same brings is =
+        subst (IsSoundWorld work) (sym is)
+        (goes_on_sound work w exec (assigned reads.task reads.got) next sound reads.held same brings)
+
+    found : (loc : Loc) (store : StoreData) → slice_get w.stores loc.exec ≡ Some store
+        → store.generation ≤ generation_at w.stores loc.exec
+    found loc store there =
+        subst (λ o. store.generation ≤ generation_in o) (sym there) (omega arith)
+
+    gets : (loc : Loc) (store : StoreData) → slice_get w.stores loc.exec ≡ Some store
+        → Gets w exec reads.task reads.got loc store after → IsSoundWorld work after
+    gets loc store there (inl (le, is)) =
+        on (assigned reads.task (reads.got + 1)) refl tt is
+    gets loc store there (inr (lt, is)) =
+        on (reported reads.task (findings.Gone loc.exec loc.generation store.generation)) refl
+        (found loc store there) is
+
+    by : (next : Next) → ReadsNext w exec reads.task reads.got next after
+        → IsSoundWorld work after
+    by (Fetch block loc) (store, there, got) = gets loc store there got
+    by (Missing (Some last)) is = on (reported reads.task (findings.Missing last)) refl tt is
+    by (Missing None) bad = absurd bad
+    by Complete bad = absurd bad
+
+-- an attempt has computed, or fails
+pub computes_sound : (work : WorkData) (w : WorldData) (exec : ℕ) (after : WorldData)
+    → IsSoundWorld work w → Computes work w exec after → IsSoundWorld work after
+computes_sound work w exec after sound h =
+    subst (IsSoundWorld work) (sym h.is) (makes h.attempt h.makes)
+  where
+    on : (next : AttemptData) → task_of next ≡ h.task → Brings w.stores exec next
+        → IsSoundWorld work (with_held w exec (Some next))
+    on next same brings =
+        goes_on_sound work w exec (assigned h.task h.got) next sound h.held same brings
+
+    fails : (finding : Finding) → FailsAs work h.task finding
+        → IsSoundWorld work (with_held w exec (Some (reported h.task finding)))
+    fails findings.Planned f = on (reported h.task findings.Planned) refl tt
+    fails (findings.Raised r) f = on (reported h.task (findings.Raised r)) refl tt
+    fails (findings.Map loc) f = absurd f
+    fails (findings.Result rows) f = absurd f
+    fails (findings.Gone at wanted found) f = absurd f
+    fails (findings.Missing last) f = absurd f
+
+    made : (next : AttemptData) → HasMade work h.task next
+        → IsSoundWorld work (with_held w exec (Some next))
+    made (computed t) (same, mapped) = on (computed t) same tt
+    made (reported t (findings.Result rows)) (same, own) =
+        on (reported t (findings.Result rows)) same tt
+    made (reported t (findings.Map loc)) bad = absurd bad
+    made (reported t findings.Planned) bad = absurd bad
+    made (reported t (findings.Raised r)) bad = absurd bad
+    made (reported t (findings.Gone at wanted found)) bad = absurd bad
+    made (reported t (findings.Missing last)) bad = absurd bad
+    made (assigned t got) bad = absurd bad
+    made (stored t loc) bad = absurd bad
+
+    makes : (next : AttemptData) → Makes work h.task next
+        → IsSoundWorld work (with_held w exec (Some next))
+    makes next (inl (finding, f, is)) =
+        subst (λ a. IsSoundWorld work (with_held w exec (Some a))) (sym is) (fails finding f)
+    makes next (inr (planned, raise, has)) = made next has
+
+-- one store was changed for one in which all stands that stood
+store_sound : (work : WorkData) (w : WorldData) (exec : ℕ) (store next : StoreData)
+    → IsSoundWorld work w → slice_get w.stores exec ≡ Some store → next.exec ≡ store.exec
+    → ((b : BlockId) (loc : Loc) → StandsIn store b loc → StandsIn next b loc)
+    → store.generation ≤ next.generation → IsSoundWorld work (with_store w exec next)
+store_sound work w exec store next sound there same stands grows =
+    later_sound work w (change_at w.stores exec (λ _. next)) sound
+    (one_later w.stores (change_at w.stores exec (λ _. next)) exec store next there refl stands
+    grows)
+    (length_change_at w.stores exec (λ _. next))
+    (own_changed w.stores exec store next there same sound.own)
+
+-- a block was put
+pub puts_sound : (work : WorkData) (w : WorldData) (exec : ℕ) (after : WorldData)
+    → IsSoundWorld work w → Puts work w exec after → IsSoundWorld work after
+puts_sound work w exec after sound h = by h.puts
+  where
+    store : StoreData
+    store = h.store
+
+    next : StoreData
+    next = h.next
+
+    loc : Loc
+    loc = loc_at exec h.store.generation
+
+    by : PutsOwn work h.task h.store h.next → IsSoundWorld work after
+    by (block, named, own, puts) =
+        subst (IsSoundWorld work) (sym h.is)
+        (goes_on_sound work (with_store w exec next) exec (computed h.task)
+        (reported h.task (findings.Map loc)) mid h.held refl
+        (record { block = block.id; own = named; there = stands; here = refl }))
+      where
+        same : h.next.generation ≡ h.store.generation
+        same = ap (λ (s : StoreData). s.generation) puts.rest
+
+        mid : IsSoundWorld work (with_store w exec h.next)
+        mid =
+            store_sound work w exec store next sound h.own
+            (ap (λ (s : StoreData). s.exec) puts.rest) (put_stands store next block puts)
+            (subst (λ (n : ℕ). h.store.generation ≤ n) (sym same) (omega arith))
+
+        stands : StandsAt (change_at w.stores exec (λ _. h.next)) block.id loc
+        stands =
+            subst (λ o. IsSomeAnd o (λ s. StandsIn s block.id loc))
+            (sym (slice_get_change_same w.stores exec (λ _. next)
+            ∙ ap (λ o. option_map (λ _. next) o) h.own))
+            (put_here store next block loc puts refl)
+
+-- a store was wiped
+pub wipes_sound : (work : WorkData) (w : WorldData) (order : Order) (answer : WipeAnswer)
+    (after : WorldData) → IsSoundWorld work w → WipesOne w order answer after
+    → IsSoundWorld work after
+wipes_sound work w order answer after sound h =
+    subst (IsSoundWorld work) (sym h.is)
+    (store_sound work w order.exec h.store h.next sound h.own (same answer h.wipes)
+    (wiped_stands h.store h.next order.number answer h.wipes)
+    (wiped_grows h.store h.next order.number answer h.wipes))
+  where
+    same : (answer : WipeAnswer) → Wipes h.store order.number answer h.next
+        → h.next.exec ≡ h.store.exec
+    same (wipes.Wiped generation) (lt, is, empty) = ap (λ (s : StoreData). s.exec) empty
+    same (wipes.Stale generation) (ge, is, stays) = ap (λ (s : StoreData). s.exec) stays
