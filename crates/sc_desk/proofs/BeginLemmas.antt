@@ -1,5 +1,5 @@
 -- What holds of every desk holds where its job begins.
-use Rattle.std.proofs.Common.{◌≡◌, ℕ, zero, suc, ◌+◌, Bool, true, false, if◌then◌else◌, List, [], ◌∷◌, length, Option, Some, None, IfSome, is_some, replicate, slice_get, refl, ap, sym, subst, ◌∙◌, arith}
+use Rattle.std.proofs.Common.{◌≡◌, ℕ, zero, suc, ◌+◌, false, if◌then◌else◌, List, [], ◌∷◌, length, Option, Some, None, IfSome, is_some, replicate, slice_get, refl, ap, sym, ◌∙◌}
 use Rattle.std.specs.Option.{option_map}
 use Rattle.std.proofs.lemmas.List.Elements.{All-nil}
 use Rattle.std.proofs.lemmas.List.{length-replicate}
@@ -10,8 +10,8 @@ use Rattle.sc_ids.specs.declared.limits.Limits.{Limits}
 use Rattle.sc_lineage.specs.ScriptData.{WorkData}
 use Rattle.sc_stagecut.specs.Carrying.{AreRightBounds, IsCarriedFor}
 use Rattle.sc_tracker.specs.Trust.{untold}
-use Rattle.sc_dag.specs.DagData.{DagData, StageState, stage_at}
-use Rattle.sc_dag.specs.Openings.{FitsJob, IsJob, blank_states}
+use Rattle.sc_dag.specs.DagData.{DagData, StageState}
+use Rattle.sc_dag.specs.Openings.{FitsJob, blank_states}
 use Rattle.sc_dag.specs.Outputs.{results_in}
 use Rattle.sc_dag.specs.Submission.{is_map, this_stage}
 use Rattle.sc_core.specs.CoreData.{CoreData, result_stage}
@@ -25,7 +25,7 @@ use Rattle.sc_jobs.specs.JobData.{JobData}
 use Rattle.sc_jobs.specs.Plans.{IsJobFor}
 use Rattle.sc_jobs.proofs.TrackerLemmas.{new_trackers_fit, sized_trackers_fit, trackers_fit}
 use Rattle.sc_desk.specs.Begins.{FitsLast, IsFresh}
-use Rattle.sc_desk.specs.DeskData.{DeskData, core_of, desk_data}
+use Rattle.sc_desk.specs.DeskData.{DeskData, core_of}
 use Rattle.sc_desk.specs.Sound.{HasEvidence, IsResult, IsSoundDesk, has_result, result_at, result_count}
 use Rattle.sc_desk.proofs.KeepLemmas.{done_is}
 use Rattle.sc_desk.proofs.RoomLemmas.{rooms_hold, submitted_rooms}
@@ -57,7 +57,10 @@ opened_alike work limits job last x y is fits sound a b =
 
 -- ---- nothing is there
 
-nothing_at : (n p : ℕ) → is_some (at_or (replicate n (None {A = List Datum})) p None) ≡ false
+abbrev no_rows : Option (List Datum)
+no_rows = None
+
+nothing_at : (n p : ℕ) → is_some (at_or (replicate n no_rows) p None) ≡ false
 nothing_at zero p = refl
 nothing_at (suc n) zero = refl
 nothing_at (suc n) (suc p) = nothing_at n p
@@ -68,11 +71,11 @@ false_at (suc n) zero = refl
 false_at (suc n) (suc p) = false_at n p
 
 none_of : (work : WorkData) (job : JobData) (n p : ℕ)
-    → IfSome (at_or (replicate n (None {A = List Datum})) p None) (IsResult work job p)
+    → IfSome (at_or (replicate n no_rows) p None) (IsResult work job p)
 none_of work job n p = by n p
   where
     by : (n q : ℕ)
-        → IfSome (at_or (replicate n (None {A = List Datum})) q None) (IsResult work job p)
+        → IfSome (at_or (replicate n no_rows) q None) (IsResult work job p)
     by zero q = tt
     by (suc n) zero = tt
     by (suc n) (suc q) = by n q

@@ -1,10 +1,8 @@
 -- What becomes of the stages and the results of a job, by what happens to its stages.
-use Rattle.std.proofs.Common.{◌≡◌, All, ℕ, ◌-◌, ◌<◌, ◌==◌, not, Bool, true, false, if◌then◌else◌, List, length, Option, Some, None, option_map, slice_get, refl, ap, sym, subst, ◌∙◌, arith, rules}
+use Rattle.std.proofs.Common.{◌≡◌, All, ℕ, ◌-◌, ◌<◌, ◌==◌, Bool, true, false, if◌then◌else◌, List, length, Option, Some, None, option_map, slice_get, refl, ap, ◌∙◌, arith, rules}
 use Rattle.std.proofs.lemmas.Bool.Decides.{nat_tests}
 use Rattle.sc_ids.specs.Changes.{change_at}
-use Rattle.sc_ids.specs.Graphs.{StageData}
 use Rattle.sc_ids.specs.declared.attempts.AttemptId.{AttemptId}
-use Rattle.sc_ids.specs.declared.limits.Limits.{Limits}
 use Rattle.sc_ids.proofs.ChangeLemmas.{slice_get_change_same}
 use Rattle.sc_taskset.specs.Lookups.{is_task_of, task_at}
 use Rattle.sc_taskset.specs.Reports.{after_held, after_success}
@@ -12,7 +10,7 @@ use Rattle.sc_taskset.specs.TaskSetData.{TaskData, TaskSetData}
 use Rattle.sc_taskset.proofs.FindLemmas.{found_is, found_passes}
 use Rattle.sc_dag.specs.DagData.{DagData, StageState, changed_newest, changed_set, newest_at, set_in, stage_at, with_set, with_state}
 use Rattle.sc_dag.specs.Outputs.{is_complete, results_in}
-use Rattle.sc_dag.specs.Reports.{after_hold, after_result_success, completed, completed_if, ended_in_own, is_of_newest, is_repeat, set_of, succeeded_in_both, succeeded_in_own, wants_in, with_result}
+use Rattle.sc_dag.specs.Reports.{after_hold, after_result_success, completed, ended_in_own, is_of_newest, is_repeat, set_of, succeeded_in_both, succeeded_in_own, wants_in, with_result}
 use Rattle.sc_dag.specs.Sound.{IsSoundDag, runner_among, runner_in, runner_of}
 use Rattle.sc_dag.specs.declared.attempts.StageAttempt.{StageAttempt}
 use Rattle.sc_dag.proofs.Moving.{newest_among}

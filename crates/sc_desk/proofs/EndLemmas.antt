@@ -1,8 +1,7 @@
 -- The results of a job that is done.
-use Rattle.std.proofs.Common.{◌≡◌, ℕ, ◌<◌, true, List, Option, Some, None, IfSome, is_some, length, refl, ap, sym, ◌∙◌, arith, true≢false}
+use Rattle.std.proofs.Common.{◌≡◌, true, List, Option, Some, None, IfSome, is_some, refl, sym, ◌∙◌, arith, true≢false}
 use Rattle.sc_value.specs.Datum.{Datum}
 use Rattle.sc_lineage.specs.ScriptData.{WorkData}
-use Rattle.sc_core.specs.CoreData.{CoreData, result_stage}
 use Rattle.sc_core.specs.Laws.{DoneJobsAreWhole}
 use Rattle.sc_core.specs.Sound.{IsSoundCore}
 use Rattle.sc_core.specs.declared.answers.Job.TheVariants as jobs

@@ -1,5 +1,5 @@
 -- What holds of every desk holds behind each entry.
-use Rattle.std.proofs.Common.{◌≡◌, ◌≢◌, ◌⊎◌, inl, inr, ℕ, ◌-◌, ◌<◌, ◌++◌, All, Bool, true, false, if◌then◌else◌, List, [], ◌∷◌, length, Option, Some, None, IfSome, is_some, slice_get, refl, ap, sym, subst, ◌∙◌, arith, rules, true≢false}
+use Rattle.std.proofs.Common.{◌≡◌, ◌⊎◌, inl, inr, ℕ, ◌-◌, ◌<◌, All, Bool, true, false, List, length, Some, None, IfSome, is_some, slice_get, refl, ap, sym, subst, ◌∙◌, arith, true≢false}
 use Rattle.std.proofs.lemmas.Bool.{cases_eq}
 use Rattle.std.proofs.lemmas.List.Elements.{All-push}
 use Rattle.sc_base.specs.Lists.{at_or}
@@ -8,26 +8,24 @@ use Rattle.sc_ids.specs.Changes.{change_at}
 use Rattle.sc_ids.specs.Graphs.{StageData}
 use Rattle.sc_ids.specs.declared.attempts.AttemptId.{AttemptId}
 use Rattle.sc_ids.specs.declared.attempts.Mark.{Mark}
-use Rattle.sc_ids.specs.declared.blocks.ShuffleId.{ShuffleId}
 use Rattle.sc_ids.specs.declared.blocks.Target.{Target}
 use Rattle.sc_ids.specs.declared.blocks.Target.TheVariants as targets
 use Rattle.sc_ids.proofs.ChangeLemmas.{at_or_change_other, at_or_change_same, length_change_at}
 use Rattle.sc_lineage.specs.ScriptData.{WorkData}
-use Rattle.sc_tracker.specs.TrackerData.{TrackerData}
 use Rattle.sc_dag.specs.DagData.{DagData, no_stage, stage_at}
 use Rattle.sc_dag.specs.Openings.{AreNumbered}
 use Rattle.sc_dag.specs.Outputs.{is_done, is_done_by, results_in}
 use Rattle.sc_dag.specs.Submission.{is_map}
-use Rattle.sc_core.specs.CoreData.{CoreData, result_stage}
+use Rattle.sc_core.specs.CoreData.{result_stage}
 use Rattle.sc_core.specs.Sound.{IsSoundCore}
 use Rattle.sc_core.specs.declared.answers.Answer.{Answer}
 use Rattle.sc_core.specs.declared.events.Event.{Event}
-use Rattle.sc_jobs.specs.Fitting.{FitsWork, HasItsMaps}
+use Rattle.sc_jobs.specs.Fitting.{FitsWork}
 use Rattle.sc_jobs.specs.Plans.{maps_of}
 use Rattle.sc_desk.specs.DeskData.{DeskData, core_of}
 use Rattle.sc_desk.specs.Entries.{Enters}
 use Rattle.sc_desk.specs.Sound.{HasEvidence, IsEvident, IsResult, IsSoundDesk, has_result, result_at, result_count}
-use Rattle.sc_desk.proofs.RoomLemmas.{rooms, rooms_hold}
+use Rattle.sc_desk.proofs.RoomLemmas.{rooms_hold}
 use Rattle.sc_desk.proofs.DagLemmas.{Leaves, SameJob}
 use Rattle.sc_desk.proofs.StepLemmas.{Wins}
 

@@ -1,5 +1,5 @@
 -- What holds of every desk holds behind each report.
-use Rattle.std.proofs.Common.{◌≡◌, ◌≢◌, ℕ, ◌&&◌, not, All, Bool, true, false, if◌then◌else◌, List, Option, Some, None, refl, ap, sym, subst, ◌∙◌, rules, true≢false}
+use Rattle.std.proofs.Common.{◌≡◌, ◌≢◌, ℕ, ◌&&◌, Bool, true, false, if◌then◌else◌, List, Option, Some, None, refl, ap, sym, subst, ◌∙◌, rules, true≢false}
 use Rattle.sc_base.specs.Lists.{at_or}
 use Rattle.sc_value.specs.Datum.{Datum}
 use Rattle.sc_ids.specs.Changes.{change_at}
@@ -11,7 +11,7 @@ use Rattle.sc_lineage.specs.Targets.{TargetData, own_value}
 use Rattle.sc_dag.specs.DagData.{no_stage}
 use Rattle.sc_dag.specs.Submission.{is_map}
 use Rattle.sc_dag.proofs.Tests.{clash, not_false, not_true}
-use Rattle.sc_core.specs.CoreData.{CoreData, job_runs, result_stage, running_of}
+use Rattle.sc_core.specs.CoreData.{CoreData, job_runs, running_of}
 use Rattle.sc_core.specs.Posts as core
 use Rattle.sc_core.specs.Sound.{IsSoundCore}
 use Rattle.sc_core.specs.Steps.{is_enabled}
@@ -21,14 +21,14 @@ use Rattle.sc_core.specs.declared.events.Event.TheVariants.{Post}
 use Rattle.sc_core.specs.declared.events.Outcome.{Outcome}
 use Rattle.sc_core.specs.declared.events.Outcome.TheVariants as outcomes
 use Rattle.sc_core.specs.declared.running.Running.{Running}
-use Rattle.sc_jobs.specs.JobData.{JobData, target_of}
+use Rattle.sc_jobs.specs.JobData.{target_of}
 use Rattle.sc_net.specs.Reports.{IsTrueReport, ReportData, outcome_of, rows_of}
 use Rattle.sc_net.specs.Tasks.{TaskData}
 use Rattle.sc_net.specs.declared.findings.Finding.{Finding}
 use Rattle.sc_net.specs.declared.findings.Finding.TheVariants as findings
 use Rattle.sc_desk.specs.DeskData.{DeskData, core_of}
 use Rattle.sc_desk.specs.Entries.{Enters}
-use Rattle.sc_desk.specs.Posts.{IsGiven, IsGivenIf, IsGivenOf, IsKnown, IsOf, attempt_of, is_finished, results_after}
+use Rattle.sc_desk.specs.Posts.{IsGiven, IsGivenIf, IsGivenOf, IsKnown, attempt_of, is_finished, results_after}
 use Rattle.sc_desk.specs.Sound.{EndedFor, IsResult, IsSoundDesk}
 use Rattle.sc_desk.proofs.KeepLemmas.{leaves_keep, wins_keep}
 use Rattle.sc_desk.proofs.StepLemmas.{IsTold, IsWon, posts_told, posts_win, steps_leave}

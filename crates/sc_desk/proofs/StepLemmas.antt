@@ -1,5 +1,5 @@
 -- What becomes of the stages and the results of a job, by what happens to its core.
-use Rattle.std.proofs.Common.{◌≡◌, ◌≢◌, ℕ, ◌<◌, ◌==◌, ◌&&◌, not, Bool, true, false, if◌then◌else◌, Option, Some, None, slice_get, refl, ap, sym, subst, ◌∙◌, rules}
+use Rattle.std.proofs.Common.{◌≡◌, ◌≢◌, ℕ, ◌<◌, ◌&&◌, not, Bool, true, false, if◌then◌else◌, Option, Some, None, slice_get, refl, ap, sym, subst, ◌∙◌, rules}
 use Rattle.sc_ids.specs.Changes.{change_at}
 use Rattle.sc_ids.specs.declared.attempts.AttemptId.{AttemptId}
 use Rattle.sc_ids.specs.declared.blocks.Loc.{Loc}
@@ -18,7 +18,7 @@ use Rattle.sc_dag.specs.DagData.{DagData, changed_newest, stage_at}
 use Rattle.sc_dag.specs.Losses.{after_seen}
 use Rattle.sc_dag.specs.Offers.{handed_out}
 use Rattle.sc_dag.specs.Outputs.{is_complete, results_in}
-use Rattle.sc_dag.specs.Reports.{after_failed, after_hold, after_map_success, after_result_success, ended_in_own, is_finished_short, is_of_newest, is_repeat, map_success_of, reaches_limit_in, set_of}
+use Rattle.sc_dag.specs.Reports.{after_failed, after_hold, after_map_success, ended_in_own, is_finished_short, is_of_newest, is_repeat, map_success_of, reaches_limit_in, set_of}
 use Rattle.sc_dag.specs.Sound.{runner_of}
 use Rattle.sc_dag.specs.Submission.{is_map, this_stage}
 use Rattle.sc_dag.specs.declared.reports.Success.{Success}
@@ -188,12 +188,12 @@ result_leaves c after r answer (is, left) = by (is_repeat c.dag a) refl is left
     by false e told is = (
       told,
       let same : after.dag ≡ next.dag =
-      ap (λ (x : CoreData). x.dag) is ∙ done_dag (is_complete next.dag a.stage) next in
-      record {
-        job = subst (λ x. SameJob c.dag x) (sym same) (won e).job;
-        results = ap (λ (x : DagData). results_in (slice_get x.states a.stage)) same
-            ∙ (won e).results;
-      },
+          ap (λ (x : CoreData). x.dag) is ∙ done_dag (is_complete next.dag a.stage) next in
+          record {
+            job = subst (λ x. SameJob c.dag x) (sym same) (won e).job;
+            results = ap (λ (x : DagData). results_in (slice_get x.states a.stage)) same
+                ∙ (won e).results;
+          },
     )
 
 -- ---- failures

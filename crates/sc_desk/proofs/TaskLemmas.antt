@@ -1,5 +1,5 @@
 -- What is handed out to an executor is a task of the job.
-use Rattle.std.proofs.Common.{◌≡◌, ℕ, ◌+◌, ◌<◌, ◌==◌, ◌++◌, All, Contains, Bool, true, false, cond, List, [], ◌∷◌, length, map, Option, Some, None, slice_get, refl, ap, ap₂, sym, subst, ◌∙◌, inl, inr, ◌⊎◌, arith, rules, true≢false}
+use Rattle.std.proofs.Common.{◌≡◌, ℕ, ◌+◌, ◌<◌, ◌==◌, ◌++◌, All, Contains, Bool, true, false, cond, List, [], ◌∷◌, length, Option, Some, None, slice_get, refl, ap, ap₂, sym, subst, ◌∙◌, inl, inr, ◌⊎◌, arith, rules, true≢false}
 use Rattle.std.specs.List.{find, flat_map}
 use Rattle.std.proofs.lemmas.Bool.Decides.{nat_tests}
 use Rattle.std.proofs.lemmas.List.{length-append, length-map}
@@ -25,7 +25,6 @@ use Rattle.sc_core.specs.Sound.{IsSoundCore, RunsWell}
 use Rattle.sc_core.specs.Takes.{Takes, running_on, with_task}
 use Rattle.sc_core.specs.declared.answers.Answer.{Answer}
 use Rattle.sc_core.specs.declared.answers.Answer.TheVariants as says
-use Rattle.sc_core.specs.declared.running.Running.{Running}
 use Rattle.sc_jobs.specs.JobData.{HasPartition, JobData, blocks_left, goal_action, parents_in, stage_in, target_among, target_of}
 use Rattle.sc_net.specs.Tasks.{IsTaskOf}
 use Rattle.sc_desk.specs.Takes.{IsGivable}

@@ -1,5 +1,5 @@
 -- How a desk begins.
-use Rattle.std.specs.Prelude.{ℕ, ◌≡◌, ◌⊎◌, [], None, Some, List, Option, replicate}
+use Rattle.std.specs.Prelude.{◌≡◌, ◌⊎◌, [], None, Some, List, Option, replicate}
 use Rattle.sc_ids.specs.Graphs.{StageData}
 use Rattle.sc_ids.specs.declared.limits.Limits.{Limits}
 use Rattle.sc_lineage.specs.ScriptData.{WorkData}

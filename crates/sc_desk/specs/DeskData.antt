@@ -1,5 +1,5 @@
 -- The driver's desk, as plain data.
-use Rattle.std.specs.Prelude.{◌≡◌, List, Option, refl}
+use Rattle.std.specs.Prelude.{List, Option, refl}
 use Rattle.std.specs.Coded.{Coded, code_by, coded×, coded_list, coded_option}
 use Rattle.sc_value.specs.Datum.{Datum}
 use Rattle.sc_value.specs.DatumCode.{datum_code}

@@ -41,11 +41,13 @@ impl<W: Naming> Desk<W> {
         ensures back { IfErr result (λ failed. IsHandedBack W.work carried goal failed.value) }
     {
         match open_job(alloc, &work, &mut carried, last, goal) {
-            Ok(Opened {
-                job,
-                journal,
-                results,
-            }) => Ok(Desk {
+            Ok(
+                Opened {
+                    job,
+                    journal,
+                    results,
+                },
+            ) => Ok(Desk {
                 work,
                 job,
                 carried,
@@ -120,7 +122,7 @@ fn journal_of<W: Naming>(
 
 /// What the core before keeps, where there is one.
 fn are_sound(last: Option<&Core>)
-    ensures { IfSome (option_map (λ l. l.now) last) IsSoundCore }
+    ensures { IfSome (option_map (λ l. l.now) last.entry) IsSoundCore }
 {
     if let Some(core) = last {
         core.is_sound();

@@ -36,11 +36,7 @@ impl<W: Naming> Desk<W> {
     /// A report comes. It is told to the core, with an entry, and the rows of a result that
     /// finishes its partition are kept; a stranger is handed back, and enters nothing. A refused
     /// call changes nothing and hands the report back.
-    pub fn post(
-        &mut self,
-        by: Mark,
-        report: Report<W>,
-    ) -> Result<Posted<W>, AllocFailed<Report<W>>>
+    pub fn post(&mut self, by: Mark, report: Report<W>) -> Result<Posted<W>, AllocFailed<Report<W>>>
         ensures posted { IfOk result (λ p. Posts self.old by report p self.new) }
         ensures refused { OnErr result (self.new ≡ self.old) }
         ensures back { IfErr result (λ failed. failed.value ≡ report) }
@@ -68,7 +64,11 @@ impl<W: Naming> Desk<W> {
         ensures { IsTrue result ↔ IsGiven self.now task.now }
     {
         if runs(self.core()) {
-            is_given_to(running_of(self.core().running(), task.attempt()), &self.job, task)
+            is_given_to(
+                running_of(self.core().running(), task.attempt()),
+                &self.job,
+                task,
+            )
         } else {
             true
         }
@@ -101,7 +101,8 @@ fn is_of(running: &Running, attempt: AttemptId) -> bool
 
 /// Whether a task is the one that was given to a running attempt, where there is one.
 fn is_given_to<W: Naming>(running: Option<&Running>, job: &Job<W>, task: &Task<W>) -> bool
-    ensures { IsTrue result ↔ IsGivenOf (option_map (λ r. r.now) running) job.now task.now }
+    ensures { IsTrue result ↔ IsGivenOf (option_map (λ r. r.now) running.entry) job.now
+        task.now }
 {
     match running {
         Some(running) => task.is_of(job, &running.hand_out),

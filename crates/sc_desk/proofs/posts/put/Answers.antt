@@ -1,4 +1,4 @@
-use Rattle.std.proofs.Common.{Some, None, sym, arith}
+use Rattle.std.proofs.Common.{None, sym, arith}
 use Rattle.sc_ids.proofs.ChangeLemmas.{set_change_at, change_at_past}
 use Rattle.sc_desk.proofs.posts.put.Goals as goal
 

@@ -1,10 +1,9 @@
 use Rattle.std.proofs.Common.{refl, subst, sym}
 use Rattle.sc_core.proofs.LawLemmas.{steps_keep_sound}
-use Rattle.sc_core.specs.CoreData.{CoreData}
 use Rattle.sc_core.specs.Journals.{JournalData}
 use Rattle.sc_core.specs.Sound.{IsSoundCore}
 use Rattle.sc_core.specs.declared.events.Event.TheVariants.{Take}
-use Rattle.sc_desk.specs.DeskData.{DeskData, desk_data}
+use Rattle.sc_desk.specs.DeskData.{desk_data}
 use Rattle.sc_desk.specs.Sound.{IsSoundDesk}
 use Rattle.sc_desk.proofs.TaskLemmas.{givable}
 use Rattle.sc_desk.proofs.KeepLemmas.{leaves_keep}
@@ -24,7 +23,7 @@ told-requires g c =
 pub invariant_of-self : goal.invariant_of-self
 invariant_of-self g c =
     elim c.match-enter.branch [
-      in-Ok w ↦
+      | in-Ok w ↦
           let d = desk_data c.self.inside.job c.self.inside.carried c.self.inside.journal
           c.self.inside.results.items in
           let after = desk_data c.self.inside.job c.self.inside.carried c.enter.new.self
@@ -40,8 +39,8 @@ invariant_of-self g c =
           })
           (takes_leave c.self.inside.journal.core c.enter.new.self.core c.args.exec
           w.in-Ok.answer w.in-Ok.ensures.step) tt refl
-    | in-Err w ↦
-        subst (λ (j : JournalData). IsSoundDesk g.W.Naming.work
-        (desk_data c.self.inside.job c.self.inside.carried j c.self.inside.results.items))
-        (sym w.in-Err.ensures.err) c.self.invariant
+      | in-Err w ↦
+          subst (λ (j : JournalData). IsSoundDesk g.W.Naming.work
+          (desk_data c.self.inside.job c.self.inside.carried j c.self.inside.results.items))
+          (sym w.in-Err.ensures.err) c.self.invariant
     ]
