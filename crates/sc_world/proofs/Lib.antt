@@ -6,3 +6,5 @@ mod HeldLemmas
 mod TakeLemmas
 mod PostLemmas
 mod StepLemmas
+mod NextLemmas
+mod LawLemmas

@@ -4,3 +4,5 @@ pub mod Ties
 pub mod WorldData
 pub mod Sound
 pub mod Steps
+pub mod Runs
+pub mod Laws

@@ -2,5 +2,7 @@
 #![tactic(auto)]
 
 mod laws;
+mod steps;
 
-pub use laws::reports_move_trackers;
+pub use laws::{reports_move_trackers, worlds_stay_sound};
+pub use steps::Step;
