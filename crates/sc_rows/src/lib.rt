@@ -20,6 +20,8 @@ mod actions;
 #[cfg(test)]
 mod arithmetic;
 #[cfg(test)]
+mod attempts;
+#[cfg(test)]
 mod borders;
 #[cfg(test)]
 mod caches;

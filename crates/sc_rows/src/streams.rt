@@ -19,7 +19,7 @@ fn add<R: Abort>(rt: &R, alloc: Global, source: &mut MemSource, name: &str, text
 }
 
 /// The work of a script over this text of `in.txt`.
-fn work_of<R: Abort + AllocGlobal>(rt: &R, script: &str, input: &str) -> Work {
+pub fn work_of<R: Abort + AllocGlobal>(rt: &R, script: &str, input: &str) -> Work {
     let alloc = rt.alloc();
     let mut source = MemSource::new(alloc);
     add(rt, alloc, &mut source, SCRIPT, script);

@@ -1,7 +1,8 @@
 -- What was read of a task's blocks, by the shuffles that they are of.
-use Rattle.std.proofs.Common.{◌≡◌, ◌∙◌, ℕ, zero, suc, ◌+◌, ◌<◌, ◌≤◌, List, [], ◌∷◌, ◌++◌, Option, Some, None, All, length, map, take, drop, refl, ap, sym, subst, arith}
-use Rattle.std.proofs.lemmas.List.Elements.{All-contains}
-use Rattle.std.specs.List.{AllZip, Contains}
+use Rattle.std.proofs.Common.{◌≡◌, ◌∙◌, ℕ, zero, suc, ◌+◌, ◌<◌, ◌≤◌, List, [], ◌∷◌, ◌++◌, Option, Some, None, All, length, map, take, drop, get_or, refl, ap, sym, subst, arith}
+use Rattle.std.proofs.lemmas.List.Elements.{All-contains, All-head, All-tail}
+use Rattle.std.proofs.lemmas.Option.{slice_get-get_or}
+use Rattle.std.specs.List.{AllZip, Contains, flat_map, slice_get}
 use Rattle.sc_base.specs.Lists.{at_or, numbers_below, numbers_from}
 use Rattle.sc_value.specs.Datum.{Datum}
 use Rattle.sc_ids.specs.Graphs.{StageData}
@@ -9,16 +10,22 @@ use Rattle.sc_ids.specs.declared.blocks.ShuffleId.{ShuffleId}
 use Rattle.sc_ids.specs.declared.blocks.Target.{Target}
 use Rattle.sc_ids.specs.declared.blocks.Target.TheVariants as targets
 use Rattle.sc_combine.specs.Outputs.{IsOutput}
-use Rattle.sc_lineage.specs.ScriptData.{WorkData}
+use Rattle.sc_lineage.specs.Dependencies.{parents_of}
+use Rattle.sc_lineage.specs.NodeData.{NodeData, text_node, parallelize_node, each_node, union_node, coalesce_node, cache_node, shuffle_node, meet_node}
+use Rattle.sc_lineage.specs.ScriptData.{IsSoundScript, WorkData}
+use Rattle.sc_lineage.proofs.PlaceLemmas.{at_or-get_or}
 use Rattle.sc_lineage.specs.Targets.{TargetData, map_target}
 use Rattle.sc_dag.specs.Outputs.{block_of}
-use Rattle.sc_compute.specs.Stages.{AreOutputs}
-use Rattle.sc_jobs.specs.JobData.{JobData, stage_in, target_among, target_by}
+use Rattle.sc_compute.specs.Stages.{AreOutputs, mapped_in, node_at}
+use Rattle.sc_compute.specs.Tasks.{IsSideOf}
+use Rattle.sc_compute.proofs.NodeLemmas.{IsNode, parents_known}
+use Rattle.sc_jobs.specs.JobData.{JobData, blocks_by, blocks_left, stage_in, target_among, target_by}
 use Rattle.sc_jobs.specs.Plans.{AreTasksFor, IsJobFor, IsShuffleOf, IsStageFor, MapsInto, maps_of}
 use Rattle.sc_jobs.specs.declared.goals.Goal.{Goal}
 use Rattle.sc_jobs.proofs.StageLemmas.{found_there}
 use Rattle.sc_task.specs.Handing.{IsOfWork}
 use Rattle.sc_task.specs.States.{AreOf}
+use Rattle.sc_task.proofs.CursorLemmas.{flat_next}
 use Rattle.sc_task.proofs.ReadLemmas.{zip_length}
 
 module _ {A B : Type 0} (R : A → B → Type 0) where
@@ -74,7 +81,10 @@ module _ (work : WorkData) (s : ShuffleId) where
         count =
             sym long ∙ map_count (block_of s) (numbers_below tasks)
             ∙ numbers_count 0 tasks ∙ count;
-        each = λ m below. each_is 0 tasks m outputs are below;
+        each = λ m below.
+            let same : 0 + m ≡ m = omega arith in
+            subst (λ k. IsOutput work s.node s.side k (at_or outputs m [])) same
+            (each_is 0 tasks m outputs are below);
       }
 
 -- a stage of a job that is found is one of the work
@@ -111,3 +121,66 @@ maps_into work goal graph id p node side m is = by (stage_in graph id) refl is
         → map_target node side m ≡ target_among work goal o p → MapsInto graph node
     by None found same = absurd (cc)
     by (Some stage) found same = at stage found stage.target refl same
+
+-- a map stage's outputs are those of its shuffle
+pub outputs_by : (work : WorkData) (stage : StageData) (s : ShuffleId)
+    (given got : List (List (List Datum))) → IsOfWork work stage → stage.target ≡ targets.Map s
+    → AreOf work (blocks_left (Some stage)) given → got ≡ given
+    → AreOutputs work s.node s.side got
+outputs_by work stage s given got of_work makes are same =
+    let is = of_work s makes in
+    subst (AreOutputs work s.node s.side) (sym same)
+    (outputs_of work s stage.tasks given is.0 is.1
+    (subst (λ t. AreOf work (blocks_by t stage.tasks) given) makes are))
+
+-- a map stage leaves as many blocks as it has tasks
+pub count_by_map : (t : Target) (tasks n : ℕ) (s : ShuffleId) → t ≡ targets.Map s → n ≡ tasks
+    → n ≡ length (blocks_by t tasks)
+count_by_map t tasks n s makes same =
+    same ∙ sym (numbers_count 0 tasks) ∙ sym (map_count (block_of s) (numbers_below tasks))
+    ∙ sym (ap (λ q. length (blocks_by q tasks)) makes)
+
+-- Of stages whose blocks are left to hand in.
+module _ (work : WorkData) (graph : List StageData) (items : List ℕ) (i : ℕ)
+    (rest : List (List (List Datum))) where
+  -- those of the next stage come first
+  pub next_first : (x : ℕ) (found : Option StageData) → i < length items → x ≡ get_or items i x
+      → found ≡ stage_in graph x
+      → AreOf work (flat_map (λ id. blocks_left (stage_in graph id)) (drop i items)) rest
+      → AreOf work (blocks_left found
+      ++ flat_map (λ id. blocks_left (stage_in graph id)) (drop (i + 1) items)) rest
+  next_first x found within at is are =
+      let f = λ (id : ℕ). blocks_left (stage_in graph id) in
+      subst (λ o. AreOf work (blocks_left o ++ flat_map f (drop (i + 1) items)) rest) (sym is)
+      (subst (λ bs. AreOf work bs rest) (flat_next f items i x within at) are)
+
+-- the only or left parent of a node is one of its script, and so is the right one
+pub mapped_known : (node : NodeData) (side n : ℕ) → IsSideOf node side
+    → All (λ q. q < n) (parents_of node) → mapped_in node side < n
+mapped_known (shuffle_node kind parent m) zero n is all = All-head (λ q. q < n) parent [] all
+mapped_known (shuffle_node kind parent m) (suc side) n is all = absurd (omega (arith, is))
+mapped_known (meet_node kind left right m) zero n is all =
+    All-head (λ q. q < n) left (right ∷ []) all
+mapped_known (meet_node kind left right m) (suc zero) n is all =
+    All-head (λ q. q < n) right [] (All-tail (λ q. q < n) left (right ∷ []) all)
+mapped_known (meet_node kind left right m) (suc (suc side)) n is all = absurd (omega (arith, is))
+mapped_known (text_node name m) side n is all = absurd is
+mapped_known (parallelize_node rows m) side n is all = absurd is
+mapped_known (each_node kind parent e) side n is all = absurd is
+mapped_known (union_node left right) side n is all = absurd is
+mapped_known (coalesce_node parent m) side n is all = absurd is
+mapped_known (cache_node parent) side n is all = absurd is
+
+pub parent_known : (work : WorkData) (k side parent : ℕ) → IsSoundScript work.script
+    → k < length work.script.nodes → IsSideOf (node_at work k) side
+    → parent ≡ mapped_in (node_at work k) side → parent < length work.script.nodes
+parent_known work k side parent sound known is same =
+    let nodes = work.script.nodes in
+    let found : slice_get nodes k ≡ Some (node_at work k) =
+    slice_get-get_or nodes k (cache_node 0) known
+    ∙ ap Some (sym (at_or-get_or nodes k (cache_node 0))) in
+    let at : IsNode work k (node_at work k) =
+    record { sound = sound; known = known; is = found } in
+    let all = parents_known at in
+    let less = mapped_known (node_at work k) side (length nodes) is all in
+    omega (arith, less, same)

@@ -1,5 +1,6 @@
 -- What a task leaves, by what its stage makes.
-use Rattle.std.proofs.Common.{◌≡◌, ◌∙◌, ℕ, true, false, List, [], ◌∷◌, Option, Some, None, All, refl, ap, sym}
+use Rattle.std.proofs.Common.{◌≡◌, ◌∙◌, ℕ, Bool, true, false, List, [], ◌∷◌, Option, Some, None, All, refl, ap, sym, subst}
+use Rattle.std.proofs.lemmas.List.Elements.{All-cons, All-nil}
 use Rattle.sc_value.specs.Datum.{Datum}
 use Rattle.sc_expr.specs.declared.exprs.Raise.{Raise}
 use Rattle.sc_ids.specs.Graphs.{StageData}
@@ -17,9 +18,11 @@ use Rattle.sc_compute.specs.declared.targets.Computed.TheVariants.{Output, Raise
 use Rattle.sc_store.specs.OwnBlocks.{IsOwnBlock}
 use Rattle.sc_jobs.specs.JobData.{target_among, target_by}
 use Rattle.sc_jobs.specs.declared.goals.Goal.{Goal}
-use Rattle.sc_net.specs.Reports.{IsWithoutRaise}
-use Rattle.sc_net.specs.Tasks.{block_left, block_left_by, is_map_stage}
+use Rattle.sc_net.specs.Reports.{IsWithoutRaise, ReportData, report_data}
+use Rattle.sc_net.specs.Tasks.{TaskData, block_left, block_left_by, is_map_stage, is_planned}
+use Rattle.sc_net.specs.declared.findings.Finding.TheVariants as findings
 use Rattle.sc_task.specs.States.{AreOf}
+use Rattle.sc_task.specs.Steps.{FailsAs}
 
 -- Of tasks of a partition, by what they make.
 module _ (work : WorkData) (goal : Goal) (p : ℕ) where
@@ -87,8 +90,19 @@ left_by_map (Some stage) p id is = by stage.target is
 -- nothing that was read raises
 pub read_whole : (work : WorkData) (blocks : List BlockId) (got : List (List (List Datum)))
     → AreOf work blocks got → All (IsWithoutRaise work) blocks
-read_whole work [] [] are = tt
+read_whole work [] [] are = All-nil (IsWithoutRaise work)
 read_whole work [] (output ∷ got) are = absurd are
 read_whole work (block ∷ blocks) [] are = absurd are
 read_whole work (block ∷ blocks) (output ∷ got) are =
-    (ap (λ (s : Stream). s.raise) are.0.own, read_whole work blocks got are.1)
+    All-cons (IsWithoutRaise work) block blocks (ap (λ (s : Stream). s.raise) are.0.own)
+    (read_whole work blocks got are.1)
+
+-- a planned failure is reported
+pub planned_did : (work : WorkData) (t s : TaskData) (report : ReportData) (planned : Bool)
+    → report ≡ report_data s findings.Planned → s ≡ t → planned ≡ is_planned work s
+    → planned ≡ true → (report.task ≡ t) × FailsAs work t report.finding
+planned_did work t s report planned is same tells holds = (
+  ap (λ (r : ReportData). r.task) is ∙ same,
+  subst (λ (r : ReportData). FailsAs work t r.finding) (sym is)
+      (ap (is_planned work) (sym same) ∙ sym tells ∙ holds),
+)

@@ -1,5 +1,5 @@
 -- What was read of a task's blocks.
-use Rattle.std.proofs.Common.{◌≡◌, ◌∙◌, ℕ, zero, suc, ◌<◌, List, [], ◌∷◌, ◌++◌, Option, Some, None, length, refl, ap, sym, subst, append_assoc, append_nil}
+use Rattle.std.proofs.Common.{◌≡◌, ◌∙◌, ℕ, zero, suc, ◌<◌, List, [], ◌∷◌, ◌++◌, Option, Some, None, length, refl, ap, sym, subst, append_assoc, append-nil}
 use Rattle.std.specs.List.{AllZip, slice_get}
 use Rattle.std.specs.Option.{IfSome}
 use Rattle.sc_value.specs.Datum.{Datum}
@@ -89,7 +89,7 @@ pub all_before : (work : WorkData) (t : TaskData) (got : List (List (List Datum)
     → HasRead work t got None → HasReadAll work t got
 all_before work t got has =
     let P = λ (bs : List BlockId). AreOf work bs got in
-    subst P (sym (has.all ∙ append_nil has.before)) has.own
+    subst P (sym (has.all ∙ append-nil has.before)) has.own
 
 pub no_block : (work : WorkData) (t : TaskData) (got : List (List (List Datum)))
     → HasRead work t got None → slice_get (blocks_of_task t) (length got) ≡ None

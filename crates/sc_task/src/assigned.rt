@@ -172,6 +172,7 @@ impl<W: Naming> Assigned<W> {
             let Assigned { task, .. } = self;
             return Ok(Did::Failed(Report::new(task, Finding::Planned)));
         }
+        self.task.is_task();
         match left_by(alloc, &self.task, self.got.as_slice()) {
             Ok(left) => {
                 let Assigned { task, .. } = self;

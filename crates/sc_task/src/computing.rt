@@ -84,6 +84,7 @@ fn made_to_map<W: Naming>(
     ensures made { IfOk result (λ s. HasMade s (mapped_in (node_at work.now node) side)) }
     ensures told { IfOk result (λ s. HasBounds s node (node_at work.now node)) }
 {
+    work.is_sound();
     stages.prepare(alloc, work, mapped_by(work, node, side))?;
     tell_bounds(work, task, &mut stages, node)?;
     Ok(stages)
@@ -181,10 +182,8 @@ fn tell_bounds<W: Naming>(
 fn mapped_by(work: &Work, node: NodeId, side: u8) -> NodeId
     requires known { node < length work.now.script.nodes }
     requires side { IsSideOf (node_at work.now node) side }
-    ensures mapped { result ≡ mapped_in (node_at work.now node) side }
-    ensures known { result < length work.now.script.nodes }
+    ensures { result ≡ mapped_in (node_at work.now node) side }
 {
-    work.is_sound();
     match &work.script().nodes()[node as usize] {
         Node::Shuffle { parent, .. } => *parent,
         Node::Meet { left, right, .. } => {

@@ -1,7 +1,7 @@
 //! Where an attempt is in the blocks that it reads.
 #![tactic(auto)]
 
-ghost use Rattle.std.specs.Prelude.{◌≡◌, ◌∷◌, IfSome, Some, drop};
+ghost use Rattle.std.specs.Prelude.{◌≡◌, ◌∷◌, ◌++◌, [], IfSome, None, Some};
 ghost use Rattle.std.specs.List.{flat_map};
 ghost use Rattle.sc_jobs.specs.JobData.{blocks_left, parents_in, stage_in};
 ghost use Rattle.sc_dag.specs.Outputs.{block_of};

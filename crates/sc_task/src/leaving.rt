@@ -3,7 +3,7 @@
 
 ghost use Rattle.std.specs.Prelude.{◌≡◌, All, Some, false};
 ghost use Rattle.sc_compute.specs.Tasks.{Leaves};
-ghost use Rattle.sc_compute.specs.declared.targets.Computed.{Computed};
+ghost use Rattle.sc_compute.specs.declared.targets.Computed.TheVariants.{Output};
 ghost use Rattle.sc_lineage.specs.Targets.{own_value};
 ghost use Rattle.sc_net.specs.Reports.{IsWithoutRaise, report_data};
 ghost use Rattle.sc_net.specs.Tasks.{blocks_of_task, is_planned, target_of_task};
@@ -44,7 +44,7 @@ pub(crate) fn did<W: Naming>(task: Task<W>, left: Left) -> Did<W>
 
 /// An attempt that has computed the block of a map task.
 fn of_output<W: Naming>(task: Task<W>, output: MapOutput) -> Computed<W>
-    requires left { Leaves W.work (target_of_task W.work task) (Computed.Output output) }
+    requires left { Leaves W.work (target_of_task W.work task) (Output output) }
     requires planned { is_planned W.work task ≡ false }
     ensures { result ≡ computed_data task }
 {
