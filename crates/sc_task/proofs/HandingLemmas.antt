@@ -1,8 +1,8 @@
 -- What was read of a task's blocks, by the shuffles that they are of.
 use Rattle.std.proofs.Common.{◌≡◌, ◌∙◌, ℕ, zero, suc, ◌+◌, ◌<◌, ◌≤◌, List, [], ◌∷◌, ◌++◌, Option, Some, None, All, length, map, take, drop, get_or, refl, ap, sym, subst, arith}
 use Rattle.std.proofs.lemmas.List.Elements.{All-contains, All-head, All-tail}
-use Rattle.std.proofs.lemmas.Option.{slice_get-get_or}
-use Rattle.std.specs.List.{AllZip, Contains, flat_map, slice_get}
+use Rattle.std.proofs.lemmas.Option.{get_or_from_slice_get, slice_get-get_or}
+use Rattle.std.specs.List.{AllZip, flat_map, slice_get}
 use Rattle.sc_base.specs.Lists.{at_or, numbers_below, numbers_from}
 use Rattle.sc_value.specs.Datum.{Datum}
 use Rattle.sc_ids.specs.Graphs.{StageData}
@@ -14,18 +14,19 @@ use Rattle.sc_lineage.specs.Dependencies.{parents_of}
 use Rattle.sc_lineage.specs.NodeData.{NodeData, text_node, parallelize_node, each_node, union_node, coalesce_node, cache_node, shuffle_node, meet_node}
 use Rattle.sc_lineage.specs.ScriptData.{IsSoundScript, WorkData}
 use Rattle.sc_lineage.proofs.PlaceLemmas.{at_or-get_or}
-use Rattle.sc_lineage.specs.Targets.{TargetData, map_target}
+use Rattle.sc_lineage.specs.Targets.{map_target}
 use Rattle.sc_dag.specs.Outputs.{block_of}
 use Rattle.sc_compute.specs.Stages.{AreOutputs, mapped_in, node_at}
 use Rattle.sc_compute.specs.Tasks.{IsSideOf}
 use Rattle.sc_compute.proofs.NodeLemmas.{IsNode, parents_known}
+use Rattle.sc_store.specs.OwnBlocks.{IsOwnBlock}
 use Rattle.sc_jobs.specs.JobData.{JobData, blocks_by, blocks_left, stage_in, target_among, target_by}
 use Rattle.sc_jobs.specs.Plans.{AreTasksFor, IsJobFor, IsShuffleOf, IsStageFor, MapsInto, maps_of}
 use Rattle.sc_jobs.specs.declared.goals.Goal.{Goal}
 use Rattle.sc_jobs.proofs.StageLemmas.{found_there}
 use Rattle.sc_task.specs.Handing.{IsOfWork}
 use Rattle.sc_task.specs.States.{AreOf}
-use Rattle.sc_task.proofs.CursorLemmas.{flat_next}
+use Rattle.sc_task.proofs.ListLemmas.{flat_next}
 use Rattle.sc_task.proofs.ReadLemmas.{zip_length}
 
 module _ {A B : Type 0} (R : A → B → Type 0) where
@@ -113,8 +114,12 @@ maps_into work goal graph id p node side m is = by (stage_in graph id) refl is
     at stage found (targets.Map s) makes same =
         let one : s.node ≡ node = cc in
         subst (MapsInto graph) one
-        (record { stage = stage; there = (found_there graph id stage found).0; side = s.side;
-        makes = makes })
+        (record {
+          stage = stage;
+          there = (found_there graph id stage found).0;
+          side = s.side;
+          makes = makes;
+        })
     at stage found (targets.Result k) makes same = absurd (cc)
 
     by : (o : Option StageData) → stage_in graph id ≡ o
@@ -143,16 +148,29 @@ count_by_map t tasks n s makes same =
 -- Of stages whose blocks are left to hand in.
 module _ (work : WorkData) (graph : List StageData) (items : List ℕ) (i : ℕ)
     (rest : List (List (List Datum))) where
-  -- those of the next stage come first
-  pub next_first : (x : ℕ) (found : Option StageData) → i < length items → x ≡ get_or items i x
-      → found ≡ stage_in graph x
+  -- those of the next stage come first, and those of the others behind them
+  pub next_cut : (d n : ℕ) (stage : StageData) → i < length items
+      → Some stage ≡ stage_in graph (get_or items i d)
+      → n ≡ length (blocks_left (Some stage))
       → AreOf work (flat_map (λ id. blocks_left (stage_in graph id)) (drop i items)) rest
-      → AreOf work (blocks_left found
-      ++ flat_map (λ id. blocks_left (stage_in graph id)) (drop (i + 1) items)) rest
-  next_first x found within at is are =
+      → (n ≤ length rest) × AreOf work (blocks_left (Some stage)) (take n rest)
+      × AreOf work (flat_map (λ id. blocks_left (stage_in graph id)) (drop (i + 1) items))
+      (drop n rest)
+  next_cut d n stage within is count are =
       let f = λ (id : ℕ). blocks_left (stage_in graph id) in
-      subst (λ o. AreOf work (blocks_left o ++ flat_map f (drop (i + 1) items)) rest) (sym is)
-      (subst (λ bs. AreOf work bs rest) (flat_next f items i x within at) are)
+      let x = get_or items i d in
+      let others = flat_map f (drop (i + 1) items) in
+      let own = blocks_left (Some stage) in
+      let at : x ≡ get_or items i x =
+      sym (get_or_from_slice_get items i x x (slice_get-get_or items i d within)) in
+      let all = subst (λ bs. AreOf work bs rest)
+      (flat_next f items i x within at ∙ ap (λ o. blocks_left o ++ others) (sym is)) are in
+      let long = zip_long (IsOwnBlock work) own others rest all in
+      let both = zip_cut (IsOwnBlock work) own others rest all in (
+        omega (arith, long, count),
+        subst (λ k. AreOf work own (take k rest)) (sym count) both.0,
+        subst (λ k. AreOf work others (drop k rest)) (sym count) both.1,
+      )
 
 -- the only or left parent of a node is one of its script, and so is the right one
 pub mapped_known : (node : NodeData) (side n : ℕ) → IsSideOf node side

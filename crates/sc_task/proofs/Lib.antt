@@ -2,4 +2,4 @@ pub mod ReadLemmas
 pub mod NextLemmas
 pub mod LeavingLemmas
 pub mod HandingLemmas
-pub mod CursorLemmas
+pub mod ListLemmas

@@ -1,12 +1,11 @@
 -- What an attempt is to do next.
-use Rattle.std.proofs.Common.{◌≡◌, ◌∙◌, ℕ, zero, suc, ◌<◌, ◌⊎◌, inl, inr, List, [], ◌∷◌, ◌++◌, Option, Some, None, length, map, get_or, refl, ap, sym, subst, arith}
-use Rattle.std.specs.List.{Contains, slice_get, slice_index_or}
+use Rattle.std.proofs.Common.{◌≡◌, ◌∙◌, ℕ, zero, suc, ◌<◌, ◌≤◌, ◌⊎◌, inl, inr, List, [], ◌∷◌, ◌++◌, Option, Some, None, length, map, get_or, refl, ap, sym, subst, arith}
+use Rattle.std.specs.List.{slice_get}
 use Rattle.sc_base.specs.Lists.{numbers_from}
 use Rattle.sc_ids.specs.declared.blocks.BlockId.{BlockId}
-use Rattle.sc_ids.specs.declared.blocks.Loc.{Loc}
 use Rattle.sc_tracker.specs.declared.outputs.Location.{Location}
 use Rattle.sc_tracker.specs.declared.outputs.Location.TheVariants as locations
-use Rattle.std.proofs.lemmas.Option.{slice_get-get_or, slice_get_read}
+use Rattle.std.proofs.lemmas.Option.{slice_get_read}
 use Rattle.std.specs.Option.{IfSome}
 use Rattle.sc_value.specs.Datum.{Datum}
 use Rattle.sc_dag.specs.Outputs.{block_of}
@@ -18,37 +17,7 @@ use Rattle.sc_task.specs.Nexts.{next_at, next_of}
 use Rattle.sc_task.specs.States.{AssignedData, HasRead, HasReadAll, assigned_data}
 use Rattle.sc_task.specs.declared.cursors.Cursor.{Cursor}
 use Rattle.sc_task.proofs.ReadLemmas.{all_before, next_block, no_block, none_beside, one_more_read}
-use Rattle.sc_task.specs.declared.next.Next.{Next}
-use Rattle.sc_task.specs.declared.next.Next.TheVariants.{Fetch, Missing, Complete}
-
-module _ {A : Type 0} where
-  -- what stands at a place is in the list
-  pub got_is_there : (xs : List A) (n : ℕ) (x : A) → slice_get xs n ≡ Some x → Contains xs x
-  got_is_there [] n x is = absurd (cc)
-  got_is_there (y ∷ ys) zero x is =
-      let same : y ≡ x = cc in (0, omega arith, same)
-  got_is_there (y ∷ ys) (suc n) x is =
-      let there = got_is_there ys n x is in (suc there.0, omega (arith, there.1), there.2)
-
--- where a block is to be fetched, it is the one at that place, and lies where it was given
-pub fetched : (block : Option BlockId) (location : Option Location) (b : BlockId) (loc : Loc)
-    → next_at block location ≡ Fetch b loc
-    → (block ≡ Some b) × (location ≡ Some (locations.Here loc))
-fetched (Some a) (Some (locations.Here at)) b loc is =
-    let same : a ≡ b = cc in let there : at ≡ loc = cc in
-    (ap Some same, ap (λ l. Some (locations.Here l)) there)
-fetched (Some a) (Some (locations.Missing last)) b loc is = absurd (cc)
-fetched (Some a) None b loc is = absurd (cc)
-fetched None location b loc is = absurd (cc)
-
--- where a block has no location, it was given without
-pub missed : (block : Option BlockId) (location : Option Location) (last : Option Loc)
-    → next_at block location ≡ Missing last → location ≡ Some (locations.Missing last)
-missed (Some a) (Some (locations.Here at)) last is = absurd (cc)
-missed (Some a) (Some (locations.Missing lay)) last is =
-    let same : lay ≡ last = cc in ap (λ l. Some (locations.Missing l)) same
-missed (Some a) None last is = absurd (cc)
-missed None location last is = absurd (cc)
+use Rattle.sc_task.specs.declared.next.Next.TheVariants.{Complete}
 
 -- where nothing is left to do, there is no block, or no place of one
 pub completed : (block : Option BlockId) (location : Option Location)
@@ -131,7 +100,10 @@ module _ (work : WorkData) (t : TaskData) (got : List (List (List Datum)))
       → HasReadAll work t got
   all_read is done = by cursor refl
     where
+      blocks : List BlockId
       blocks = blocks_of_task t
+
+      inputs : List Location
       inputs = t.hand_out.inputs
 
       here : next_at (slice_get blocks n) (slice_get inputs n) ≡ Complete

@@ -1,5 +1,5 @@
 -- What was read of a task's blocks.
-use Rattle.std.proofs.Common.{◌≡◌, ◌∙◌, ℕ, zero, suc, ◌<◌, List, [], ◌∷◌, ◌++◌, Option, Some, None, length, refl, ap, sym, subst, append_assoc, append-nil}
+use Rattle.std.proofs.Common.{◌≡◌, ◌∙◌, ℕ, zero, suc, List, [], ◌∷◌, ◌++◌, Option, Some, None, length, refl, ap, sym, subst, append_assoc, append-nil}
 use Rattle.std.specs.List.{AllZip, slice_get}
 use Rattle.std.specs.Option.{IfSome}
 use Rattle.sc_value.specs.Datum.{Datum}
@@ -8,7 +8,7 @@ use Rattle.sc_lineage.specs.ScriptData.{WorkData}
 use Rattle.sc_dag.specs.Outputs.{block_of}
 use Rattle.sc_store.specs.OwnBlocks.{IsOwnBlock}
 use Rattle.sc_net.specs.Tasks.{TaskData, blocks_of_task}
-use Rattle.sc_task.specs.Cursors.{IsPlace, blocks_behind, blocks_from}
+use Rattle.sc_task.specs.Cursors.{IsPlace, blocks_from}
 use Rattle.sc_task.specs.States.{AreOf, HasRead, HasReadAll}
 use Rattle.sc_task.specs.declared.cursors.Cursor.{Cursor}
 

@@ -1,5 +1,5 @@
 -- The states of an attempt, as plain data, and what holds of them.
-use Rattle.std.specs.Prelude.{ℕ, ◌≡◌, ◌++◌, false, List, Option, Some, IfSome, refl}
+use Rattle.std.specs.Prelude.{ℕ, ◌≡◌, ◌++◌, List, Option, Some, IfSome, refl}
 use Rattle.std.specs.Coded.{Coded, code_by, coded×, coded_ℕ}
 use Rattle.std.specs.List.{AllZip}
 use Rattle.sc_value.specs.Datum.{Datum}
@@ -9,7 +9,7 @@ use Rattle.sc_ids.specs.declared.blocks.Loc.{Loc}
 use Rattle.sc_lineage.specs.ScriptData.{WorkData}
 use Rattle.sc_store.specs.OwnBlocks.{IsOwnBlock}
 use Rattle.sc_net.specs.Reports.{IsResultOf}
-use Rattle.sc_net.specs.Tasks.{TaskData, block_of_task, blocks_of_task, is_planned, task_code}
+use Rattle.sc_net.specs.Tasks.{TaskData, block_of_task, blocks_of_task, task_code}
 use Rattle.sc_task.specs.Cursors.{IsPlace, blocks_from}
 use Rattle.sc_task.specs.declared.cursors.Cursor.{Cursor}
 use Rattle.sc_task.specs.declared.made.Made.{Made}

@@ -1,5 +1,5 @@
 -- What the steps of an attempt do.
-use Rattle.std.specs.Prelude.{ℕ, ◌≡◌, ◌≤◌, ◌<◌, ◌+◌, false, Option, Some, None, is_some, true}
+use Rattle.std.specs.Prelude.{◌≡◌, ◌≤◌, ◌<◌, ◌+◌, false, Some, None, is_some, true}
 use Rattle.sc_ids.specs.declared.blocks.BlockId.{BlockId}
 use Rattle.sc_ids.specs.declared.blocks.Loc.{Loc}
 use Rattle.sc_lineage.specs.ScriptData.{WorkData}
@@ -8,7 +8,7 @@ use Rattle.sc_store.specs.BlockData.{BlockData}
 use Rattle.sc_store.specs.OwnBlocks.{IsOwnBlock}
 use Rattle.sc_store.specs.StoreData.{StoreData, output_in}
 use Rattle.sc_store.specs.Storing.{Puts}
-use Rattle.sc_net.specs.Reports.{ReportData, report_data}
+use Rattle.sc_net.specs.Reports.{report_data}
 use Rattle.sc_net.specs.Tasks.{TaskData, block_of_task, is_planned, target_of_task}
 use Rattle.sc_net.specs.declared.findings.Finding.{Finding}
 use Rattle.sc_net.specs.declared.findings.Finding.TheVariants as findings

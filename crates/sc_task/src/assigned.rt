@@ -101,7 +101,9 @@ impl<W: Naming> Assigned<W> {
         };
         match answer {
             FetchAnswer::Found(block) => Ok(Took::Next(self.with(block)?)),
-            FetchAnswer::Gone { wanted, found } => Ok(Took::Gone(self.gone(loc.exec, wanted, found))),
+            FetchAnswer::Gone { wanted, found } => Ok(Took::Gone(self.gone(
+                loc.exec, wanted, found,
+            ))),
             FetchAnswer::Absent => Ok(Took::Absent { state: self, loc }),
         }
     }

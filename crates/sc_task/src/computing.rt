@@ -34,7 +34,9 @@ pub(crate) fn left_by<W: Naming>(
     let attempt = task.attempt();
     let shared = task.work();
     let work = shared.get();
-    let target = task.job().task_target(shared, attempt.stage, attempt.partition);
+    let target = task
+        .job()
+        .task_target(shared, attempt.stage, attempt.partition);
     let stages = made_for(alloc, work, task, got, target)?;
     compute(alloc, work, &stages, target)
 }
@@ -186,13 +188,7 @@ fn mapped_by(work: &Work, node: NodeId, side: u8) -> NodeId
 {
     match &work.script().nodes()[node as usize] {
         Node::Shuffle { parent, .. } => *parent,
-        Node::Meet { left, right, .. } => {
-            if side == 0 {
-                *left
-            } else {
-                *right
-            }
-        }
+        Node::Meet { left, right, .. } => { if side == 0 { *left } else { *right } }
         _ => unreachable!(),
     }
 }

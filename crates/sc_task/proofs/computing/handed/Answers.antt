@@ -1,9 +1,9 @@
-use Rattle.std.proofs.Common.{◌∙◌, ◌≤◌, drop, get_or, length, subst, sym, ap, arith}
+use Rattle.std.proofs.Common.{◌∙◌, ◌+◌, Some, drop, get_or, subst, sym, ap}
 use Rattle.std.specs.List.{flat_map}
-use Rattle.sc_jobs.specs.JobData.{blocks_left, stage_in}
+use Rattle.sc_jobs.specs.JobData.{JobData, blocks_left, stage_in}
+use Rattle.sc_jobs.specs.Plans.{IsJobFor}
 use Rattle.sc_task.specs.States.{AreOf}
-use Rattle.sc_store.specs.OwnBlocks.{IsOwnBlock}
-use Rattle.sc_task.proofs.HandingLemmas.{found_of_work, next_first, zip_cut, zip_long}
+use Rattle.sc_task.proofs.HandingLemmas.{found_of_work, next_cut}
 use Rattle.sc_task.proofs.computing.handed.Goals as goal
 
 pub loop-parent-init : goal.loop-parent-init
@@ -15,7 +15,50 @@ loop-parent-init g c =
           (sym c.parents_of-parent-items.ensures) c.requires.all;
     }
 
+pub split_at-requires : goal.split_at-requires
+split_at-requires g c =
+    (next_cut c.args.work.now c.args.task.now.job.graph c.parents_of-parent-items.result.now
+    c.loop-parent.parent-index c.loop-parent.rest.now 0 c.count_left.result
+    c.in-Some.stage.now c.loop-parent-test.true
+    (c.in-Some.ensures ∙ ap (λ (j : JobData). stage_in j.graph
+    (get_or c.parents_of-parent-items.result.now c.loop-parent.parent-index 0))
+    c.job-in-loop-parent.ensures) c.count_left.ensures c.loop-parent.invariant.left).0
+
 pub hand_in-requires-clause-stage : goal.hand_in-requires-clause-stage
 hand_in-requires-clause-stage g c =
-    found_of_work c.args.work.now c.args.task.now.job _ c.in-Some.stage.now
-    c.is_job.ensures (sym c.in-Some.ensures)
+    found_of_work c.args.work.now c.args.task.now.job
+    (get_or c.parents_of-parent-items.result.now c.loop-parent.parent-index 0)
+    c.in-Some.stage.now
+    (subst (IsJobFor c.args.work.now) c.job.ensures
+    (subst (λ w. IsJobFor w c.job.result.now) (sym c.requires.named) c.is_job.ensures))
+    (sym (c.in-Some.ensures ∙ ap (λ (j : JobData). stage_in j.graph
+    (get_or c.parents_of-parent-items.result.now c.loop-parent.parent-index 0))
+    c.job-in-loop-parent.ensures))
+
+pub hand_in-requires-clause-of : goal.hand_in-requires-clause-of
+hand_in-requires-clause-of g c =
+    subst (AreOf c.args.work.now (blocks_left (Some c.in-Some.stage.now)))
+    (sym c.split_at.ensures.front)
+    (next_cut c.args.work.now c.args.task.now.job.graph c.parents_of-parent-items.result.now
+    c.loop-parent.parent-index c.loop-parent.rest.now 0 c.count_left.result
+    c.in-Some.stage.now c.loop-parent-test.true
+    (c.in-Some.ensures ∙ ap (λ (j : JobData). stage_in j.graph
+    (get_or c.parents_of-parent-items.result.now c.loop-parent.parent-index 0))
+    c.job-in-loop-parent.ensures) c.count_left.ensures c.loop-parent.invariant.left).1
+
+pub loop-parent-preserved : goal.loop-parent-preserved
+loop-parent-preserved g c =
+    record {
+      right = c.hand_in.ensures.right;
+      left = subst (AreOf c.args.work.now (flat_map
+          (λ id. blocks_left (stage_in c.args.task.now.job.graph id))
+          (drop (c.loop-parent.parent-index + 1) c.parents_of-parent-items.result.now)))
+          (sym c.split_at.ensures.back)
+          (next_cut c.args.work.now c.args.task.now.job.graph
+          c.parents_of-parent-items.result.now c.loop-parent.parent-index
+          c.loop-parent.rest.now 0 c.count_left.result c.in-Some.stage.now
+          c.loop-parent-test.true
+          (c.in-Some.ensures ∙ ap (λ (j : JobData). stage_in j.graph
+          (get_or c.parents_of-parent-items.result.now c.loop-parent.parent-index 0))
+          c.job-in-loop-parent.ensures) c.count_left.ensures c.loop-parent.invariant.left).2;
+    }

@@ -6,7 +6,7 @@ use Rattle.sc_task.proofs.assigned.Assigned.with.Goals.{in-Some, in-None}
 pub invariant_of-result : goal.invariant_of-result
 invariant_of-result g c =
     elim c.match-cursor.branch [
-      in-Some w ↦ read_on g.W.Naming.work c.self.inside.task c.self.inside.got.items
+      | in-Some w ↦ read_on g.W.Naming.work c.self.inside.task c.self.inside.got.items
           c.self.inside.cursor c.args.self c.self.inside.got.len c.self.invariant
           (omega (arith, c.self.inside.got.ok.0)) c.self.view_is w.in-Some.cursor
           w.next-cursor.result c.match-cursor.cursor c.args.block.id
@@ -14,7 +14,7 @@ invariant_of-result g c =
           w.in-Some.is c.requires.next c.into_parts-output.ensures.id
           c.into_parts-output.ensures.own w.next-cursor.ensures.behind
           w.next-cursor.ensures.place w.cursor-is c.in-Ok.ensures.items
-    | in-None w ↦ absurd (asked_past g.W.Naming.work c.self.inside.task
+      | in-None w ↦ absurd (asked_past g.W.Naming.work c.self.inside.task
           c.self.inside.got.items c.self.inside.cursor c.args.self c.self.inside.got.len
           c.self.invariant (omega (arith, c.self.inside.got.ok.0)) c.self.view_is
           c.args.block.id w.in-None.is c.requires.next)
