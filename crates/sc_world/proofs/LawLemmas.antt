@@ -36,9 +36,9 @@ use Rattle.sc_desk.specs.Takes.{IsGivable}
 use Rattle.sc_desk.proofs.TaskLemmas.{givable}
 use Rattle.sc_world.specs.Begun.{AreBegun, is_begun}
 use Rattle.sc_world.specs.Laws.{FetchesFind, MissesAreKnown, ReportsAreKnown, RunsKeepSound, WorldsBegin}
-use Rattle.sc_world.specs.Runs.{AreReady, Goes, IsOfTask, IsWorld, Runs, idle_world}
+use Rattle.sc_world.specs.Runs.{AreReady, IsOfTask, IsWorld, Runs, idle_world}
 use Rattle.sc_world.specs.Sound.{IsSoundWorld}
-use Rattle.sc_world.specs.Steps.{Posts, Puts, Takes, given_to}
+use Rattle.sc_world.specs.Steps.{Goes, Posts, Puts, Takes, given_to}
 use Rattle.sc_world.specs.WorldData.{WorldData, core_in, held_at, with_desk, with_held}
 use Rattle.sc_world.specs.declared.steps.Step.{Step}
 use Rattle.sc_world.specs.declared.steps.Step.TheVariants as steps
@@ -153,16 +153,17 @@ takes_keep work w exec answer after h place takes =
     by says.Again bad s = absurd bad
     by says.Resubmitted bad s = absurd bad
 
-on_keep : (work : WorkData) (w : WorldData) (exec : ℕ) (a : AttemptData) (after : WorldData)
-    → IsWorld work w → held_at w exec ≡ Some a → GoesOn w exec (task_of a) after
-    → IsWorld work after
-on_keep work w exec a after h held on =
-    subst (IsWorld work) (sym on.is) (record {
+on_keep : (work : WorkData) (w : WorldData) (exec : ℕ) (a : AttemptData)
+    (held : Option AttemptData) (after : WorldData) → IsWorld work w
+    → held_at w exec ≡ Some a → GoesOn w.stores exec (task_of a) held
+    → after ≡ with_held w exec held → IsWorld work after
+on_keep work w exec a held after h was on is =
+    subst (IsWorld work) (sym is) (record {
       core = h.core;
       stages = h.stages;
-      tasks = held_each (λ e b. IsOfTask b) w.held exec (Some on.next)
-          (rw on.same (subst (λ o. IfSome o IsOfTask) held (h.tasks exec))) h.tasks;
-      sound = subst (IsSoundWorld work) on.is (on_sound work w exec a after h.sound held on);
+      tasks = held_each (λ e b. IsOfTask b) w.held exec held
+          (rw on.is (rw on.same (subst (λ o. IfSome o IsOfTask) was (h.tasks exec)))) h.tasks;
+      sound = on_sound work w exec a held h.sound was on;
     })
 
 puts_keep : (work : WorkData) (w : WorldData) (exec : ℕ) (after : WorldData)
@@ -204,10 +205,12 @@ goes_keep : (work : WorkData) (w : WorldData) (step : Step) (after : WorldData) 
     → Goes work w step after → IsWorld work after
 goes_keep work w (steps.Take exec) after h (place, (answer, takes)) =
     takes_keep work w exec answer after h place takes
-goes_keep work w (steps.Read exec) after h r =
-    on_keep work w exec (assigned r.task r.got) after h r.held (reads_on w exec after r)
-goes_keep work w (steps.Compute exec) after h c =
-    on_keep work w exec (assigned c.task c.got) after h c.held (computes_on work w exec after c)
+goes_keep work w (steps.Read exec) after h (held, r, is) =
+    on_keep work w exec (assigned r.task r.got) held after h r.held
+    (reads_on w.stores exec (held_at w exec) held r) is
+goes_keep work w (steps.Compute exec) after h (held, c, is) =
+    on_keep work w exec (assigned c.task c.got) held after h c.held
+    (computes_on work w.stores exec (held_at w exec) held c) is
 goes_keep work w (steps.Put exec) after h p = puts_keep work w exec after h p
 goes_keep work w (steps.Post exec) after h (answer, p) = posts_keep work w exec answer after h p
 goes_keep work w (steps.Wipe order) after h (answer, p) =

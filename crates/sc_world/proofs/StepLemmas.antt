@@ -1,5 +1,5 @@
 -- What holds of a world holds on, once an attempt has read, computed or put, or a store was wiped.
-use Rattle.std.proofs.Common.{◌≡◌, ◌⊎◌, inl, inr, ℕ, ◌+◌, ◌≤◌, Some, None, IsSomeAnd, option_map, slice_get, refl, ap, sym, subst, ◌∙◌, arith}
+use Rattle.std.proofs.Common.{◌≡◌, ◌⊎◌, inl, inr, ℕ, ◌≤◌, List, Option, Some, None, IsSomeAnd, option_map, slice_get, refl, ap, sym, subst, ◌∙◌, arith}
 use Rattle.sc_ids.specs.Changes.{change_at}
 use Rattle.sc_ids.specs.declared.blocks.BlockId.{BlockId}
 use Rattle.sc_ids.specs.declared.blocks.Loc.{Loc}
@@ -21,101 +21,94 @@ use Rattle.sc_task.specs.Steps.{FailsAs, PutsOwn}
 use Rattle.sc_task.specs.declared.next.Next.{Next}
 use Rattle.sc_task.specs.declared.next.Next.TheVariants.{Fetch, Missing, Complete}
 use Rattle.sc_world.specs.Sound.{Brings, HasPut, IsSoundWorld}
-use Rattle.sc_world.specs.Steps.{Computes, Gets, HasMade, Makes, Puts, Reads, ReadsNext, WipesOne}
-use Rattle.sc_world.specs.Ties.{AreLater, StandsAt, StandsIn, generation_at, generation_in}
+use Rattle.sc_world.specs.Steps.{ComputesAt, HasMade, Makes, Puts, ReadsAt, ReadsNext, WipesOne}
+use Rattle.sc_world.specs.Ties.{StandsAt, StandsIn, generation_in}
 use Rattle.sc_world.specs.WorldData.{WorldData, held_at, with_held, with_store}
 use Rattle.sc_world.proofs.HeldLemmas.{goes_on_sound, later_sound, own_changed}
 use Rattle.sc_world.proofs.TieLemmas.{one_later, put_here, put_stands, wiped_grows, wiped_stands}
 
 -- the attempt of an executor goes on: what it is then
-pub record GoesOn (w : WorldData) (exec : ℕ) (t : TaskData) (after : WorldData) : Type 0 where
+pub record GoesOn (stores : List StoreData) (exec : ℕ) (t : TaskData)
+    (after : Option AttemptData) : Type 0 where
   pub next : AttemptData
   pub same : task_of next ≡ t
-  pub brings : Brings w.stores exec next
-  pub is : after ≡ with_held w exec (Some next)
+  pub brings : Brings stores exec next
+  pub is : after ≡ Some next
 
 -- an attempt has read, or has found that a block is gone or missing
-pub reads_on : (w : WorldData) (exec : ℕ) (after : WorldData) → (reads : Reads w exec after)
-    → GoesOn w exec reads.task after
-reads_on w exec after reads = by (next_of reads.task reads.got) reads.reads
+pub reads_on : (stores : List StoreData) (exec : ℕ) (before after : Option AttemptData)
+    → (h : ReadsAt stores before after) → GoesOn stores exec h.task after
+reads_on stores exec before after h =
+    record {
+      next = h.next;
+      same = same;
+      brings = brings (next_of h.task h.got) h.reads;
+      is = h.is;
+    }
   where
-    on : (next : AttemptData) → task_of next ≡ reads.task → Brings w.stores exec next
-        → after ≡ with_held w exec (Some next) → GoesOn w exec reads.task after
-    on next same brings is = record { next = next; same = same; brings = brings; is = is }
+    of : (next : Next) → ReadsNext stores h.task h.got next h.next
+        → (task_of h.next ≡ h.task) × Brings stores exec h.next
+    of (Fetch block loc) (store, there, inl (le, is)) =
+        rw is (refl, tt)
+    of (Fetch block loc) (store, there, inr (lt, is)) =
+        rw is (refl,
+        subst (λ o. store.generation ≤ generation_in o) (sym there) (omega arith))
+    of (Missing (Some last)) is = rw is (refl, tt)
+    of (Missing None) bad = absurd bad
+    of Complete bad = absurd bad
 
-    found : (loc : Loc) (store : StoreData) → slice_get w.stores loc.exec ≡ Some store
-        → store.generation ≤ generation_at w.stores loc.exec
-    found loc store there =
-        subst (λ o. store.generation ≤ generation_in o) (sym there) (omega arith)
+    same : task_of h.next ≡ h.task
+    same = (of (next_of h.task h.got) h.reads).0
 
-    gets : (loc : Loc) (store : StoreData) → slice_get w.stores loc.exec ≡ Some store
-        → Gets w exec reads.task reads.got loc store after → GoesOn w exec reads.task after
-    gets loc store there (inl (le, is)) = on (assigned reads.task (reads.got + 1)) refl tt is
-    gets loc store there (inr (lt, is)) =
-        on (reported reads.task (findings.Gone loc.exec loc.generation store.generation)) refl
-        (found loc store there) is
-
-    by : (next : Next) → ReadsNext w exec reads.task reads.got next after
-        → GoesOn w exec reads.task after
-    by (Fetch block loc) (store, there, got) = gets loc store there got
-    by (Missing (Some last)) is = on (reported reads.task (findings.Missing last)) refl tt is
-    by (Missing None) bad = absurd bad
-    by Complete bad = absurd bad
+    brings : (next : Next) → ReadsNext stores h.task h.got next h.next
+        → Brings stores exec h.next
+    brings next r = (of next r).1
 
 -- an attempt has computed, or fails
-pub computes_on : (work : WorkData) (w : WorldData) (exec : ℕ) (after : WorldData)
-    → (h : Computes work w exec after) → GoesOn w exec h.task after
-computes_on work w exec after h = makes h.attempt h.makes h.is
+pub computes_on : (work : WorkData) (stores : List StoreData) (exec : ℕ)
+    (before after : Option AttemptData) → (h : ComputesAt work before after)
+    → GoesOn stores exec h.task after
+computes_on work stores exec before after h =
+    record {
+      next = h.next;
+      same = (makes h.next h.makes).0;
+      brings = (makes h.next h.makes).1;
+      is = h.is;
+    }
   where
-    on : (next : AttemptData) → task_of next ≡ h.task → Brings w.stores exec next
-        → after ≡ with_held w exec (Some next) → GoesOn w exec h.task after
-    on next same brings is = record { next = next; same = same; brings = brings; is = is }
-
     fails : (finding : Finding) → FailsAs work h.task finding
-        → after ≡ with_held w exec (Some (reported h.task finding)) → GoesOn w exec h.task after
-    fails findings.Planned f is = on (reported h.task findings.Planned) refl tt is
-    fails (findings.Raised r) f is = on (reported h.task (findings.Raised r)) refl tt is
-    fails (findings.Map loc) f is = absurd f
-    fails (findings.Result rows) f is = absurd f
-    fails (findings.Gone at wanted found) f is = absurd f
-    fails (findings.Missing last) f is = absurd f
+        → (task_of (reported h.task finding) ≡ h.task)
+        × Brings stores exec (reported h.task finding)
+    fails findings.Planned f = (refl, tt)
+    fails (findings.Raised r) f = (refl, tt)
+    fails (findings.Map loc) f = absurd f
+    fails (findings.Result rows) f = absurd f
+    fails (findings.Gone at wanted found) f = absurd f
+    fails (findings.Missing last) f = absurd f
 
     made : (next : AttemptData) → HasMade work h.task next
-        → after ≡ with_held w exec (Some next) → GoesOn w exec h.task after
-    made (computed t) (same, mapped) is = on (computed t) same tt is
-    made (reported t (findings.Result rows)) (same, own) is =
-        on (reported t (findings.Result rows)) same tt is
-    made (reported t (findings.Map loc)) bad is = absurd bad
-    made (reported t findings.Planned) bad is = absurd bad
-    made (reported t (findings.Raised r)) bad is = absurd bad
-    made (reported t (findings.Gone at wanted found)) bad is = absurd bad
-    made (reported t (findings.Missing last)) bad is = absurd bad
-    made (assigned t got) bad is = absurd bad
-    made (stored t loc) bad is = absurd bad
+        → (task_of next ≡ h.task) × Brings stores exec next
+    made (computed t) (same, mapped) = (same, tt)
+    made (reported t (findings.Result rows)) (same, own) = (same, tt)
+    made (reported t (findings.Map loc)) bad = absurd bad
+    made (reported t findings.Planned) bad = absurd bad
+    made (reported t (findings.Raised r)) bad = absurd bad
+    made (reported t (findings.Gone at wanted found)) bad = absurd bad
+    made (reported t (findings.Missing last)) bad = absurd bad
+    made (assigned t got) bad = absurd bad
+    made (stored t loc) bad = absurd bad
 
     makes : (next : AttemptData) → Makes work h.task next
-        → after ≡ with_held w exec (Some next) → GoesOn w exec h.task after
-    makes next (inl (finding, f, one)) is =
-        fails finding f (is ∙ ap (λ a. with_held w exec (Some a)) one)
-    makes next (inr (planned, raise, has)) is = made next has is
+        → (task_of next ≡ h.task) × Brings stores exec next
+    makes next (inl (finding, f, is)) = rw is (fails finding f)
+    makes next (inr (planned, raise, has)) = made next has
 
 pub on_sound : (work : WorkData) (w : WorldData) (exec : ℕ) (a : AttemptData)
-    (after : WorldData) → IsSoundWorld work w → held_at w exec ≡ Some a
-    → GoesOn w exec (task_of a) after → IsSoundWorld work after
+    (after : Option AttemptData) → IsSoundWorld work w → held_at w exec ≡ Some a
+    → GoesOn w.stores exec (task_of a) after → IsSoundWorld work (with_held w exec after)
 on_sound work w exec a after sound held h =
-    subst (IsSoundWorld work) (sym h.is)
+    subst (λ o. IsSoundWorld work (with_held w exec o)) (sym h.is)
     (goes_on_sound work w exec a h.next sound held h.same h.brings)
-
-pub reads_sound : (work : WorkData) (w : WorldData) (exec : ℕ) (after : WorldData)
-    → IsSoundWorld work w → Reads w exec after → IsSoundWorld work after
-reads_sound work w exec after sound h =
-    on_sound work w exec (assigned h.task h.got) after sound h.held (reads_on w exec after h)
-
-pub computes_sound : (work : WorkData) (w : WorldData) (exec : ℕ) (after : WorldData)
-    → IsSoundWorld work w → Computes work w exec after → IsSoundWorld work after
-computes_sound work w exec after sound h =
-    on_sound work w exec (assigned h.task h.got) after sound h.held
-    (computes_on work w exec after h)
 
 -- one store was changed for one in which all stands that stood
 store_sound : (work : WorkData) (w : WorldData) (exec : ℕ) (store next : StoreData)
@@ -168,7 +161,7 @@ puts_sound work w exec after sound h = by h.puts
 
 -- a store was wiped
 pub wipes_sound : (work : WorkData) (w : WorldData) (order : Order) (answer : WipeAnswer)
-    (after : WorldData) → IsSoundWorld work w → WipesOne w order answer after
+    (after : WorldData) → IsSoundWorld work w → WipesOne work w order answer after
     → IsSoundWorld work after
 wipes_sound work w order answer after sound h =
     subst (IsSoundWorld work) (sym h.is)

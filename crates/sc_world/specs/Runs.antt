@@ -1,33 +1,18 @@
 -- A world that goes on by steps, in any order.
-use Rattle.std.specs.Prelude.{ℕ, ◌<◌, ◌≡◌, List, [], ◌∷◌, Option, Some, None, IfSome, length, replicate, slice_get}
-use Rattle.sc_ids.specs.declared.blocks.BlockId.{BlockId}
+use Rattle.std.specs.Prelude.{ℕ, ◌≡◌, List, [], ◌∷◌, None, IfSome, length, replicate, slice_get}
 use Rattle.sc_lineage.specs.ScriptData.{WorkData}
 use Rattle.sc_tracker.specs.TrackerData.{TrackerData}
 use Rattle.sc_dag.specs.Openings.{AreNumbered}
-use Rattle.sc_core.specs.CoreData.{CoreData}
 use Rattle.sc_core.specs.Sound.{IsSoundCore}
-use Rattle.sc_core.specs.declared.answers.Answer.{Answer}
 use Rattle.sc_store.specs.StoreData.{StoreData}
-use Rattle.sc_store.specs.declared.answers.WipeAnswer.{WipeAnswer}
 use Rattle.sc_net.specs.Tasks.{IsTaskOf}
 use Rattle.sc_task.specs.Attempts.{AttemptData, task_of}
 use Rattle.sc_desk.specs.DeskData.{DeskData, core_of}
 use Rattle.sc_world.specs.Sound.{IsSoundWorld}
-use Rattle.sc_world.specs.Steps.{Computes, Posts, Puts, Reads, Takes, WipesOne}
+use Rattle.sc_world.specs.Steps.{Goes}
 use Rattle.sc_world.specs.Ties.{AreTied}
 use Rattle.sc_world.specs.WorldData.{WorldData, core_in, held_at, world_data}
 use Rattle.sc_world.specs.declared.steps.Step.{Step}
-use Rattle.sc_world.specs.declared.steps.Step.TheVariants as steps
-
--- what one step leaves of a world, where it is enabled
-abbrev pub Goes : WorkData → WorldData → Step → WorldData → Type 0
-Goes work w (steps.Take exec) after =
-    (exec < length w.held) × ((answer : Answer) × Takes w exec answer after)
-Goes work w (steps.Read exec) after = Reads w exec after
-Goes work w (steps.Compute exec) after = Computes work w exec after
-Goes work w (steps.Put exec) after = Puts work w exec after
-Goes work w (steps.Post exec) after = (answer : Answer) × Posts w exec answer after
-Goes work w (steps.Wipe order) after = (answer : WipeAnswer) × WipesOne w order answer after
 
 -- what some steps leave, one after the other
 abbrev pub Runs : WorkData → WorldData → List Step → WorldData → Type 0
