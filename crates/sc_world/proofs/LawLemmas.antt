@@ -44,7 +44,8 @@ use Rattle.sc_world.specs.declared.steps.Step.{Step}
 use Rattle.sc_world.specs.declared.steps.Step.TheVariants as steps
 use Rattle.sc_world.proofs.BegunLemmas.{submitted_begun}
 use Rattle.sc_world.proofs.HeldLemmas.{held_each}
-use Rattle.sc_world.proofs.NextLemmas.{NextStands, next_stands, report_known, store_there}
+use Rattle.sc_world.specs.Places.{NextStands}
+use Rattle.sc_world.proofs.NextLemmas.{next_stands, report_known, store_there}
 use Rattle.sc_world.proofs.PostLemmas.{posts_sound}
 use Rattle.sc_world.proofs.StepLemmas.{GoesOn, computes_on, on_sound, puts_sound, reads_on, wipes_sound}
 use Rattle.sc_world.proofs.TakeLemmas.{takes_sound}

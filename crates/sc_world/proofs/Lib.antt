@@ -8,3 +8,4 @@ mod PostLemmas
 mod StepLemmas
 mod NextLemmas
 mod LawLemmas
+mod GoLemmas

@@ -19,19 +19,13 @@ use Rattle.sc_task.specs.Nexts.{next_at, next_of}
 use Rattle.sc_task.specs.declared.next.Next.{Next}
 use Rattle.sc_task.specs.declared.next.Next.TheVariants.{Fetch, Missing, Complete}
 use Rattle.sc_desk.specs.Posts.{IsKnown, IsOf}
+use Rattle.sc_world.specs.Places.{NextStands}
 use Rattle.sc_world.specs.Sound.{InputStands, IsRight, IsSoundWorld, RunsOn, Says}
 use Rattle.sc_world.specs.Ties.{StandsAt, StandsIn}
 use Rattle.sc_world.specs.WorldData.{WorldData, core_in, held_at}
 use Rattle.sc_world.proofs.FitLemmas.{report_fits}
 
 -- ---- reading
-
--- what comes next stands
-abbrev pub NextStands : List StoreData → Next → Type 0
-NextStands stores (Fetch block loc) = StandsAt stores block loc
-NextStands stores (Missing None) = ⊥
-NextStands stores (Missing (Some last)) = Unit {0}
-NextStands stores Complete = Unit {0}
 
 next_among : (stores : List StoreData) (blocks : List BlockId) (inputs : List Location) (got : ℕ)
     → AllZip (InputStands stores) blocks inputs

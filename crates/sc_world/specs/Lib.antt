@@ -4,5 +4,6 @@ pub mod Ties
 pub mod WorldData
 pub mod Sound
 pub mod Steps
+pub mod Places
 pub mod Runs
 pub mod Laws
