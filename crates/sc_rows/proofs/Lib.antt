@@ -1,4 +1,2 @@
 pub mod JobLemmas
-pub mod OpeningLemmas
 pub mod RoomLemmas
-pub mod StageRoomLemmas

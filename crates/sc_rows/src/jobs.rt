@@ -27,7 +27,8 @@ pub fn counting_under<R: Abort + AllocGlobal>(rt: &R, limits: Limits, plan: &str
     ensures { room_of result.core ≡ 2 }
 {
     let graph = word_count(rt, 1);
-    begun(rt, &graph, limits, &plan_of(rt, plan), None)
+    let plan = plan_of(rt, plan);
+    begun(rt, &graph, limits, &plan, None)
 }
 
 /// That of a job behind it whose stage 2 reads the outputs of the same shuffle.

@@ -1,7 +1,7 @@
 use Rattle.std.proofs.Common.{Option, IfOk, option_map, subst}
 use Rattle.sc_core.specs.CoreData.{CoreData}
 use Rattle.sc_core.specs.Openings.{IsOpening}
-use Rattle.sc_rows.proofs.OpeningLemmas.{openings_agree}
+use Rattle.sc_history.proofs.OpeningLemmas.{openings_agree}
 use Rattle.sc_rows.proofs.jobs.begun.Goals as goal
 
 pub begin-requires : goal.begin-requires
