@@ -6,13 +6,12 @@
 
 ghost use Rattle.std.specs.Prelude.{◌≡◌};
 
-use crate::desk_views::{assert_gives, assert_went};
+use crate::desk_views::assert_went;
 use crate::streams::work_of;
-use crate::turns::{begun, first, receive, reported, run, stores_of, task_of, turn};
+use crate::turns::{first, receive, reported, run, stores_of, task_of, turn};
 use sc_core::{Abort as Why, Job};
-use sc_desk::{Closed, Posted, Taken};
+use sc_desk::{Posted, Taken};
 use sc_ids::{AttemptId, Mark};
-use sc_jobs::Goal;
 use sc_lineage::Work;
 use sc_plan::{Order, OrderKind};
 use sc_store::WipeAnswer;
@@ -43,16 +42,7 @@ const COUNTED: &str = "\
 0 take: ended
 ";
 
-/// The count reads what is registered.
-const COUNTED_AGAIN: &str = "\
-0 take: task 2.0.0.0, epoch 0, from 0@0 1@0
-0 post 2.0.0.0 result: finished
-1 take: task 2.0.1.0, epoch 0, from 0@0 1@0
-1 post 2.0.1.0 result: finished
-0 take: ended
-";
-
-fn try_two_jobs<W: Naming, R: Abort + AllocGlobal>(rt: &R, work: Work)
+fn try_counted<W: Naming, R: Abort + AllocGlobal>(rt: &R, work: Work)
     requires named { work ≡ W.work }
 {
     let work = SharedWork::<W>::of(rt.alloc(), work).expect(rt, "memory");
@@ -61,22 +51,11 @@ fn try_two_jobs<W: Naming, R: Abort + AllocGlobal>(rt: &R, work: Work)
     run(rt, &mut desk, &mut stores);
     assert_went(rt, &desk, COUNTED, "(b,2)\n(a,1)\n");
     assert_eq!(rt; desk.core().job(), Job::Done);
-    let Closed {
-        history,
-        carried,
-        ..
-    } = desk.close();
-    let goal = Goal::Action { number: 1 };
-    let mut desk = begun(rt, &work, carried, Some(&history.end), goal);
-    run(rt, &mut desk, &mut stores);
-    assert_went(rt, &desk, COUNTED_AGAIN, "(b,2)\n(a,1)\n");
-    assert_eq!(rt; desk.core().job(), Job::Done);
-    assert_gives(rt, &work, desk.close(), "2\n");
 }
 
 #[test]
-fn a_word_count_runs_by_tasks_and_a_second_job_reads_what_it_left(rt: HostRuntime) {
-    try_two_jobs::<Brand, HostRuntime>(&rt, work_of(&rt, WORDS, "b a\nb\n"));
+fn a_word_count_runs_by_tasks(rt: HostRuntime) {
+    try_counted::<Brand, HostRuntime>(&rt, work_of(&rt, WORDS, "b a\nb\n"));
 }
 
 fn try_empty<W: Naming, R: Abort + AllocGlobal>(rt: &R, work: Work)

@@ -39,8 +39,6 @@ mod comparisons;
 #[cfg(test)]
 mod cutting;
 #[cfg(test)]
-mod desk_results;
-#[cfg(test)]
 mod desk_views;
 #[cfg(test)]
 mod desks;

@@ -1,12 +1,17 @@
 //! Jobs that run on one thread: executors ask the desk in turn, and run at once what they get.
 #![tactic(auto)]
 
-use sc_core::Core;
+ghost use Rattle.std.specs.Prelude.{◌≡◌, ◌<◌, length};
+ghost use Rattle.sc_jobs.specs.JobData.{goal_node};
+ghost use Rattle.sc_jobs.specs.declared.goals.Goal.TheVariants as goals;
+ghost use Rattle.sc_stagecut.specs.Carrying.{AreRightBounds, HasBounds, IsCarriedFor, IsForAny};
+
+use sc_compute::node_of;
 use sc_desk::{Desk, Posted, Taken};
 use sc_ids::{ExecId, Mark};
 use sc_jobs::Goal;
 use sc_net::{Report, Task};
-use sc_stagecut::Carried;
+use sc_stagecut::{Carried, unbounded_sort};
 use sc_store::Store;
 use sc_task::{Assigned, Computed, Did, Next, Took, assign};
 use sc_work::{Naming, SharedWork};
@@ -16,32 +21,46 @@ use std::process::Abort;
 const TURNS: u32 = 32;
 
 /// What is carried to the first job of a work.
-pub fn nothing<W: Naming, R: Abort + AllocGlobal>(rt: &R, work: &SharedWork<W>) -> Carried {
+fn nothing<W: Naming, R: Abort + AllocGlobal>(rt: &R, work: &SharedWork<W>) -> Carried
+    ensures { IsForAny result }
+{
     let nodes = work.get().script().nodes().len();
     Carried::new(rt.alloc(), nodes).expect(rt, "memory")
 }
 
-/// The desk of a job that begins behind what is carried and another job or none.
-pub fn begun<W: Naming, R: Abort + AllocGlobal>(
-    rt: &R,
-    work: &SharedWork<W>,
-    carried: Carried,
-    last: Option<&Core>,
-    goal: Goal,
-) -> Desk<W> {
-    let work = work.share().expect(rt, "memory");
-    let desk = Desk::begin(rt.alloc(), work, carried, last, goal);
-    desk.ok().expect(rt, "memory")
-}
-
-/// The desk of the first job of a work, for its action of this number.
+/// The desk of the first job of a work, for its action of this number, which reaches no sort.
 pub fn first<W: Naming, R: Abort + AllocGlobal>(
     rt: &R,
     work: &SharedWork<W>,
     number: u32,
 ) -> Desk<W> {
     let carried = nothing(rt, work);
-    begun(rt, work, carried, None, Goal::Action { number })
+    has_bounds(rt, work, &carried, number);
+    let work = work.share().expect(rt, "memory");
+    let desk = Desk::begin(rt.alloc(), work, carried, None, Goal::Action { number });
+    desk.ok().expect(rt, "memory")
+}
+
+/// Sees that a work has an action of this number, whose node reaches no sort without bounds.
+fn has_bounds<W: Naming, R: Abort + AllocGlobal>(
+    rt: &R,
+    work: &SharedWork<W>,
+    carried: &Carried,
+    number: u32,
+)
+    ensures action { number < length W.work.script.actions }
+    ensures bounds { HasBounds W.work.script.nodes carried.now
+        (goal_node W.work (goals.Action number)) }
+{
+    work.is_named();
+    let work = work.get();
+    assert!(rt; (number as usize) < work.script().actions().len());
+    let node = node_of(&work.script().actions()[number as usize]);
+    assert!(rt; (node as usize) < work.script().nodes().len());
+    match unbounded_sort(rt.alloc(), work, node, carried).expect(rt, "memory") {
+        Some(_) => panic!(rt; "a sort has no bounds"),
+        None => {}
+    }
 }
 
 /// Empty stores of two executors.
@@ -120,7 +139,9 @@ pub fn reported<W: Naming, R: Abort + AllocGlobal>(
         Ok(attempt) => attempt,
         Err(report) => return report,
     };
-    assert!(rt; attempt.next() == Next::Complete);
+    let Next::Complete = attempt.next() else {
+        panic!(rt; "a block is left");
+    };
     match attempt.compute(rt.alloc()).ok().expect(rt, "memory") {
         Did::Computed(computed) => left(rt, computed, stores, exec),
         Did::Failed(report) => report,
