@@ -11,7 +11,8 @@ top=$(cd "$(dirname "$0")/.." && pwd)
 copy=$(mktemp -d)
 trap 'rm -rf "$copy"' EXIT
 
-below="sc_base sc_ids sc_tracker sc_taskset sc_commit sc_dag sc_core"
+below="sc_base sc_value sc_part sc_ids sc_plan sc_tracker sc_taskset sc_commit sc_dag"
+below="$below sc_core sc_history"
 crate=$copy/crates/bench_core
 mkdir -p "$crate"/src "$crate"/specs "$crate"/proofs/run "$crate"/proofs/begun
 for name in $below; do
@@ -26,8 +27,7 @@ cp "$text/main.rt.txt" "$crate/src/main.rt"
 cp "$text/specs-Jobs.antt.txt" "$crate/specs/Jobs.antt"
 echo "pub mod Jobs" >"$crate/specs/Lib.antt"
 cp "$text/proofs-JobLemmas.antt.txt" "$crate/proofs/JobLemmas.antt"
-cp "$top/crates/sc_rows/proofs/OpeningLemmas.antt" "$crate/proofs"
-printf 'pub mod JobLemmas\npub mod OpeningLemmas\n' >"$crate/proofs/Lib.antt"
+echo "pub mod JobLemmas" >"$crate/proofs/Lib.antt"
 cp "$text/proofs-run-Answers.antt.txt" "$crate/proofs/run/Answers.antt"
 cp "$text/proofs-begun-Answers.antt.txt" "$crate/proofs/begun/Answers.antt"
 
