@@ -5,8 +5,7 @@
 //! are tables of text, which cost the check next to nothing: `claims` has a function that runs each
 //! kind of table, `given` makes a run of a script over files and tells what was seen of it, and
 //! `streams` shows the raise that a run doesn't tell. `jobs` begins jobs without a script, and
-//! `transcripts` lets their events happen. `turns` runs whole jobs at the driver's desk, and
-//! `desk_views` shows what is seen of them. The other modules have a subject each.
+//! `transcripts` lets their events happen. The other modules have a subject each.
 //!
 //! A test is code, so it is proved too. It is cheap where it is one call with a table, and where
 //! want of memory ends it by `expect`: a `?` is one more way out, on which all that is held has to
