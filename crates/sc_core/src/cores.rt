@@ -25,7 +25,7 @@ use std::marker::Model;
 /// The scheduler of one job. Contracts see its data; what holds of every core is kept by its type.
 #[derive(Drop)]
 pub struct Core {
-    state: State,
+    pub(crate) state: State,
 }
 
 impl Model for Core {

@@ -27,6 +27,7 @@ mod laws;
 mod losses;
 mod openings;
 mod posts;
+mod readers;
 mod releases;
 mod running;
 mod shelves;

@@ -33,7 +33,7 @@ impl State {
     }
 
     /// Whether an executor may be told lost.
-    fn may_be_lost(&self, exec: ExecId) -> bool
+    pub fn may_be_lost(&self, exec: ExecId) -> bool
         ensures { result ≡ may_be_lost self.now.0 exec }
     {
         self.runs()

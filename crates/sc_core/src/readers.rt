@@ -1,0 +1,41 @@
+//! What a core tells of what comes next.
+#![tactic(auto)]
+
+ghost use Rattle.std.specs.Prelude.{◌≡◌};
+ghost use Rattle.sc_core.specs.Losses.{may_be_lost};
+ghost use Rattle.sc_core.specs.Takes.{is_lost};
+ghost use Rattle.sc_dag.specs.Offers.{IsNextTask};
+ghost use Rattle.sc_tracker.specs.TrackerData.{trust_of};
+
+use crate::cores::Core;
+use sc_ids::{AttemptId, ExecId, Generation};
+
+impl Core {
+    /// The task that there is for an executor, whatever else may keep it from getting one.
+    pub fn next_task(&self, exec: ExecId) -> Option<AttemptId>
+        ensures { IsNextTask self.now.dag exec result }
+    {
+        self.state.stages.dag().next_task(exec, self.state.tick)
+    }
+
+    /// Whether an executor was told lost.
+    pub fn is_lost(&self, exec: ExecId) -> bool
+        ensures { result ≡ is_lost self.now exec }
+    {
+        self.state.stages.dag().tracker().lost(exec)
+    }
+
+    /// Whether an executor may be told lost.
+    pub fn may_be_lost(&self, exec: ExecId) -> bool
+        ensures { result ≡ may_be_lost self.now exec }
+    {
+        self.state.may_be_lost(exec)
+    }
+
+    /// The greatest generation of an executor's store that was seen.
+    pub fn seen(&self, exec: ExecId) -> Generation
+        ensures { result ≡ (trust_of self.now.dag.tracker exec).seen }
+    {
+        self.state.stages.dag().tracker().seen(exec)
+    }
+}
