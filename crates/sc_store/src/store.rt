@@ -139,6 +139,24 @@ impl<W: Naming> Store<W> {
         }
     }
 
+    /// The rows of a cached block, where there is one, which isn't counted as a use of it.
+    pub fn peek_cached(&self, id: CachedId) -> Result<Option<Rows>, AllocError>
+        ensures found { IfOk result (λ found. found ≡ cached_in self.now id) }
+        ensures own { IfOk result (λ found. IfSome found (IsOwnPartition W.work id)) }
+    {
+        match self.cache.peek(id) {
+            Some(rows) => Ok(Some(rows.share()?)),
+            None => Ok(None),
+        }
+    }
+
+    /// A cached block becomes the most recently used, where there is one of the name.
+    pub fn mark_used(&mut self, id: CachedId)
+        ensures { self.new ≡ with_cache self.old (with_used self.old.cache id) }
+    {
+        let _ = self.cache.get(id);
+    }
+
     /// The rows of a cached block, where there is one, which becomes the most recently used. A
     /// refused call changes nothing.
     pub fn cached(&mut self, id: CachedId) -> Result<Option<Rows>, AllocError>
@@ -147,12 +165,9 @@ impl<W: Naming> Store<W> {
         ensures used { OnOk result (self.new ≡ with_cache self.old (with_used self.old.cache id)) }
         ensures refused { OnErr result (self.new ≡ self.old) }
     {
-        let Some(rows) = self.cache.peek(id) else {
-            return Ok(None);
-        };
-        let rows = rows.share()?;
-        let _ = self.cache.get(id);
-        Ok(Some(rows))
+        let found = self.peek_cached(id)?;
+        self.mark_used(id);
+        Ok(found)
     }
 
     /// Caches a partition, as the most recently used block. Where the cache was full and lacked the

@@ -3,7 +3,7 @@ use Rattle.sc_cache.specs.Caches.{with_used}
 use Rattle.sc_store.specs.OwnBlocks.{IsOwnPartition}
 use Rattle.sc_store.specs.StoreData.{HoldsOwn, store_data}
 use Rattle.sc_store.proofs.CachedLemmas.{used_keeps}
-use Rattle.sc_store.proofs.store.Store.cached.Goals as goal
+use Rattle.sc_store.proofs.store.Store.mark_used.Goals as goal
 
 pub invariant_of-self : goal.invariant_of-self
 invariant_of-self g c =
