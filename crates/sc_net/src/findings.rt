@@ -1,9 +1,12 @@
 //! What attempts find.
 #![tactic(auto)]
 
+ghost use Rattle.std.specs.Prelude.{◌≡◌, IfOk};
+
 use sc_columns::Rows;
 use sc_expr::Raise;
 use sc_ids::{ExecId, Generation, Loc};
+use std::alloc::AllocError;
 
 /// What an attempt came to.
 #[derive(Drop)]
@@ -30,4 +33,28 @@ pub enum Finding {
         /// Where the block lay last.
         last: Loc,
     },
+}
+
+impl Finding {
+    /// The same again, which copies no row.
+    pub fn share(&self) -> Result<Finding, AllocError>
+        ensures { IfOk result (λ f. f ≡ self.now) }
+    {
+        Ok(match self {
+            Finding::Map(loc) => Finding::Map(*loc),
+            Finding::Result(rows) => Finding::Result(rows.share()?),
+            Finding::Planned => Finding::Planned,
+            Finding::Raised(raise) => Finding::Raised(*raise),
+            Finding::Gone {
+                exec,
+                wanted,
+                found,
+            } => Finding::Gone {
+                exec: *exec,
+                wanted: *wanted,
+                found: *found,
+            },
+            Finding::Missing { last } => Finding::Missing { last: *last },
+        })
+    }
 }

@@ -1,7 +1,7 @@
 //! Reports.
 #![tactic(auto)]
 
-ghost use Rattle.std.specs.Prelude.{◌≡◌};
+ghost use Rattle.std.specs.Prelude.{◌≡◌, IfOk};
 ghost use Rattle.sc_net.specs.Reports.{IsTrueReport, outcome_of, report_data, rows_of};
 
 use crate::findings::Finding;
@@ -10,6 +10,7 @@ use sc_columns::Rows;
 use sc_core::Outcome;
 use sc_ids::{AttemptId, FailureCause};
 use sc_work::Naming;
+use std::alloc::AllocError;
 use std::marker::Model;
 
 /// What an attempt reports, which by its type is true of its task.
@@ -38,6 +39,16 @@ impl<W: Naming> Report<W> {
         ensures { result ≡ report_data task finding }
     {
         Report { task, finding }
+    }
+
+    /// The same report again, which copies no row.
+    pub fn share(&self) -> Result<Report<W>, AllocError>
+        ensures { IfOk result (λ r. r ≡ self.now) }
+    {
+        Ok(Report {
+            task: self.task.share()?,
+            finding: self.finding.share()?,
+        })
     }
 
     /// The task.

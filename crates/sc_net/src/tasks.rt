@@ -1,7 +1,7 @@
 //! Tasks.
 #![tactic(auto)]
 
-ghost use Rattle.std.specs.Prelude.{◌≡◌, ◌↔◌, IsTrue};
+ghost use Rattle.std.specs.Prelude.{◌≡◌, ◌↔◌, IfOk, IsTrue};
 ghost use Rattle.std.specs.Cmp.{partial_equiv_from_equiv};
 ghost use Rattle.sc_net.specs.Equality.{same_task, tasks_are_equal};
 ghost use Rattle.sc_net.specs.Tasks.{IsTaskOf, block_left, block_of_task, is_planned, task_data};
@@ -11,6 +11,7 @@ use sc_core::HandOut;
 use sc_ids::{AttemptId, BlockId, Target};
 use sc_jobs::Job;
 use sc_work::{Naming, SharedWork};
+use std::alloc::AllocError;
 use std::marker::Model;
 
 /// A task of a job, as it is handed out to an executor: by its type it is one of the job's, and it
@@ -45,6 +46,17 @@ impl<W: Naming> Task<W> {
             job,
             hand_out,
         }
+    }
+
+    /// The same task again, which copies nothing of it.
+    pub fn share(&self) -> Result<Task<W>, AllocError>
+        ensures { IfOk result (λ t. t ≡ self.now) }
+    {
+        Ok(Task {
+            work: self.work.share()?,
+            job: self.job.share()?,
+            hand_out: self.hand_out.share()?,
+        })
     }
 
     /// The work.
