@@ -1,7 +1,7 @@
--- What lists give together, one after another.
-use Rattle.std.proofs.Common.{◌≡◌, ◌∙◌, ℕ, suc, ◌+◌, ◌<◌, List, ◌∷◌, ◌++◌, length, drop, get_or, ap, sym, arith}
+-- What lists give together, one after another, and tests of what a function gives.
+use Rattle.std.proofs.Common.{◌≡◌, ◌∙◌, ℕ, suc, ◌+◌, ◌<◌, Bool, ◌||◌, List, [], ◌∷◌, ◌++◌, length, map, drop, get_or, refl, ap, sym, arith}
 use Rattle.std.proofs.Math.Seq.{drop-cons}
-use Rattle.std.specs.List.{flat_map}
+use Rattle.std.specs.List.{flat_map, list_any}
 
 module _ {A B : Type 0} (f : A → List B) where
   -- what lists give together from a place on
@@ -12,3 +12,8 @@ module _ {A B : Type 0} (f : A → List B) where
       ap (λ ys. flat_map f ys) (drop-cons xs i x within)
       ∙ ap (λ k. flat_map f (get_or xs i x ∷ drop k xs)) next
       ∙ ap (λ y. f y ++ flat_map f (drop (i + 1) xs)) (sym at)
+
+pub any-map : {A B : Type 0} (test : B → Bool) (f : A → B) (xs : List A)
+    → list_any test (map f xs) ≡ list_any (λ x. test (f x)) xs
+any-map test f [] = refl
+any-map test f (x ∷ xs) = ap (λ b. test (f x) || b) (any-map test f xs)

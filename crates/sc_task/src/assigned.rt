@@ -1,10 +1,11 @@
 //! Attempts that read.
 #![tactic(auto)]
 
-ghost use Rattle.std.specs.Prelude.{◌≡◌, ◌<◌, ◌+◌, IfErr, IfOk, Some, slice_get};
+ghost use Rattle.std.specs.Prelude.{◌≡◌, ◌<◌, ◌+◌, IfErr, IfOk, OnErr, Some, false, slice_get, true};
 ghost use Rattle.sc_net.specs.Reports.{WasGiven, loc_at, report_data};
-ghost use Rattle.sc_net.specs.Tasks.{blocks_of_task};
+ghost use Rattle.sc_net.specs.Tasks.{blocks_of_task, is_planned};
 ghost use Rattle.sc_net.specs.declared.findings.Finding.{Finding};
+ghost use Rattle.sc_task.specs.Caches.{IsSameButCache, has_cache};
 ghost use Rattle.sc_task.specs.Nexts.{FetchesFrom, LaySomewhere, Misses, next_of};
 ghost use Rattle.sc_task.specs.States.{assigned_data};
 ghost use Rattle.sc_task.specs.Steps.{Computes, Reads};
@@ -164,10 +165,20 @@ impl<W: Naming> Assigned<W> {
     }
 
     /// Computes what the task is to compute from what was read, which is all, unless the fault plan
-    /// fails the attempt. A refused call hands the attempt back.
-    pub fn compute(self, alloc: Global) -> Result<Did<W>, AllocFailed<Assigned<W>>>
+    /// fails the attempt. Partitions of cache nodes that a store has aren't computed again, and
+    /// those that were computed are kept there, as long as there is memory for them. A refused
+    /// call changes nothing and hands the attempt back.
+    pub fn compute(
+        self,
+        alloc: Global,
+        store: &mut Store<W>,
+    ) -> Result<Did<W>, AllocFailed<Assigned<W>>>
         requires next { next_of self.task self.got ≡ Next.Complete }
         ensures did { IfOk result (Computes W.work self.task) }
+        ensures rest { IsSameButCache store.old store.new }
+        ensures planned { is_planned W.work self.task ≡ true → store.new ≡ store.old }
+        ensures uncached { has_cache W.work ≡ false → store.new ≡ store.old }
+        ensures refused { OnErr result (store.new ≡ store.old) }
         ensures back { IfErr result (λ failed. failed.value ≡ self) }
     {
         if self.task.is_planned() {
@@ -175,7 +186,7 @@ impl<W: Naming> Assigned<W> {
             return Ok(Did::Failed(Report::new(task, Finding::Planned)));
         }
         self.task.is_task();
-        match left_by(alloc, &self.task, self.got.as_slice()) {
+        match left_by(alloc, &self.task, self.got.as_slice(), store) {
             Ok(left) => {
                 let Assigned { task, .. } = self;
                 Ok(did(task, left))

@@ -1,7 +1,7 @@
 //! What a task leaves, computed from what was read.
 #![tactic(auto)]
 
-ghost use Rattle.std.specs.Prelude.{◌≡◌, ◌<◌, IfOk, OnOk, Some, ℕ, length};
+ghost use Rattle.std.specs.Prelude.{◌≡◌, ◌<◌, IfOk, OnErr, OnOk, Some, false, ℕ, length};
 ghost use Rattle.sc_compute.specs.Stages.{AreRight, HasBounds, HasMade, mapped_in, node_at};
 ghost use Rattle.sc_compute.specs.Tasks.{HasAll, IsSideOf, IsTargetOf, Leaves, target_data_of};
 ghost use Rattle.sc_jobs.specs.JobData.{blocks_left};
@@ -9,26 +9,34 @@ ghost use Rattle.sc_jobs.specs.Plans.{MapsInto};
 ghost use Rattle.sc_lineage.specs.ScriptData.{node_of_action};
 ghost use Rattle.sc_lineage.specs.Views.{action_data_of};
 ghost use Rattle.sc_net.specs.Tasks.{target_of_task};
+ghost use Rattle.sc_task.specs.Caches.{IsSameButCache, has_cache};
 ghost use Rattle.sc_task.specs.Handing.{IsOfWork};
 ghost use Rattle.sc_task.specs.States.{AreOf, HasReadAll};
 
+use crate::caching::left_with;
 use crate::cursors::parents_of;
-use sc_compute::{Computed, Stages, Target, compute};
+use sc_compute::{Computed, Stages, Target};
 use sc_ids::{Stage, Target as StageTarget};
 use sc_lineage::{Action, Node, NodeId, Work};
 use sc_net::Task;
 use sc_shuffle::MapOutput;
+use sc_store::Store;
 use sc_work::Naming;
 use std::alloc::{AllocError, Global};
 
-/// What a task leaves, computed from what was read of its blocks.
+/// What a task leaves, computed from what was read of its blocks and from what a store has cached.
+/// A refused call changes nothing.
 pub(crate) fn left_by<W: Naming>(
     alloc: Global,
     task: &Task<W>,
     got: &[MapOutput],
+    store: &mut Store<W>,
 ) -> Result<Computed, AllocError>
     requires all { HasReadAll W.work task.now got.now }
-    ensures { IfOk result (Leaves W.work (target_of_task W.work task.now)) }
+    ensures leaves { IfOk result (Leaves W.work (target_of_task W.work task.now)) }
+    ensures rest { IsSameButCache store.old store.new }
+    ensures uncached { has_cache W.work ≡ false → store.new ≡ store.old }
+    ensures refused { OnErr result (store.new ≡ store.old) }
 {
     task.is_task();
     let attempt = task.attempt();
@@ -38,7 +46,7 @@ pub(crate) fn left_by<W: Naming>(
         .job()
         .task_target(shared, attempt.stage, attempt.partition);
     let stages = made_for(alloc, work, task, got, target)?;
-    compute(alloc, work, &stages, target)
+    left_with(alloc, work, &stages, store, target)
 }
 
 /// What has to be made before a target of a task's job can be computed, from what was read of the
