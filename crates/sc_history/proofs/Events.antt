@@ -223,7 +223,8 @@ all_handed : (these : List AttemptId) (c : CoreData) → (all_released these c).
 all_handed [] c = refl
 all_handed (a ∷ these) c = all_handed these (released c a endings.Failed)
 
-all_job : (these : List AttemptId) (c : CoreData) → (all_released these c).job ≡ c.job
+-- attempts that end with their executor leave the job as it was
+pub all_job : (these : List AttemptId) (c : CoreData) → (all_released these c).job ≡ c.job
 all_job [] c = refl
 all_job (a ∷ these) c = all_job these (released c a endings.Failed)
 

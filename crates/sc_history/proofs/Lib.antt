@@ -7,6 +7,7 @@ pub mod MadeRoomLemmas
 pub mod Journals
 pub mod JobLemmas
 pub mod BudgetLemmas
+pub mod LossLemmas
 pub mod Growing
 pub mod GrowingCalls
 pub mod Keeping

@@ -1,6 +1,7 @@
 pub mod Rooms
 pub mod Openings
 pub mod Budgets
+pub mod Losses
 pub mod Tellings
 pub mod Evidence
 pub mod StageEvidence

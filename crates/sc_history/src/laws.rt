@@ -4,6 +4,7 @@
 ghost use Rattle.sc_history.specs.Budgets.{BudgetsAreShown, HandOutsAreCounted, LimitsStay};
 ghost use Rattle.sc_history.specs.Evidence.{TaskLimitsAreShown};
 ghost use Rattle.sc_history.specs.Fresh.{TakesAreFresh};
+ghost use Rattle.sc_history.specs.Losses.{NoExecutorsAreShown};
 ghost use Rattle.sc_history.specs.Openings.{OpeningsAgree, OpeningsMakeRoom};
 ghost use Rattle.sc_history.specs.Results.{ResultsAreOnce};
 ghost use Rattle.sc_history.specs.Rooms.{ReplaysKeepRoom, StepsKeepRoom};
@@ -36,10 +37,12 @@ pub fn reports_are_posted()
     ensures { ReportsArePosted }
 {}
 
-/// A job that is aborted shows its cause in its entries. A call does nothing.
+/// A job that is aborted for failures shows them in its entries, and one that is aborted for want
+/// of executors ends with every executor told lost. A call does nothing.
 pub fn aborts_are_shown()
     ensures task_limit { TaskLimitsAreShown }
     ensures stage_limit { StageLimitsAreShown }
+    ensures no_executor { NoExecutorsAreShown }
 {}
 
 /// No attempt is handed out twice. A call does nothing.
