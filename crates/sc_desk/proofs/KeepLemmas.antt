@@ -1,7 +1,7 @@
 -- What holds of every desk holds behind each entry.
-use Rattle.std.proofs.Common.{◌≡◌, ◌⊎◌, inl, inr, ℕ, ◌-◌, ◌<◌, All, Bool, true, false, List, length, Some, None, IfSome, is_some, slice_get, refl, ap, sym, subst, ◌∙◌, arith, true≢false}
+use Rattle.std.proofs.Common.{◌≡◌, ◌⊎◌, inl, inr, ℕ, ◌-◌, ◌<◌, ◌≤◌, All, Bool, true, false, cond, List, [], ◌∷◌, filter, length, map, nat_le, Some, None, IfSome, is_some, slice_get, refl, ap, sym, subst, ◌∙◌, arith, true≢false}
 use Rattle.std.proofs.lemmas.Bool.{cases_eq}
-use Rattle.std.proofs.lemmas.List.Elements.{All-push}
+use Rattle.std.proofs.lemmas.Bool.Decides.{nat_tests}
 use Rattle.sc_base.specs.Lists.{at_or}
 use Rattle.sc_value.specs.Datum.{Datum}
 use Rattle.sc_ids.specs.Changes.{change_at}
@@ -16,15 +16,23 @@ use Rattle.sc_dag.specs.DagData.{DagData, no_stage, stage_at}
 use Rattle.sc_dag.specs.Openings.{AreNumbered}
 use Rattle.sc_dag.specs.Outputs.{is_done, is_done_by, results_in}
 use Rattle.sc_dag.specs.Submission.{is_map}
-use Rattle.sc_core.specs.CoreData.{result_stage}
+use Rattle.sc_plan.specs.Orders.{Due, due_count, wipes_of}
+use Rattle.sc_core.specs.CoreData.{CoreData, job_runs, result_stage}
+use Rattle.sc_core.specs.Journals.{Replays, entry}
 use Rattle.sc_core.specs.Sound.{IsSoundCore}
 use Rattle.sc_core.specs.declared.answers.Answer.{Answer}
 use Rattle.sc_core.specs.declared.events.Event.{Event}
 use Rattle.sc_jobs.specs.Fitting.{FitsWork}
 use Rattle.sc_jobs.specs.Plans.{maps_of}
 use Rattle.sc_desk.specs.DeskData.{DeskData, core_of}
+use Rattle.sc_net.specs.declared.findings.Finding.{Finding}
+use Rattle.sc_net.specs.declared.findings.Finding.TheVariants as findings
+use Rattle.sc_desk.specs.Dues.{IsInTime, wipes_due}
 use Rattle.sc_desk.specs.Entries.{Enters}
-use Rattle.sc_desk.specs.Sound.{HasEvidence, IsEvident, IsPrompt, IsResult, IsSoundDesk, has_result, result_at, result_count}
+use Rattle.sc_desk.specs.Shelves.{IsShelvedOf, as_shelved}
+use Rattle.sc_desk.specs.Sound.{IsEvident, IsResult, IsSeenDue, IsSoundDesk, has_result, result_at, result_count}
+use Rattle.sc_desk.proofs.EvidenceLemmas.{IsAllEvident, evident_more}
+use Rattle.sc_desk.proofs.PassLemmas.{Passes}
 use Rattle.sc_desk.proofs.RoomLemmas.{rooms_hold}
 use Rattle.sc_desk.proofs.DagLemmas.{Leaves, SameJob}
 use Rattle.sc_desk.proofs.StepLemmas.{Wins}
@@ -66,66 +74,142 @@ results_tell d after p stages kind =
     ∙ done_is after (result_stage d) p
     (ap (λ (x : StageData). is_map x.target) (same_stage d after (result_stage d) stages) ∙ kind)
 
+-- ---- what is due
+
+-- no fewer are due later
+due_more : (dues : List Due) (told more : ℕ) → told ≤ more
+    → due_count dues told ≤ due_count dues more
+due_more [] told more le = omega arith
+due_more (due ∷ dues) told more le =
+    by (nat_le due.0 told) (nat_le due.0 more) refl refl (due_more dues told more le)
+  where
+    by : (x y : Bool) → nat_le due.0 told ≡ x → nat_le due.0 more ≡ y
+        → due_count dues told ≤ due_count dues more
+        → length (cond x (due ∷ filter (λ d. nat_le d.0 told) dues)
+        (filter (λ d. nat_le d.0 told) dues))
+        ≤ length (cond y (due ∷ filter (λ d. nat_le d.0 more) dues)
+        (filter (λ d. nat_le d.0 more) dues))
+    by true true e f rest = omega (arith, rest)
+    by true false e f rest = absurd (grind (arith, nat_tests, e, f, le))
+    by false true e f rest = omega (arith, rest)
+    by false false e f rest = rest
+
+pub wipes_more : (work : WorkData) (told more exec : ℕ) → told ≤ more
+    → wipes_due work told exec ≤ wipes_due work more exec
+wipes_more work told more exec le = due_more (wipes_of work.plan exec) told more le
+
+-- what is in time stays so
+pub in_time_later : (work : WorkData) (told more : ℕ) (finding : Finding) → told ≤ more
+    → IsInTime work told finding → IsInTime work more finding
+in_time_later work told more (findings.Map loc) le h = tt
+in_time_later work told more (findings.Result rows) le h = tt
+in_time_later work told more findings.Planned le h = tt
+in_time_later work told more (findings.Raised r) le h = tt
+in_time_later work told more (findings.Gone exec wanted found) le h =
+    let later = wipes_more work told more exec le in omega (arith, h, later)
+in_time_later work told more (findings.Missing last) le h = tt
+
+-- how many wipes of each executor are due
+abbrev pub bound_of : WorkData → CoreData → ℕ → ℕ
+bound_of work c exec = wipes_due work c.told exec
+
 -- ---- entries
 
--- all but the results, where the stages of the core stay
+-- one entry, with what it tells of the core
+pub record Entered (work : WorkData) (d : DeskData) (by : Mark) (event : Event) (answer : Answer)
+    (after : DeskData) : Type 0 where
+  pub sound : IsSoundDesk work d
+  pub core : IsSoundCore (core_of d)
+  pub replays : Replays d.journal.opening d.journal.entries (core_of d)
+  pub enters : Enters d by event answer after
+  pub passes : Passes (bound_of work (core_of d)) (core_of d) (core_of after)
+  pub evident : IsEvident work d.job (core_of d) event answer
+
+-- what is kept of the reports on the shelf
+pub record KeepsShelf (work : WorkData) (d after : DeskData) : Type 0 where
+  pub tie : map as_shelved after.shelf ≡ (core_of after).shelf
+  pub shelved : All (IsShelvedOf work d.job) after.shelf
+  pub in_time : All (λ s. IsInTime work (core_of after).told s.report.finding) after.shelf
+  pub over : job_runs (core_of after) ≡ false → after.shelf ≡ []
+
+-- all but the results and the shelf, where the stages of the core stay
 record KeepsRest (work : WorkData) (d after : DeskData) : Type 0 where
   stages : AreNumbered after.job.graph (core_of after).dag.stages
   limits : (core_of after).dag.limits ≡ work.limits
+  plan : (core_of after).plan ≡ work.plan
+  execs : length (core_of after).dag.tracker.trust ≡ work.limits.executors
   count : result_count (core_of after).dag ≡ result_count (core_of d).dag
-  evidence : All (HasEvidence work after.job) after.journal.entries
+  seen : IsSeenDue work (core_of after)
+  evidence : IsAllEvident work after.job after.journal.opening after.journal.entries
+      (core_of after)
   fits : FitsWork work (core_of after).dag.tracker
 
 keeps_rest :
     (work : WorkData) (d after : DeskData) (by : Mark) (event : Event) (answer : Answer)
-    → IsSoundDesk work d → Enters d by event answer after
-    → SameJob (core_of d).dag (core_of after).dag → IsEvident work d.job event answer
+    → Entered work d by event answer after → SameJob (core_of d).dag (core_of after).dag
     → KeepsRest work d after
-keeps_rest work d after by event answer sound enters same evident =
+keeps_rest work d after by event answer e same =
     record {
-      stages = rw (enters.job, same.stages) sound.stages;
-      limits = same.limits ∙ sound.limits;
+      stages = rw (e.enters.job, same.stages) e.sound.stages;
+      limits = same.limits ∙ e.sound.limits;
+      plan = e.passes.plan ∙ e.sound.plan;
+      execs = e.passes.sees.execs ∙ e.sound.execs;
       count = same_count (core_of d).dag (core_of after).dag same.stages;
-      evidence = rw (enters.job, enters.entries)
-          (All-push (HasEvidence work d.job) d.journal.entries _ sound.evidence evident);
+      seen = seen;
+      evidence = rw (e.enters.job, e.enters.opening, e.enters.entries)
+          (evident_more work d.job d.journal.opening (core_of d) (core_of after) d.journal.entries
+          (entry by event answer) e.sound.began e.replays e.sound.evidence e.evident);
       fits = rooms_hold (λ r. r.1 ≡ maps_of work r.0) (core_of d).dag.tracker
-          (core_of after).dag.tracker same.rooms sound.fits;
+          (core_of after).dag.tracker same.rooms e.sound.fits;
     }
+  where
+    seen : IsSeenDue work (core_of after)
+    seen exec =
+        let now = e.passes.sees.within e.sound.seen exec in
+        let later = wipes_more work (core_of d).told (core_of after).told exec e.passes.told in
+        omega (arith, now, later)
 
 -- a desk with other results, of which what is kept is known
 with_results :
     (work : WorkData) (d after : DeskData) (by : Mark) (event : Event) (answer : Answer)
-    → IsSoundDesk work d → Enters d by event answer after → KeepsRest work d after
-    → IsPrompt (core_of after) → length after.results ≡ length d.results
+    → Entered work d by event answer after → KeepsRest work d after → KeepsShelf work d after
+    → length after.results ≡ length d.results
     → ((p : ℕ) → is_some (result_at after.results p) ≡ has_result (core_of after).dag p)
     → ((p : ℕ) → IfSome (result_at after.results p) (IsResult work d.job p))
     → IsSoundDesk work after
-with_results work d after by event answer sound enters rest prompt long won own =
+with_results work d after by event answer e rest shelf long won own =
     record {
-      last = sound.last;
-      opened = rw (enters.job, enters.opening) sound.opened;
+      last = e.sound.last;
+      opened = rw (e.enters.job, e.enters.opening) e.sound.opened;
+      began = rw e.enters.opening e.sound.began;
       stages = rest.stages;
       limits = rest.limits;
-      prompt = prompt;
-      places = long ∙ sound.places ∙ sym rest.count;
+      plan = rest.plan;
+      execs = rest.execs;
+      places = long ∙ e.sound.places ∙ sym rest.count;
       won = won;
-      own = rw enters.job own;
+      own = rw e.enters.job own;
+      shelf = shelf.tie;
+      shelved = rw e.enters.job shelf.shelved;
+      over = shelf.over;
+      seen = rest.seen;
+      in_time = shelf.in_time;
       evidence = rest.evidence;
-      carried = rw enters.carried sound.carried;
-      bounds = rw enters.carried sound.bounds;
+      carried = rw e.enters.carried e.sound.carried;
+      bounds = rw e.enters.carried e.sound.bounds;
       fits = rest.fits;
+      many = rw e.enters.ordered e.sound.many;
     }
 
 -- an entry that wins no result
 pub leaves_keep :
     (work : WorkData) (d after : DeskData) (by : Mark) (event : Event) (answer : Answer)
-    → IsSoundDesk work d → IsSoundCore (core_of d) → Enters d by event answer after
-    → Leaves (core_of d).dag (core_of after).dag → IsPrompt (core_of after)
-    → IsEvident work d.job event answer → after.results ≡ d.results → IsSoundDesk work after
-leaves_keep work d after by event answer sound core enters leaves prompt evident same =
-    with_results work d after by event answer sound enters
-    (keeps_rest work d after by event answer sound enters leaves.job evident) prompt
-    (ap length same) won (rw same sound.own)
+    → Entered work d by event answer after → Leaves (core_of d).dag (core_of after).dag
+    → KeepsShelf work d after → after.results ≡ d.results → IsSoundDesk work after
+leaves_keep work d after by event answer e leaves shelf same =
+    with_results work d after by event answer e
+    (keeps_rest work d after by event answer e leaves.job) shelf (ap length same) won
+    (rw same e.sound.own)
   where
     a : DagData
     a = (core_of d).dag
@@ -135,27 +219,24 @@ leaves_keep work d after by event answer sound core enters leaves prompt evident
 
     won : (p : ℕ) → is_some (result_at after.results p) ≡ has_result (core_of after).dag p
     won p =
-        ap (λ rs. is_some (result_at rs p)) same ∙ sound.won p
-        ∙ done_is a (result_stage a) p core.job.result
+        ap (λ rs. is_some (result_at rs p)) same ∙ e.sound.won p
+        ∙ done_is a (result_stage a) p e.core.job.result
         ∙ ap (λ rs. at_or rs p false) (sym (leaves.results (result_stage a)))
-        ∙ sym (results_tell a b p leaves.job.stages core.job.result)
+        ∙ sym (results_tell a b p leaves.job.stages e.core.job.result)
 
 -- an entry that wins one, whose rows are kept
 pub wins_keep :
     (work : WorkData) (d after : DeskData) (by : Mark) (event : Event) (answer : Answer)
     (at : AttemptId) (rows : List Datum)
-    → IsSoundDesk work d → IsSoundCore (core_of d) → Enters d by event answer after
-    → at.stage ≡ result_stage (core_of d).dag
+    → Entered work d by event answer after → at.stage ≡ result_stage (core_of d).dag
     → at.partition < (stage_at (core_of d).dag at.stage).tasks
-    → Wins (core_of d).dag at (core_of after).dag → IsPrompt (core_of after)
-    → IsEvident work d.job event answer
+    → Wins (core_of d).dag at (core_of after).dag → KeepsShelf work d after
     → IsResult work d.job at.partition rows
     → after.results ≡ change_at d.results at.partition (λ _. Some rows)
     → IsSoundDesk work after
-wins_keep work d after by event answer at rows sound core enters stage within wins prompt evident
-    is same =
-    with_results work d after by event answer sound enters
-    (keeps_rest work d after by event answer sound enters wins.job evident) prompt
+wins_keep work d after by event answer at rows entered stage within wins shelf is same =
+    with_results work d after by event answer entered
+    (keeps_rest work d after by event answer entered wins.job) shelf
     (ap length same ∙ length_change_at d.results at.partition (λ _. Some rows))
     (λ p. won p (cases_eq at.partition p)) (λ p. own p (cases_eq at.partition p))
   where
@@ -185,16 +266,17 @@ wins_keep work d after by event answer at rows sound core enters stage within wi
     there : at.partition < length before
     there =
         let long : length before ≡ result_count (core_of d).dag =
-        rw core.job.result at (core.job.dag.results (result_stage (core_of d).dag)) in
+        rw entered.core.job.result
+        at (entered.core.job.dag.results (result_stage (core_of d).dag)) in
         omega (arith, below, long)
 
     room : at.partition < length d.results
-    room = omega (arith, below, sound.places)
+    room = omega (arith, below, entered.sound.places)
 
     tells : (p : ℕ) → has_result (core_of after).dag p
         ≡ at_or (change_at before at.partition (λ _. true)) p false
     tells p =
-        results_tell (core_of d).dag (core_of after).dag p wins.job.stages core.job.result
+        results_tell (core_of d).dag (core_of after).dag p wins.job.stages entered.core.job.result
         ∙ ap (λ rs. at_or rs p false) now
 
     won : (p : ℕ) → (at.partition ≡ p) ⊎ (at.partition ≡ p → ⊥)
@@ -209,8 +291,8 @@ wins_keep work d after by event answer at rows sound core enters stage within wi
         ap (λ rs. is_some (result_at rs p)) same
         ∙ ap (λ o. is_some o)
         (at_or_change_other d.results at.partition p None (λ _. Some rows) (λ e. ne (sym e)))
-        ∙ sound.won p
-        ∙ done_is (core_of d).dag (result_stage (core_of d).dag) p core.job.result
+        ∙ entered.sound.won p
+        ∙ done_is (core_of d).dag (result_stage (core_of d).dag) p entered.core.job.result
         ∙ sym (at_or_change_other before at.partition p false (λ _. true) (λ e. ne (sym e)))
         ∙ sym (tells p)
 
@@ -223,4 +305,4 @@ wins_keep work d after by event answer at rows sound core enters stage within wi
         rw (
           same,
           at_or_change_other d.results at.partition p None (λ _. Some rows) (λ e. ne (sym e)),
-        ) (sound.own p)
+        ) (entered.sound.own p)

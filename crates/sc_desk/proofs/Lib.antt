@@ -1,9 +1,16 @@
+pub mod OrderLemmas
+pub mod DueLemmas
 pub mod RoomLemmas
 pub mod DagLemmas
-pub mod PromptLemmas
 pub mod StepLemmas
+pub mod TrackLemmas
+pub mod PassLemmas
+pub mod AnswerLemmas
 pub mod TaskLemmas
+pub mod EvidenceLemmas
 pub mod KeepLemmas
+pub mod ShelfLemmas
 pub mod EndLemmas
 pub mod PostLemmas
+pub mod ReleaseLemmas
 pub mod BeginLemmas

@@ -13,9 +13,9 @@ use Rattle.sc_taskset.specs.declared.tasks.Verdict.TheVariants as verdicts
 use Rattle.sc_tracker.specs.Outputs.{forgotten_on, placed}
 use Rattle.sc_tracker.specs.TrackerData.{ShuffleData, TrackerData, place_of, tracker_data}
 use Rattle.sc_tracker.specs.Tracking.{is_bogus, with_forgotten_on, with_placed}
-use Rattle.sc_tracker.specs.Trust.{is_newer, seen_at}
+use Rattle.sc_tracker.specs.Trust.{is_live, is_newer, lost_at, seen_at}
 use Rattle.sc_dag.specs.DagData.{DagData, changed_newest, stage_at, with_state}
-use Rattle.sc_dag.specs.Losses.{after_seen}
+use Rattle.sc_dag.specs.Losses.{after_lost, after_seen}
 use Rattle.sc_dag.specs.Reports.{CompletesMap, FailsStage, after_map_success, block_by, completed, ended_in_own, is_of_newest, is_repeat, registered_by, succeeded_in_both, succeeded_in_own, with_failed, with_output}
 use Rattle.sc_dag.specs.Submission.{IsSubmitted, this_stage, waiting_stages}
 use Rattle.sc_taskset.specs.Reports.{after_success}
@@ -111,6 +111,18 @@ seen_rooms d exec found = by (is_newer (slice_get d.tracker.trust exec) found)
     by : (b : Bool)
         → rooms (if b then tracker_data (map (with_forgotten_on exec) d.tracker.shuffles)
         (change_at d.tracker.trust exec (seen_at found d.tracker.epoch)) (d.tracker.epoch + 1)
+        else d.tracker) ≡ rooms d.tracker
+    by true =
+        kept_all room d.tracker.shuffles (with_forgotten_on exec)
+        (λ s. ap (λ (n : ℕ). (s.shuffle, n)) (length-map s.outputs (forgotten_on exec)))
+    by false = refl
+
+pub lost_rooms : (d : DagData) (exec : ℕ) → SameRooms d (after_lost d exec)
+lost_rooms d exec = by (is_live (slice_get d.tracker.trust exec))
+  where
+    by : (b : Bool)
+        → rooms (if b then tracker_data (map (with_forgotten_on exec) d.tracker.shuffles)
+        (change_at d.tracker.trust exec (lost_at d.tracker.epoch)) (d.tracker.epoch + 1)
         else d.tracker) ≡ rooms d.tracker
     by true =
         kept_all room d.tracker.shuffles (with_forgotten_on exec)

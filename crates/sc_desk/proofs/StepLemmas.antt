@@ -1,5 +1,5 @@
 -- What becomes of the stages and the results of a job, by what happens to its core.
-use Rattle.std.proofs.Common.{◌≡◌, ◌≢◌, ℕ, ◌<◌, ◌&&◌, not, Bool, true, false, if◌then◌else◌, [], Option, Some, None, slice_get, refl, ap, sym, subst, ◌∙◌, rules}
+use Rattle.std.proofs.Common.{◌≡◌, ◌≢◌, ℕ, ◌<◌, ◌&&◌, not, Bool, true, false, if◌then◌else◌, List, [], ◌∷◌, inl, inr, true≢false, Option, Some, None, slice_get, refl, ap, sym, subst, ◌∙◌, rules}
 use Rattle.sc_ids.specs.Changes.{change_at}
 use Rattle.sc_ids.specs.declared.attempts.AttemptId.{AttemptId}
 use Rattle.sc_ids.specs.declared.blocks.Loc.{Loc}
@@ -15,7 +15,7 @@ use Rattle.sc_taskset.specs.declared.tasks.Verdict.TheVariants as verdicts
 use Rattle.sc_tracker.specs.Tracking.{is_bogus}
 use Rattle.sc_tracker.specs.Trust.{is_newer}
 use Rattle.sc_dag.specs.DagData.{DagData, changed_newest, stage_at}
-use Rattle.sc_dag.specs.Losses.{after_seen}
+use Rattle.sc_dag.specs.Losses.{after_lost, after_seen}
 use Rattle.sc_dag.specs.Offers.{handed_out}
 use Rattle.sc_dag.specs.Outputs.{is_complete, results_in}
 use Rattle.sc_dag.specs.Reports.{after_failed, after_hold, after_map_success, ended_in_own, is_finished_short, is_of_newest, is_repeat, map_success_of, reaches_limit_in, set_of}
@@ -24,26 +24,33 @@ use Rattle.sc_dag.specs.Submission.{is_map, this_stage}
 use Rattle.sc_dag.specs.declared.reports.Success.{Success}
 use Rattle.sc_dag.specs.declared.reports.Success.TheVariants as successes
 use Rattle.sc_dag.proofs.Tests.{both_left, not_true}
-use Rattle.sc_core.specs.CoreData.{CoreData, job_runs, result_stage, running_of, taken_off, told_once, with_dag}
+use Rattle.sc_core.specs.CoreData.{CoreData, job_runs, result_stage, running_of, shelved_of, with_dag}
+use Rattle.sc_core.specs.Losses.{Loses, all_released, attempts_on, without_executor}
+use Rattle.sc_core.specs.Releases.{Releases}
 use Rattle.sc_core.specs.Posts.{Posts, PostsIf, PostsOf, fits}
-use Rattle.sc_core.specs.Sound.{IsSoundCore}
+use Rattle.sc_core.specs.Sound.{IsSoundCore, IsSoundJob}
 use Rattle.sc_core.specs.Takes.{Takes}
 use Rattle.sc_core.specs.Tells.{FailsBy, FailsOrAborts, FollowsUp, IsGone, LooksAgain, Misses, MissesIf, Tells, TellsFailure, TellsFailureIf, TellsMap, TellsResult, after_failure, after_result, done_if, is_zombie_in, released, success_answer, with_result_of}
 use Rattle.sc_core.specs.declared.answers.Abort.TheVariants as aborts
 use Rattle.sc_core.specs.declared.answers.Answer.{Answer}
 use Rattle.sc_core.specs.declared.answers.Answer.TheVariants as says
+use Rattle.sc_core.specs.declared.events.Event.{Event}
+use Rattle.sc_core.specs.declared.events.Event.TheVariants.{Post, Release}
 use Rattle.sc_core.specs.declared.events.Outcome.{Outcome}
 use Rattle.sc_core.specs.declared.events.Outcome.TheVariants as outcomes
 use Rattle.sc_core.specs.declared.running.Running.{Running}
+use Rattle.sc_core.specs.declared.running.Shelved.{Shelved}
+use Rattle.sc_core.proofs.LossLemmas.{lost_results}
 use Rattle.sc_core.proofs.MoveLemmas.{state_results}
 use Rattle.sc_core.proofs.ResultLemmas.{runs_results}
 use Rattle.sc_core.proofs.SetLemmas.{nothing}
 use Rattle.sc_core.proofs.StageCallLemmas.{completes_calm, completes_results, fails_calm, fails_results, submitted_calm, submitted_results}
 use Rattle.sc_core.proofs.StepLemmas.{posted}
 use Rattle.sc_core.proofs.TaskCallLemmas.{ended_moves, ended_results, failed_moves, failed_results, hold_free, hold_results, map_moves, map_results, result_moves, seen_calm}
+use Rattle.sc_history.specs.Tellings.{Telling, telling, tellings_in, told_late}
+use Rattle.sc_history.proofs.Events.{Comes, losses_come, posts_come, releases_come}
 use Rattle.sc_history.proofs.StageRoomLemmas.{result_tracker}
-use Rattle.sc_desk.proofs.PromptLemmas.{told_to}
-use Rattle.sc_desk.proofs.RoomLemmas.{completes_rooms, fails_rooms, map_rooms, rooms, seen_rooms, submitted_rooms}
+use Rattle.sc_desk.proofs.RoomLemmas.{completes_rooms, fails_rooms, lost_rooms, map_rooms, rooms, seen_rooms, submitted_rooms}
 use Rattle.sc_desk.proofs.DagLemmas.{Leaves, SameJob, hold_wants, leaves_itself, leaves_of, leaves_then, new_result, repeated_result, same_of, same_then, with_one, within_stage}
 
 -- a core whose stages are those of another one, or leave what they leave
@@ -306,6 +313,15 @@ failure_says c after r cause tells =
         cause_says (after_failure c r.hand_out.attempt cause) after r.hand_out.attempt cause
         (is_zombie_in (set_of c.dag r.hand_out.attempt)) h
 
+-- what is told first of some tellings
+abbrev attempt_told : List Telling → AttemptId
+attempt_told [] = record { stage = 0; stage_attempt = 0; partition = 0; nth = 0 }
+attempt_told (t ∷ ts) = t.attempt
+
+abbrev outcome_told : List Telling → Outcome
+outcome_told [] = outcomes.Result
+outcome_told (t ∷ ts) = t.outcome
+
 -- ---- events
 
 pub takes_leave : (c after : CoreData) (exec : ℕ) (answer : Answer) → Takes c exec answer after
@@ -340,33 +356,21 @@ takes_leave c after exec says.Shelved h = absurd h
 takes_leave c after exec says.Told h = absurd h
 
 -- no report that isn't answered so wins a result
-pub posts_leave :
-    (c after : CoreData) (a : AttemptId) (outcome : Outcome) (answer : Answer) → c.plan ≡ []
-    → Posts c a outcome answer after → answer ≢ says.Finished → Leaves c.dag after.dag
-posts_leave c after a outcome answer plan step other = by (job_runs c) step
+tells_leave :
+    (c after : CoreData) (r : Running) (outcome : Outcome) (answer : Answer)
+    → Tells c r outcome answer after → answer ≢ says.Finished → Leaves c.dag after.dag
+tells_leave c after r outcome answer tells other = of outcome tells
   where
-    result : (b : Bool) (r : Running)
-        → LeavesOrWins b (taken_off c a) r.hand_out.attempt answer after → Leaves c.dag after.dag
-    result true r h = h.1
-    result false r h = absurd (other h.0)
-
-    tells : (r : Running) (outcome : Outcome) → Tells (taken_off c a) r outcome answer after
+    result : (b : Bool) → LeavesOrWins b c r.hand_out.attempt answer after
         → Leaves c.dag after.dag
-    tells r (outcomes.Map loc) h = map_leaves (taken_off c a) after r loc answer h
-    tells r outcomes.Result h =
-        result (is_repeat c.dag r.hand_out.attempt) r
-        (result_leaves (taken_off c a) after r answer h)
-    tells r (outcomes.Failed cause) h =
-        failure_leaves (taken_off c a) after r cause answer h
+    result true h = h.1
+    result false h = absurd (other h.0)
 
-    of : (o : Option Running) → running_of c a ≡ o → PostsOf o c a outcome answer after
-        → Leaves c.dag after.dag
-    of None e (is, left) = left_as c after (told_once c) refl left
-    of (Some r) e (fit, h) = tells r outcome (told_to c after a outcome answer r plan e h)
-
-    by : (b : Bool) → PostsIf b c a outcome answer after → Leaves c.dag after.dag
-    by false (is, left) = left_as c after c refl left
-    by true h = of (running_of c a) refl h
+    of : (outcome : Outcome) → Tells c r outcome answer after → Leaves c.dag after.dag
+    of (outcomes.Map loc) h = map_leaves c after r loc answer h
+    of outcomes.Result h =
+        result (is_repeat c.dag r.hand_out.attempt) (result_leaves c after r answer h)
+    of (outcomes.Failed cause) h = failure_leaves c after r cause answer h
 
 -- a result is won by the report of an attempt of the result stage that runs
 pub record IsWon (c : CoreData) (a : AttemptId) (outcome : Outcome) (after : CoreData)
@@ -376,49 +380,97 @@ pub record IsWon (c : CoreData) (a : AttemptId) (outcome : Outcome) (after : Cor
   pub within : a.partition < (stage_at c.dag a.stage).tasks
   pub wins : Wins c.dag a after.dag
 
-pub posts_win :
-    (c after : CoreData) (a : AttemptId) (outcome : Outcome) → IsSoundCore c → c.plan ≡ []
-    → Posts c a outcome says.Finished after → IsWon c a outcome after
-posts_win c after a outcome sound plan step = by (job_runs c) step
+-- what runs and isn't of a map stage is of the result stage
+runs_last :
+    (c : CoreData) (a : AttemptId) (exec : ℕ) → IsSoundJob c → runner_of c.dag a ≡ Some exec
+    → is_map (stage_at c.dag a.stage).target ≡ false → a.stage ≡ result_stage c.dag
+runs_last c a exec sound runs kind = by (running_of c a) refl
   where
-    result : (b : Bool) (r : Running)
-        → LeavesOrWins b (taken_off c a) r.hand_out.attempt says.Finished after
-        → Wins c.dag r.hand_out.attempt after.dag
-    result true r (e, h) = absurd (search (rules, e))
-    result false r h = h.1
+    by : (o : Option Running) → running_of c a ≡ o → a.stage ≡ result_stage c.dag
+    by None e = absurd (sound.known a exec runs e)
+    by (Some r) e =
+        let p = posted c a r sound e in
+        subst (λ (b : AttemptId). b.stage ≡ result_stage c.dag) p.attempt
+        (runs_results c r sound p.well
+        (subst (λ (b : AttemptId). is_map (stage_at c.dag b.stage).target ≡ false)
+        (sym p.attempt) kind))
 
-    tells : (r : Running) → running_of c a ≡ Some r → (outcome : Outcome)
-        → fits c r outcome ≡ true → Tells (taken_off c a) r outcome says.Finished after
-        → IsWon c a outcome after
-    tells r e (outcomes.Map loc) fit h = absurd (map_says (taken_off c a) after r loc h)
-    tells r e (outcomes.Failed cause) fit h =
-        absurd (failure_says (taken_off c a) after r cause h)
-    tells r e outcomes.Result fit h =
-        let p = posted c a r sound.job e in
+tells_win :
+    (c mid after : CoreData) (r : Running) (outcome : Outcome) → IsSoundJob c → mid.dag ≡ c.dag
+    → runner_of c.dag r.hand_out.attempt ≡ Some r.exec → fits c r outcome ≡ true
+    → Tells mid r outcome says.Finished after → IsWon c r.hand_out.attempt outcome after
+tells_win c mid after r outcome sound same runs fit tells = of outcome fit tells
+  where
+    result : (b : Bool) → LeavesOrWins b mid r.hand_out.attempt says.Finished after
+        → Wins c.dag r.hand_out.attempt after.dag
+    result true (e, h) = absurd (search (rules, e))
+    result false (e, h) = subst (λ d. Wins d r.hand_out.attempt after.dag) same h
+
+    of : (outcome : Outcome) → fits c r outcome ≡ true → Tells mid r outcome says.Finished after
+        → IsWon c r.hand_out.attempt outcome after
+    of (outcomes.Map loc) fit h = absurd (map_says mid after r loc h)
+    of (outcomes.Failed cause) fit h = absurd (failure_says mid after r cause h)
+    of outcomes.Result fit h =
         let kind : is_map (stage_at c.dag r.hand_out.attempt.stage).target ≡ false =
         not_true (is_map (stage_at c.dag r.hand_out.attempt.stage).target)
         (both_left _ _ fit) in
-        let runs : runner_of c.dag a ≡ Some r.exec =
-        subst (λ b. runner_of c.dag b ≡ Some r.exec) p.attempt p.well.in_set in
         record {
           outcome_is = refl;
-          stage = subst (λ (b : AttemptId). b.stage ≡ result_stage c.dag) p.attempt
-              (runs_results c r sound.job p.well kind);
-          within = within_stage c.dag a r.exec sound.job.dag runs;
-          wins = subst (λ b. Wins c.dag b after.dag) p.attempt
-              (result (is_repeat c.dag r.hand_out.attempt) r
-              (result_leaves (taken_off c a) after r says.Finished h));
+          stage = runs_last c r.hand_out.attempt r.exec sound runs kind;
+          within = within_stage c.dag r.hand_out.attempt r.exec sound.dag runs;
+          wins = result (is_repeat mid.dag r.hand_out.attempt)
+              (result_leaves mid after r says.Finished h);
         }
 
-    of : (o : Option Running) → running_of c a ≡ o → PostsOf o c a outcome says.Finished after
-        → IsWon c a outcome after
-    of None e (is, left) = absurd (search (rules, is))
-    of (Some r) e (fit, h) =
-        tells r e outcome fit (told_to c after a outcome says.Finished r plan e h)
+-- ---- any report
 
-    by : (b : Bool) → PostsIf b c a outcome says.Finished after → IsWon c a outcome after
-    by false (is, left) = absurd (search (rules, is))
-    by true h = of (running_of c a) refl h
+-- a report that is told, or to be told later, leaves the results where it isn't answered that one
+-- is there
+comes_leave :
+    (c after : CoreData) (event : Event) (answer : Answer) → Comes c after event answer
+    → answer ≢ says.Finished → Leaves c.dag after.dag
+comes_leave c after event answer (inl quiet) other =
+    left_with c after c.dag (leaves_itself c.dag) quiet.dag
+comes_leave c after event answer (inr heard) other =
+    subst (λ d. Leaves d after.dag) heard.dag
+    (tells_leave heard.mid after heard.one heard.outcome answer heard.tells other)
+
+-- and wins one where it is
+record Won (c after : CoreData) (event : Event) : Type 0 where
+  attempt : AttemptId
+  outcome : Outcome
+  told : tellings_in c event says.Finished ≡ telling attempt outcome says.Finished ∷ []
+  is_won : IsWon c attempt outcome after
+
+comes_win :
+    (c after : CoreData) (event : Event) → IsSoundCore c → Comes c after event says.Finished
+    → Won c after event
+comes_win c after event sound (inl quiet) = absurd (true≢false quiet.unfinished)
+comes_win c after event sound (inr heard) =
+    let known = heard.known sound in
+    record {
+      attempt = heard.one.hand_out.attempt;
+      outcome = heard.outcome;
+      told = known.told;
+      is_won = tells_win c heard.mid after heard.one heard.outcome sound.job heard.dag
+          known.in_set known.fit heard.tells;
+    }
+
+-- ---- reports that are posted
+
+pub posts_leave :
+    (c after : CoreData) (a : AttemptId) (outcome : Outcome) (answer : Answer)
+    → Posts c a outcome answer after → answer ≢ says.Finished → Leaves c.dag after.dag
+posts_leave c after a outcome answer step other =
+    comes_leave c after (Post a outcome) answer (posts_come c after a outcome answer step) other
+
+pub posts_win :
+    (c after : CoreData) (a : AttemptId) (outcome : Outcome) → IsSoundCore c
+    → Posts c a outcome says.Finished after → IsWon c a outcome after
+posts_win c after a outcome sound step =
+    let w = comes_win c after (Post a outcome) sound
+    (posts_come c after a outcome says.Finished step) in
+    subst (λ t. IsWon c (attempt_told t) (outcome_told t) after) (sym w.told) w.is_won
 
 -- a report that isn't ignored is of an attempt that runs
 pub record IsTold (c : CoreData) (a : AttemptId) : Type 0 where
@@ -439,3 +491,59 @@ posts_told c after a outcome answer step other = by (job_runs c) refl step
     by : (b : Bool) → job_runs c ≡ b → PostsIf b c a outcome answer after → IsTold c a
     by false e (is, left) = absurd (other is)
     by true e h = of (running_of c a) refl e h
+
+-- ---- reports that are taken off the shelf
+
+pub releases_leave :
+    (c after : CoreData) (key : ℕ) (answer : Answer) → Releases c key answer after
+    → answer ≢ says.Finished → Leaves c.dag after.dag
+releases_leave c after key answer step other =
+    comes_leave c after (Release key) answer (releases_come c after key answer step) other
+
+-- a result is won by the report under the key
+pub record IsWonLate (c : CoreData) (key : ℕ) (after : CoreData) : Type 0 where
+  pub report : Shelved
+  pub found : shelved_of c key ≡ Some report
+  pub is_won : IsWon c report.attempt report.outcome after
+
+pub releases_win :
+    (c after : CoreData) (key : ℕ) → IsSoundCore c → Releases c key says.Finished after
+    → IsWonLate c key after
+releases_win c after key sound step = by (shelved_of c key) refl w.told
+  where
+    w : Won c after (Release key)
+    w = comes_win c after (Release key) sound (releases_come c after key says.Finished step)
+
+    by : (o : Option Shelved) → shelved_of c key ≡ o
+        → told_late o says.Finished ≡ telling w.attempt w.outcome says.Finished ∷ []
+        → IsWonLate c key after
+    by None e told = absurd (search (rules, told))
+    by (Some s) e told =
+        record {
+          report = s;
+          found = e;
+          is_won = subst (λ t. IsWon c (attempt_told t) (outcome_told t) after) (sym told) w.is_won;
+        }
+
+-- ---- losses
+
+freed_all :
+    (these : List AttemptId) (c : CoreData) → Leaves c.dag (all_released these c).dag
+freed_all [] c = leaves_itself c.dag
+freed_all (a ∷ these) c =
+    leaves_then c.dag (released c a endings.Failed).dag
+    (all_released these (released c a endings.Failed)).dag (freed_leaves c a endings.Failed)
+    (freed_all these (released c a endings.Failed))
+
+pub losses_leave :
+    (c after : CoreData) (exec : ℕ) (answer : Answer) → Loses c exec answer after
+    → Leaves c.dag after.dag
+losses_leave c after exec answer step =
+    left_with c after (without_executor c exec).dag
+    (leaves_then c.dag (after_lost c.dag exec) (without_executor c exec).dag
+    (record {
+      job = record { stages = refl; limits = refl; rooms = lost_rooms c.dag exec };
+      results = lost_results c.dag exec;
+    })
+    (freed_all (attempts_on exec c.running) (with_dag c (after_lost c.dag exec))))
+    (losses_come c after exec answer step).dag

@@ -1,48 +1,73 @@
 -- How a desk begins.
-use Rattle.std.specs.Prelude.{◌≡◌, ◌⊎◌, [], None, Some, List, Option, replicate}
+use Rattle.std.specs.Prelude.{◌≡◌, ◌⊎◌, [], None, Some, List, Option, length, replicate}
+use Rattle.sc_value.specs.Datum.{Datum}
 use Rattle.sc_ids.specs.Graphs.{StageData}
 use Rattle.sc_ids.specs.declared.limits.Limits.{Limits}
 use Rattle.sc_lineage.specs.ScriptData.{WorkData}
-use Rattle.sc_stagecut.specs.Carrying.{CarriedData, after_job}
+use Rattle.sc_plan.specs.declared.lines.PlanLine.{PlanLine}
+use Rattle.sc_stagecut.specs.Carrying.{AreRightBounds, IsCarriedFor, after_job}
 use Rattle.sc_stagecut.specs.Cuts.{IsCut}
 use Rattle.sc_core.specs.CoreData.{CoreData}
 use Rattle.sc_core.specs.Openings.{IsOpening}
 use Rattle.sc_core.specs.Journals.{JournalData}
 use Rattle.sc_jobs.specs.Fitting.{FitsWork}
-use Rattle.sc_jobs.specs.JobData.{goal_node}
+use Rattle.sc_jobs.specs.JobData.{JobData, goal_node}
 use Rattle.sc_jobs.specs.declared.goals.Goal.{Goal}
-use Rattle.sc_desk.specs.DeskData.{DeskData, core_of}
-use Rattle.sc_desk.specs.Sound.{result_count}
+use Rattle.sc_desk.specs.DeskData.{DeskData, PassedData, core_of, desk_data}
+use Rattle.sc_desk.specs.Sound.{IsSeenDue, result_count}
+
+-- the desk of a job that begins with what goes on to it
+abbrev pub begun_desk :
+    JobData → JournalData → List (Option (List Datum)) → PassedData → DeskData
+begun_desk job journal results passed =
+    desk_data job passed.carried journal results [] passed.ordered
 
 -- A desk whose job begins behind what is carried and behind another job or none: nothing has
 -- happened, and no result is there.
-pub record Begins (work : WorkData) (carried : CarriedData) (last : Option CoreData) (goal : Goal)
+pub record Begins (work : WorkData) (passed : PassedData) (last : Option CoreData) (goal : Goal)
     (d : DeskData) : Type 0 where
   pub goal_is : d.job.goal ≡ goal
-  pub cut : IsCut work carried (goal_node work goal) d.job.graph
-  pub carried_on : d.carried ≡ after_job carried d.job.graph
-  pub opening : IsOpening d.job.graph work.limits 0 [] last d.journal.opening
+  pub cut : IsCut work passed.carried (goal_node work goal) d.job.graph
+  pub carried_on : d.carried ≡ after_job passed.carried d.job.graph
+  pub ordered : d.ordered ≡ passed.ordered
+  pub opening : IsOpening d.job.graph work.limits 0 work.plan last d.journal.opening
   pub entries : d.journal.entries ≡ []
   pub core : core_of d ≡ d.journal.opening
   pub results : d.results ≡ replicate (result_count (core_of d).dag) None
+  pub shelf : d.shelf ≡ []
 
--- what is handed back where memory is wanting: what was carried, with the job's new stages or
--- without them
-abbrev pub IsHandedBack : WorkData → CarriedData → Goal → CarriedData → Type 0
-IsHandedBack work carried goal back =
-    (back ≡ carried)
-    ⊎ ((graph : List StageData) × IsCut work carried (goal_node work goal) graph
-    × (back ≡ after_job carried graph))
+-- what is handed back where memory is wanting: what went on from the jobs before, with the job's
+-- new stages or without them
+pub record IsHandedBack (work : WorkData) (passed : PassedData) (goal : Goal) (back : PassedData)
+    : Type 0 where
+  pub carried : (back.carried ≡ passed.carried)
+      ⊎ ((graph : List StageData) × IsCut work passed.carried (goal_node work goal) graph
+      × (back.carried ≡ after_job passed.carried graph))
+  pub ordered : back.ordered ≡ passed.ordered
 
--- what the job before leaves, where there is one, fits the work: its tracker does, and its plan has
--- no lines
+-- what goes on from the jobs before serves a job of the work
+pub record IsPassedFor (work : WorkData) (passed : PassedData) : Type 0 where
+  pub carried : IsCarriedFor work.script.nodes passed.carried
+  pub right : AreRightBounds work passed.carried
+  pub many : length passed.ordered ≡ work.limits.executors
+
+-- what the core of the job before leaves fits the work
+pub record FitsRun (work : WorkData) (last : CoreData) : Type 0 where
+  -- its tracker has the shuffles of the work, and all executors
+  pub tracker : FitsWork work last.dag.tracker
+  pub execs : length last.dag.tracker.trust ≡ work.limits.executors
+  -- it ran under the plan of the work
+  pub plan : last.plan ≡ work.plan
+  -- no generation was seen that no wipe has brought
+  pub seen : IsSeenDue work last
+
 abbrev pub FitsLast : WorkData → Option CoreData → Type 0
 FitsLast work None = Unit {0}
-FitsLast work (Some last) = FitsWork work last.dag.tracker × (last.plan ≡ [])
+FitsLast work (Some last) = FitsRun work last
 
 -- a journal of a job that begins: nothing has happened
-pub record IsFresh (graph : List StageData) (limits : Limits) (last : Option CoreData)
-    (j : JournalData) : Type 0 where
-  pub opening_is : IsOpening graph limits 0 [] last j.opening
+pub record IsFresh (graph : List StageData) (limits : Limits) (plan : List PlanLine)
+    (last : Option CoreData) (j : JournalData) : Type 0 where
+  pub opening_is : IsOpening graph limits 0 plan last j.opening
   pub none : j.entries ≡ []
   pub core_is : j.core ≡ j.opening

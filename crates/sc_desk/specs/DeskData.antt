@@ -1,6 +1,6 @@
 -- The driver's desk, as plain data.
-use Rattle.std.specs.Prelude.{List, Option, refl}
-use Rattle.std.specs.Coded.{Coded, code_by, coded×, coded_list, coded_option}
+use Rattle.std.specs.Prelude.{ℕ, List, Option, refl}
+use Rattle.std.specs.Coded.{Coded, code_by, coded×, coded_list, coded_option, coded_ℕ}
 use Rattle.sc_value.specs.Datum.{Datum}
 use Rattle.sc_value.specs.DatumCode.{datum_code}
 use Rattle.sc_stagecut.specs.Carrying.{CarriedData}
@@ -9,6 +9,11 @@ use Rattle.sc_core.specs.CoreData.{CoreData}
 use Rattle.sc_core.specs.Journals.{JournalData}
 use Rattle.sc_core.specs.contracts.journals.Journal.{the_row as journal}
 use Rattle.sc_jobs.specs.JobData.{JobData, job_code}
+use Rattle.sc_net.specs.Reports.{ReportData, report_code}
+use Rattle.sc_net.specs.Shelves.{shelved}
+use Rattle.sc_net.specs.declared.shelved.ShelvedReport.{ShelvedReport}
+use Rattle.sc_desk.specs.Orders.{orders_code}
+use Rattle.sc_desk.specs.declared.orders.Ordered.{Ordered}
 
 -- a desk
 pub record DeskData : Type 0 where
@@ -20,20 +25,55 @@ pub record DeskData : Type 0 where
   pub journal : JournalData
   -- for each partition the rows of its result, where it has one
   pub results : List (Option (List Datum))
-
-abbrev pub desk_data : JobData → CarriedData → JournalData → List (Option (List Datum)) → DeskData
-desk_data job carried journal results =
-    record { job = job; carried = carried; journal = journal; results = results }
+  -- the reports that are to be told later, by rising keys
+  pub shelf : List (ShelvedReport ReportData)
+  -- which orders of the fault plan were handed out in the run so far, by executor
+  pub ordered : List Ordered
 
 -- the core as it is now
 abbrev pub core_of : DeskData → CoreData
 core_of d = d.journal.core
 
--- the code of a desk, by which proofs tell two of them apart
+abbrev pub desk_data : JobData → CarriedData → JournalData → List (Option (List Datum))
+    → List (ShelvedReport ReportData) → List Ordered → DeskData
+desk_data job carried journal results shelf ordered =
+    record {
+      job = job;
+      carried = carried;
+      journal = journal;
+      results = results;
+      shelf = shelf;
+      ordered = ordered;
+    }
+
+-- the code of a report on the shelf, by which proofs tell two of them apart
+abbrev pub shelved_code : Coded (ShelvedReport ReportData)
+shelved_code =
+    code_by (ℕ × (ℕ × ReportData)) (coded× coded_ℕ (coded× coded_ℕ report_code))
+    (λ s. (s.key, (s.due, s.report))) (λ p. shelved p.0 p.1.0 p.1.1) (λ _. refl)
+
+-- and that of a desk
 abbrev pub desk_code : Coded DeskData
 desk_code =
-    code_by ((JobData × CarriedData) × (JournalData × List (Option (List Datum))))
-    (coded× (coded× job_code carried.coded)
+    code_by (((JobData × CarriedData) × (JournalData × List (Option (List Datum))))
+    × (List (ShelvedReport ReportData) × List Ordered))
+    (coded× (coded× (coded× job_code carried.coded)
     (coded× journal.coded (coded_list (coded_option (coded_list datum_code)))))
-    (λ d. ((d.job, d.carried), (d.journal, d.results)))
-    (λ p. desk_data p.0.0 p.0.1 p.1.0 p.1.1) (λ _. refl)
+    (coded× (coded_list shelved_code) orders_code))
+    (λ d. (((d.job, d.carried), (d.journal, d.results)), (d.shelf, d.ordered)))
+    (λ p. desk_data p.0.0.0 p.0.0.1 p.0.1.0 p.0.1.1 p.1.0 p.1.1) (λ _. refl)
+
+-- what goes on from job to job: the stages and bounds that were found, and which orders were handed
+-- out
+pub record PassedData : Type 0 where
+  pub carried : CarriedData
+  pub ordered : List Ordered
+
+abbrev pub passed_data : CarriedData → List Ordered → PassedData
+passed_data carried ordered = record { carried = carried; ordered = ordered }
+
+-- its code, by which proofs tell two of them apart
+abbrev pub passed_code : Coded PassedData
+passed_code =
+    code_by (CarriedData × List Ordered) (coded× carried.coded orders_code)
+    (λ p. (p.carried, p.ordered)) (λ p. passed_data p.0 p.1) (λ _. refl)

@@ -8,7 +8,7 @@ use Rattle.sc_core.specs.declared.events.Event.{Event}
 use Rattle.sc_desk.specs.DeskData.{DeskData, core_of}
 
 -- One event is entered with its answer: it is what the core does, and all else stays but for the
--- results.
+-- results and the shelf.
 pub record Enters (d : DeskData) (by : Mark) (event : Event) (answer : Answer) (after : DeskData)
     : Type 0 where
   pub step : Steps (core_of d) event answer (core_of after)
@@ -16,3 +16,4 @@ pub record Enters (d : DeskData) (by : Mark) (event : Event) (answer : Answer) (
   pub opening : after.journal.opening ≡ d.journal.opening
   pub job : after.job ≡ d.job
   pub carried : after.carried ≡ d.carried
+  pub ordered : after.ordered ≡ d.ordered

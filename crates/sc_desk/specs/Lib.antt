@@ -1,6 +1,10 @@
+pub mod Orders
 pub mod DeskData
+pub mod Shelves
+pub mod Dues
 pub mod Sound
 pub mod Entries
 pub mod Takes
 pub mod Posts
+pub mod Tellings
 pub mod Begins

@@ -1,11 +1,12 @@
 -- What becomes of a report that is posted.
-use Rattle.std.specs.Prelude.{ℕ, ◌≡◌, ◌≢◌, Bool, true, false, List, Option, Some, None, if◌then◌else◌, length}
+use Rattle.std.specs.Prelude.{◌≡◌, ◌≢◌, Bool, true, false, List, Option, Some, None, if◌then◌else◌, length}
 use Rattle.sc_ids.specs.Changes.{change_at}
 use Rattle.sc_ids.specs.declared.attempts.AttemptId.{AttemptId}
 use Rattle.sc_ids.specs.declared.attempts.Mark.{Mark}
+use Rattle.sc_lineage.specs.ScriptData.{WorkData}
 use Rattle.sc_value.specs.Datum.{Datum}
-use Rattle.sc_core.specs.CoreData.{job_runs, running_of}
-use Rattle.sc_core.specs.Posts.{fits}
+use Rattle.sc_core.specs.CoreData.{CoreData, job_runs, running_of}
+use Rattle.sc_core.specs.Posts.{comes_twice, fits}
 use Rattle.sc_core.specs.declared.answers.Answer.{Answer}
 use Rattle.sc_core.specs.declared.answers.Answer.TheVariants as says
 use Rattle.sc_core.specs.declared.events.Event.TheVariants.{Post}
@@ -14,9 +15,12 @@ use Rattle.sc_net.specs.Reports.{ReportData, outcome_of, rows_of}
 use Rattle.sc_jobs.specs.JobData.{JobData}
 use Rattle.sc_net.specs.Tasks.{TaskData, task_data}
 use Rattle.sc_desk.specs.DeskData.{DeskData, core_of}
+use Rattle.sc_desk.specs.Dues.{IsEarly, IsInTime}
 use Rattle.sc_desk.specs.Entries.{Enters}
+use Rattle.sc_desk.specs.Shelves.{shelf_in, with_more}
 use Rattle.sc_desk.specs.declared.posts.Posted.{Posted}
-use Rattle.sc_desk.specs.declared.posts.Posted.TheVariants.{Receipt, Stranger}
+use Rattle.sc_desk.specs.declared.posts.Posted.TheVariants as posted
+use Rattle.sc_desk.specs.declared.receipts.Receipt.{Receipt}
 
 -- which attempt a report is of
 abbrev pub attempt_of : ReportData → AttemptId
@@ -60,19 +64,32 @@ abbrev pub IsGiven : DeskData → TaskData → Type 0
 IsGiven d t =
     IsGivenIf (job_runs (core_of d)) (running_of (core_of d) t.hand_out.attempt) d.job t
 
--- a report is received: it is no stranger, and its entry, at this place, has what the core answers,
--- which is never that it is to be told later, nor that an executor is told lost
-pub record Receives (d : DeskData) (by : Mark) (report : ReportData) (at : ℕ) (answer : Answer)
-    (after : DeskData) : Type 0 where
-  pub known : IsKnown d report
-  pub place : at ≡ length d.journal.entries
-  pub enters : Enters d by (Post (attempt_of report) (outcome_of report.finding)) answer after
-  pub at_once : answer ≢ says.Shelved
-  pub no_loss : answer ≢ says.Told
-  pub results : after.results ≡ results_after d.results report answer
+-- there is a copy of a report where the fault plan doubles it
+abbrev pub AreCopies : CoreData → ReportData → Option ReportData → Type 0
+AreCopies c report None = comes_twice c (attempt_of report) ≡ false
+AreCopies c report (Some copy) = (comes_twice c (attempt_of report) ≡ true) × (copy ≡ report)
 
--- a report is posted: it is received, or a stranger that is handed back with nothing changed
-abbrev pub Posts : {W : _} → DeskData → Mark → ReportData → Posted W → DeskData → Type 0
-Posts d by report (Receipt at answer) after = Receives d by report at answer after
-Posts d by report (Stranger back) after =
+-- A report is received: it is no stranger and speaks of nothing that can't be yet, and its entry,
+-- at this place, has what the core answers. Rows are kept where they finish their partition, and
+-- the report stands on the shelf wherever the core is to be told of it later.
+pub record Receives (work : WorkData) (d : DeskData) (by : Mark) (report : ReportData)
+    (receipt : Receipt) (after : DeskData) : Type 0 where
+  pub known : IsKnown d report
+  pub in_time : IsInTime work (core_of d).told report.finding
+  pub place : receipt.entry ≡ length d.journal.entries
+  pub enters : Enters d by (Post (attempt_of report) (outcome_of report.finding))
+      receipt.answer after
+  pub no_loss : receipt.answer ≢ says.Told
+  pub results : after.results ≡ results_after d.results report receipt.answer
+  pub shelf : after.shelf
+      ≡ shelf_in (core_of after) (with_more d.shelf report (core_of after).shelf)
+
+-- A report is posted: it is received, or handed back with nothing changed, a stranger, or one that
+-- speaks of a generation that no wipe has brought yet.
+abbrev pub Posts : {W : _} → WorkData → DeskData → Mark → ReportData → Posted W → DeskData → Type 0
+Posts work d by report (posted.Receipt receipt) after = Receives work d by report receipt after
+Posts work d by report (posted.Stranger back) after =
     (IsKnown d report → ⊥) × (back ≡ report) × (after ≡ d)
+Posts work d by report (posted.Early back due) after =
+    IsKnown d report × IsEarly work (core_of d).told report.finding due × (back ≡ report)
+    × (after ≡ d)

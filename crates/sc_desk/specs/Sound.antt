@@ -1,5 +1,5 @@
 -- What holds of every desk.
-use Rattle.std.specs.Prelude.{ℕ, ◌≡◌, ◌≢◌, ◌<◌, All, Bool, true, List, [], Option, Some, None, IfSome, is_some, length}
+use Rattle.std.specs.Prelude.{ℕ, ◌≡◌, ◌≢◌, ◌≤◌, ◌<◌, All, Bool, true, false, List, [], ◌∷◌, Option, Some, None, IfSome, is_some, length, map}
 use Rattle.sc_base.specs.Lists.{at_or}
 use Rattle.sc_value.specs.Datum.{Datum}
 use Rattle.sc_expr.specs.declared.exprs.Raise.{Raise}
@@ -15,8 +15,11 @@ use Rattle.sc_stagecut.specs.Carrying.{AreRightBounds, IsCarriedFor}
 use Rattle.sc_dag.specs.DagData.{DagData, stage_at}
 use Rattle.sc_dag.specs.Openings.{AreNumbered}
 use Rattle.sc_dag.specs.Outputs.{is_done}
-use Rattle.sc_core.specs.CoreData.{CoreData, job_runs, result_stage}
+use Rattle.sc_tracker.specs.TrackerData.{trust_of}
+use Rattle.sc_core.specs.CoreData.{CoreData, shelved_of, job_runs, result_stage}
+use Rattle.sc_core.specs.Journals.{Replays}
 use Rattle.sc_core.specs.Openings.{IsOpening}
+use Rattle.sc_core.specs.Sound.{IsSoundCore}
 use Rattle.sc_core.specs.declared.answers.Answer.{Answer}
 use Rattle.sc_core.specs.declared.answers.Answer.TheVariants as says
 use Rattle.sc_core.specs.declared.entries.Entry.{Entry}
@@ -25,9 +28,11 @@ use Rattle.sc_core.specs.declared.events.Event.TheVariants.{Post, Release, Take,
 use Rattle.sc_core.specs.declared.events.Outcome.{Outcome}
 use Rattle.sc_core.specs.declared.events.Outcome.TheVariants as outcomes
 use Rattle.sc_jobs.specs.Fitting.{FitsWork}
-use Rattle.sc_jobs.specs.JobData.{JobData, blocks_read, goal_action, target_of}
+use Rattle.sc_jobs.specs.JobData.{HasTask, JobData, blocks_read, goal_action, target_of}
 use Rattle.sc_net.specs.Reports.{IsWithoutRaise}
 use Rattle.sc_desk.specs.DeskData.{DeskData, core_of}
+use Rattle.sc_desk.specs.Dues.{IsInTime, wipes_due}
+use Rattle.sc_desk.specs.Shelves.{IsShelvedOf, as_shelved}
 
 -- ---- results
 
@@ -58,59 +63,82 @@ AreAllResults work job results =
 
 -- what an attempt is to compute raises, and nothing that it reads does
 pub record HasRaised (work : WorkData) (job : JobData) (a : AttemptId) : Type 0 where
+  pub task : HasTask job.graph a.stage a.partition
   pub raise : Raise
   pub own : (own_value work (target_of work job a.stage a.partition)).raise ≡ Some raise
   pub inputs : All (IsWithoutRaise work) (blocks_read job.graph a.stage)
 
--- the evidence of a failure: its cause is the plan's or the attempt's own
-abbrev pub FailedFor : WorkData → JobData → AttemptId → FailureCause → Type 0
-FailedFor work job a causes.Planned = is_failed work.plan (place_of a) ≡ true
-FailedFor work job a causes.Raised = HasRaised work job a
-FailedFor work job a cause = Unit {0}
+-- The evidence of a failure that is posted once so many reports were told: its cause is the plan's,
+-- or the attempt's own, or a generation of a store that a wipe has brought. No job saves yet, so
+-- none fails for a device or a denied commit.
+abbrev pub FailedFor : WorkData → JobData → ℕ → AttemptId → FailureCause → Type 0
+FailedFor work job told a causes.Planned = is_failed work.plan (place_of a) ≡ true
+FailedFor work job told a causes.Raised = HasRaised work job a
+FailedFor work job told a (causes.Gone exec wanted found) = found ≤ wipes_due work told exec
+FailedFor work job told a (causes.Metadata last) = Unit {0}
+FailedFor work job told a (causes.Device fault) = ⊥
+FailedFor work job told a causes.Denied = ⊥
 
-abbrev pub EndedFor : WorkData → JobData → AttemptId → Outcome → Type 0
-EndedFor work job a (outcomes.Map loc) = Unit {0}
-EndedFor work job a outcomes.Result = Unit {0}
-EndedFor work job a (outcomes.Failed cause) = FailedFor work job a cause
+abbrev pub EndedFor : WorkData → JobData → ℕ → AttemptId → Outcome → Type 0
+EndedFor work job told a (outcomes.Map loc) = Unit {0}
+EndedFor work job told a outcomes.Result = Unit {0}
+EndedFor work job told a (outcomes.Failed cause) = FailedFor work job told a cause
 
--- what happened has its evidence: a report that was told, and not ignored, is true of its attempt,
--- and no report is told late yet, nor an executor told lost
-abbrev pub IsEvident : WorkData → JobData → Event → Answer → Type 0
-IsEvident work job (Take exec) answer = Unit {0}
-IsEvident work job (Post a outcome) answer = answer ≢ says.Ignored → EndedFor work job a outcome
-IsEvident work job (Release key) answer = ⊥
-IsEvident work job (TellLost exec) answer = ⊥
+-- what happens in a state has its evidence: a report that is posted, and not ignored, is true of
+-- its attempt, and so is one that is told late
+abbrev pub IsEvident : WorkData → JobData → CoreData → Event → Answer → Type 0
+IsEvident work job c (Take exec) answer = Unit {0}
+IsEvident work job c (Post a outcome) answer =
+    answer ≢ says.Ignored → EndedFor work job c.told a outcome
+IsEvident work job c (Release key) answer =
+    IfSome (shelved_of c key) (λ s. EndedFor work job c.told s.attempt s.outcome)
+IsEvident work job c (TellLost exec) answer = Unit {0}
 
-abbrev pub HasEvidence : WorkData → JobData → Entry → Type 0
-HasEvidence work job e = IsEvident work job e.event e.answer
+-- each entry of a journal has its evidence, by the state before it
+abbrev pub AreEvident : (work : WorkData) (job : JobData) (c : CoreData) (entries : List Entry)
+    (end : CoreData) → Replays c entries end → Type 0
+AreEvident work job c [] end is = Unit {0}
+AreEvident work job c (entry ∷ entries) end (mid, step, rest) =
+    IsEvident work job c entry.event entry.answer
+    × AreEvident work job mid entries end rest
 
 -- ---- desks
 
--- a core tells each report at once: its plan has no lines, while its job runs no report is to be
--- told later, and an attempt is out until it is told
-pub record IsPrompt (c : CoreData) : Type 0 where
-  pub plan : c.plan ≡ []
-  pub shelf : job_runs c ≡ true → c.shelf ≡ []
-  pub out : All (λ r. r.is_out ≡ true) c.running
+-- no generation was seen that no wipe has brought
+abbrev pub IsSeenDue : WorkData → CoreData → Type 0
+IsSeenDue work c =
+    (exec : ℕ) → (trust_of c.dag.tracker exec).seen ≤ wipes_due work c.told exec
 
 -- every desk
 pub record IsSoundDesk (work : WorkData) (d : DeskData) : Type 0 where
-  -- its job began behind another one or none, under a plan without lines, and saves nothing
+  -- its job began behind another one or none, under the plan of the work, and saves nothing
   pub last : Option CoreData
-  pub opened : IsOpening d.job.graph work.limits 0 [] last d.journal.opening
-  -- the core has the job's stages by their numbers, and the work's limits
+  pub opened : IsOpening d.job.graph work.limits 0 work.plan last d.journal.opening
+  -- with a core that is sound
+  pub began : IsSoundCore d.journal.opening
+  -- the core has the job's stages by their numbers, the work's limits and plan, and its executors
   pub stages : AreNumbered d.job.graph (core_of d).dag.stages
   pub limits : (core_of d).dag.limits ≡ work.limits
-  -- and tells each report at once
-  pub prompt : IsPrompt (core_of d)
+  pub plan : (core_of d).plan ≡ work.plan
+  pub execs : length (core_of d).dag.tracker.trust ≡ work.limits.executors
   -- there is a place for each result, with rows exactly where the core has it
   pub places : length d.results ≡ result_count (core_of d).dag
   pub won : (p : ℕ) → is_some (result_at d.results p) ≡ has_result (core_of d).dag p
   -- and they are what its task is to compute
   pub own : (p : ℕ) → IfSome (result_at d.results p) (IsResult work d.job p)
-  -- each failure that was told has its evidence
-  pub evidence : All (HasEvidence work d.job) d.journal.entries
+  -- the shelf has the reports that the core is to be told of later, and these are true
+  pub shelf : map as_shelved d.shelf ≡ (core_of d).shelf
+  pub shelved : All (IsShelvedOf work d.job) d.shelf
+  -- until the job's end, when all are dropped
+  pub over : job_runs (core_of d) ≡ false → d.shelf ≡ []
+  -- no generation was seen, or is to be told of, that no wipe has brought
+  pub seen : IsSeenDue work (core_of d)
+  pub in_time : All (λ s. IsInTime work (core_of d).told s.report.finding) d.shelf
+  -- each failure that was posted has its evidence
+  pub evidence : (is : Replays d.journal.opening d.journal.entries (core_of d))
+      → AreEvident work d.job d.journal.opening d.journal.entries (core_of d) is
   -- what is carried on serves the work's next job
   pub carried : IsCarriedFor work.script.nodes d.carried
   pub bounds : AreRightBounds work d.carried
   pub fits : FitsWork work (core_of d).dag.tracker
+  pub many : length d.ordered ≡ work.limits.executors

@@ -6,8 +6,9 @@ use Rattle.sc_core.specs.declared.answers.Answer.TheVariants as says
 use Rattle.sc_core.specs.declared.events.Event.TheVariants.{Take}
 use Rattle.sc_jobs.specs.JobData.{JobData}
 use Rattle.sc_net.specs.Tasks.{IsTaskOf, task_data}
-use Rattle.sc_desk.specs.DeskData.{DeskData}
+use Rattle.sc_desk.specs.DeskData.{DeskData, core_of}
 use Rattle.sc_desk.specs.Entries.{Enters}
+use Rattle.sc_desk.specs.Shelves.{shelf_in}
 use Rattle.sc_desk.specs.declared.takes.Taken.{Taken}
 use Rattle.sc_desk.specs.declared.takes.Taken.TheVariants as takes
 
@@ -22,11 +23,15 @@ IsTaken job takes.Ended says.Ended = Unit {0}
 IsTaken job (takes.Aborted why) (says.Aborted cause) = why ≡ cause
 IsTaken job taken answer = ⊥
 
--- an executor asks: what it gets, and what that leaves
+-- an executor asks: what it gets, by what the core answers, and what that leaves
+abbrev pub TakesLogged : {W : _} → DeskData → Mark → ℕ → Taken W → Answer → DeskData → Type 0
+TakesLogged d by exec taken answer after =
+    IsTaken d.job taken answer × Enters d by (Take exec) answer after
+    × (after.results ≡ d.results) × (after.shelf ≡ shelf_in (core_of after) d.shelf)
+
+-- the same for one who keeps no log of answers
 abbrev pub Takes : {W : _} → DeskData → Mark → ℕ → Taken W → DeskData → Type 0
-Takes d by exec taken after =
-    (answer : Answer) × IsTaken d.job taken answer × Enters d by (Take exec) answer after
-    × (after.results ≡ d.results)
+Takes d by exec taken after = (answer : Answer) × TakesLogged d by exec taken answer after
 
 -- an answer is one to an executor that asks, where a task is one of the job
 abbrev pub IsGivable : JobData → Answer → Type 0

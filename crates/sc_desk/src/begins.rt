@@ -3,65 +3,65 @@
 
 ghost use Rattle.std.specs.Prelude.{◌≡◌, [], IfErr, IfOk, IfSome, None, OnErr, replicate};
 ghost use Rattle.std.specs.Option.{option_map};
-ghost use Rattle.sc_stagecut.specs.Carrying.{AreRightBounds, HasBounds, IsCarriedFor};
-ghost use Rattle.sc_core.specs.Openings.{IsOpening};
+ghost use Rattle.sc_stagecut.specs.Carrying.{HasBounds};
 ghost use Rattle.sc_core.specs.Sound.{IsSoundCore};
-ghost use Rattle.sc_jobs.specs.Fitting.{FitsWork};
 ghost use Rattle.sc_jobs.specs.JobData.{IsGoal, goal_node};
-ghost use Rattle.sc_desk.specs.Begins.{Begins, FitsLast, IsFresh, IsHandedBack};
-ghost use Rattle.sc_desk.specs.DeskData.{desk_data};
-ghost use Rattle.sc_desk.specs.Sound.{IsSoundDesk};
+ghost use Rattle.sc_desk.specs.Begins.{Begins, FitsLast, IsFresh, IsHandedBack, IsPassedFor, begun_desk};
+ghost use Rattle.sc_desk.specs.Sound.{IsSoundDesk, result_count};
 
 use crate::desks::Desk;
+use crate::passes::Passed;
 use sc_columns::Rows;
 use sc_core::{Core, Journal};
 use sc_jobs::{Goal, Job};
-use sc_plan::Plan;
-use sc_stagecut::Carried;
 use sc_work::{Naming, SharedWork};
 use std::alloc::{AllocError, AllocFailed, Global};
 
 impl<W: Naming> Desk<W> {
-    /// The desk of a job that begins, behind what is carried and behind the core of another job or
-    /// none. Where memory is wanting, what is carried is handed back, with the new stages of the
-    /// job or without them. The core is opened under a plan without lines, so each report is told
-    /// at once, and nobody is told lost: reports aren't told late yet.
+    /// The desk of a job that begins, behind what goes on from the jobs before and behind the core
+    /// of the last of them or none. Its core is opened under the fault plan of the work. Where
+    /// memory is wanting, what goes on is handed back, with the new stages of the job or without
+    /// them.
     pub fn begin(
         alloc: Global,
         work: SharedWork<W>,
-        mut carried: Carried,
+        mut passed: Passed,
         last: Option<&Core>,
         goal: Goal,
-    ) -> Result<Desk<W>, AllocFailed<Carried>>
+    ) -> Result<Desk<W>, AllocFailed<Passed>>
         requires goal { IsGoal W.work goal }
-        requires carried { IsCarriedFor W.work.script.nodes carried }
-        requires bounds { HasBounds W.work.script.nodes carried (goal_node W.work goal) }
-        requires right { AreRightBounds W.work carried }
+        requires passed { IsPassedFor W.work passed }
+        requires bounds { HasBounds W.work.script.nodes passed.carried (goal_node W.work goal) }
         requires fits { FitsLast W.work (option_map (λ l. l.now) last) }
         ensures begun { IfOk result
-            (λ d. Begins W.work carried (option_map (λ l. l.now) last.entry) goal d) }
-        ensures back { IfErr result (λ failed. IsHandedBack W.work carried goal failed.value) }
+            (λ d. Begins W.work passed (option_map (λ l. l.now) last.entry) goal d) }
+        ensures back { IfErr result (λ failed. IsHandedBack W.work passed goal failed.value) }
     {
-        match open_job(alloc, &work, &mut carried, last, goal) {
+        match open_job(alloc, &work, &mut passed, last, goal) {
             Ok(
                 Opened {
                     job,
                     journal,
                     results,
                 },
-            ) => Ok(Desk {
-                work,
-                job,
-                carried,
-                journal,
-                results,
-            }),
-            Err(_) => Err(AllocFailed { value: carried }),
+            ) => {
+                let Passed { carried, ordered } = passed;
+                Ok(Desk {
+                    work,
+                    job,
+                    carried,
+                    journal,
+                    results,
+                    shelf: Vec::new(alloc),
+                    ordered,
+                })
+            }
+            Err(_) => Err(AllocFailed { value: passed }),
         }
     }
 }
 
-/// What a desk begins with, beside the work and what is carried on.
+/// What a desk begins with, beside the work and what goes on from the jobs before.
 #[derive(Drop)]
 struct Opened<W: Naming> {
     job: Job<W>,
@@ -73,33 +73,55 @@ struct Opened<W: Naming> {
 fn open_job<W: Naming>(
     alloc: Global,
     work: &SharedWork<W>,
-    carried: &mut Carried,
+    passed: &mut Passed,
     last: Option<&Core>,
     goal: Goal,
 ) -> Result<Opened<W>, AllocError>
     requires goal { IsGoal W.work goal }
-    requires carried { IsCarriedFor W.work.script.nodes carried.old }
-    requires bounds { HasBounds W.work.script.nodes carried.old (goal_node W.work goal) }
-    requires right { AreRightBounds W.work carried.old }
+    requires passed { IsPassedFor W.work passed.old }
+    requires bounds { HasBounds W.work.script.nodes passed.old.carried (goal_node W.work goal) }
     requires fits { FitsLast W.work (option_map (λ l. l.now) last) }
-    ensures begun { IfOk result (λ o. Begins W.work carried.old
+    ensures begun { IfOk result (λ o. Begins W.work passed.old
         (option_map (λ l. l.now) last.entry) goal
-        (desk_data o.job carried.new o.journal o.results.items)) }
+        (begun_desk o.job o.journal o.results.items passed.new)) }
     ensures sound { IfOk result (λ o. IsSoundDesk W.work
-        (desk_data o.job carried.new o.journal o.results.items)) }
-    ensures back { OnErr result (IsHandedBack W.work carried.old goal carried.new) }
+        (begun_desk o.job o.journal o.results.items passed.new)) }
+    ensures back { OnErr result (IsHandedBack W.work passed.old goal passed.new) }
 {
-    let job = Job::plan(alloc, work, carried, goal)?;
+    let job = Job::plan(alloc, work, &mut passed.carried, goal)?;
     job.is_job();
-    let journal = journal_of(alloc, work, &job, last)?;
-    let core = journal.core();
-    core.is_sound();
-    let results = no_results(alloc, core.tasks(core.result_stage()))?;
+    let begun = begin_journal(alloc, work, &job, last)?;
     Ok(Opened {
         job,
-        journal,
-        results,
+        journal: begun.journal,
+        results: begun.results,
     })
+}
+
+/// A journal that begins, with places for the results of its job.
+#[derive(Drop)]
+struct Begun {
+    journal: Journal,
+    results: Vec<Option<Rows>>,
+}
+
+/// The journal of a job that begins, and places for its results, of which none is there.
+fn begin_journal<W: Naming>(
+    alloc: Global,
+    work: &SharedWork<W>,
+    job: &Job<W>,
+    last: Option<&Core>,
+) -> Result<Begun, AllocError>
+    requires { FitsLast W.work (option_map (λ l. l.now) last) }
+    ensures fresh { IfOk result (λ b. IsFresh job.now.graph W.work.limits W.work.plan
+        (option_map (λ l. l.now) last.entry) b.journal) }
+    ensures sound { IfOk result (λ b. IsSoundCore b.journal.core) }
+    ensures results { IfOk result (λ b. b.results.items
+        ≡ replicate (result_count b.journal.core.dag) None) }
+{
+    let journal = journal_of(alloc, work, job, last)?;
+    let results = no_results(alloc, &journal)?;
+    Ok(Begun { journal, results })
 }
 
 /// The journal of a job that begins. Its core is opened twice, since none is copied.
@@ -110,16 +132,18 @@ fn journal_of<W: Naming>(
     last: Option<&Core>,
 ) -> Result<Journal, AllocError>
     requires { FitsLast W.work (option_map (λ l. l.now) last) }
-    ensures { IfOk result
-        (λ j. IsFresh job.now.graph W.work.limits (option_map (λ l. l.now) last.entry) j) }
+    ensures fresh { IfOk result (λ j. IsFresh job.now.graph W.work.limits W.work.plan
+        (option_map (λ l. l.now) last.entry) j) }
+    ensures sound { IfOk result (λ j. IsSoundCore j.core) }
 {
     work.is_named();
     job.is_job();
     are_sound(last);
     let limits = work.get().limits();
-    let plan = Plan::empty(alloc);
-    let opening = Core::open(alloc, job.graph(), limits, 0, &plan, last)?;
-    let core = Core::open(alloc, job.graph(), limits, 0, &plan, last)?;
+    let plan = work.get().plan();
+    let opening = Core::open(alloc, job.graph(), limits, 0, plan, last)?;
+    let core = Core::open(alloc, job.graph(), limits, 0, plan, last)?;
+    core.is_sound();
     Ok(Journal::begin(alloc, opening, core))
 }
 
@@ -132,13 +156,21 @@ fn are_sound(last: Option<&Core>)
     }
 }
 
-/// Places for so many results, of which none is there.
-fn no_results(alloc: Global, tasks: u32) -> Result<Vec<Option<Rows>>, AllocError>
-    ensures { IfOk result (λ v. v.items ≡ replicate tasks None) }
+/// Places for the results of a job, of which none is there.
+fn no_results(alloc: Global, journal: &Journal) -> Result<Vec<Option<Rows>>, AllocError>
+    ensures { IfOk result (λ v. v.items ≡ replicate (result_count journal.now.core.dag) None) }
 {
-    let mut results = Vec::with_capacity(alloc, tasks as usize)?;
-    for _ in 0..tasks {
-        results.push(None)?;
+    let core = journal.core();
+    places(alloc, core.tasks(core.result_stage()))
+}
+
+/// So many places, of which each is empty.
+fn places(alloc: Global, count: u32) -> Result<Vec<Option<Rows>>, AllocError>
+    ensures { IfOk result (λ v. v.items ≡ replicate count None) }
+{
+    let mut places = Vec::with_capacity(alloc, count as usize)?;
+    for _ in 0..count {
+        places.push(None)?;
     }
-    Ok(results)
+    Ok(places)
 }

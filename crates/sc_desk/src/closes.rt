@@ -1,17 +1,18 @@
 //! How a desk ends.
 #![tactic(auto)]
 
-ghost use Rattle.std.specs.Prelude.{◌≡◌};
+ghost use Rattle.std.specs.Prelude.{◌≡◌, Some};
 ghost use Rattle.sc_core.specs.Journals.{Replays};
 ghost use Rattle.sc_core.specs.declared.answers.Job.TheVariants.{Done};
 ghost use Rattle.sc_desk.specs.DeskData.{core_of};
-ghost use Rattle.sc_desk.specs.Sound.{AreAllResults, IsSoundDesk};
+ghost use Rattle.sc_desk.specs.Sound.{AreAllResults, AreEvident, IsSoundDesk};
+ghost use Rattle.sc_desk.specs.Begins.{FitsLast, IsPassedFor};
 
 use crate::desks::Desk;
+use crate::passes::Passed;
 use sc_columns::Rows;
 use sc_core::JobHistory;
 use sc_jobs::Job;
-use sc_stagecut::Carried;
 use sc_work::Naming;
 
 /// What a desk leaves.
@@ -22,7 +23,7 @@ pub struct Closed<W: Naming> {
     /// For each partition the rows of its result, where it has one.
     pub results: Vec<Option<Rows>>,
     /// What goes on to the next job.
-    pub carried: Carried,
+    pub passed: Passed,
     /// The job.
     pub job: Job<W>,
 }
@@ -36,11 +37,17 @@ impl<W: Naming> Desk<W> {
         ensures replays { Replays result.history.opening result.history.entries.items
             result.history.end }
         ensures results { result.results.items ≡ self.results }
-        ensures carried { result.carried ≡ self.carried }
+        ensures carried { result.passed.carried ≡ self.carried }
+        ensures ordered { result.passed.ordered ≡ self.ordered }
         ensures job { result.job ≡ self.job }
         ensures sound { IsSoundDesk W.work self }
         ensures whole { (core_of self).job ≡ Done
             → AreAllResults W.work result.job result.results.items }
+        ensures fits { FitsLast W.work (Some result.history.end) }
+        ensures passed { IsPassedFor W.work result.passed }
+        ensures evidence { (is : Replays result.history.opening result.history.entries.items
+            result.history.end) → AreEvident W.work result.job result.history.opening
+            result.history.entries.items result.history.end is }
     {
         self.journal.core().is_sound();
         let Desk {
@@ -49,12 +56,14 @@ impl<W: Naming> Desk<W> {
             carried,
             journal,
             results,
+            shelf: _,
+            ordered,
         } = self;
         let history = journal.close();
         Closed {
             history,
             results,
-            carried,
+            passed: Passed { carried, ordered },
             job,
         }
     }

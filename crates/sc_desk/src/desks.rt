@@ -2,18 +2,22 @@
 #![tactic(auto)]
 
 ghost use Rattle.std.specs.Prelude.{◌≡◌};
+ghost use Rattle.sc_tracker.specs.TrackerData.{trust_of};
 ghost use Rattle.sc_desk.specs.DeskData.{core_of};
 ghost use Rattle.sc_desk.specs.Sound.{IsSoundDesk};
 
+use crate::orders::Orders;
 use sc_columns::Rows;
 use sc_core::{Core, Entry, Journal};
+use sc_ids::{ExecId, Generation};
 use sc_jobs::Job;
+use sc_net::{Report, ShelvedReport};
 use sc_stagecut::Carried;
 use sc_work::{Naming, SharedWork};
 use std::marker::Model;
 
-/// What the driver keeps of the job that runs: its journal, the results that are there, and what
-/// goes on to the next job.
+/// What the driver keeps of the job that runs: its journal, the results that are there, the reports
+/// that are to be told later, and what goes on to the next job.
 #[derive(Drop)]
 pub struct Desk<W: Naming> {
     pub(crate) work: SharedWork<W>,
@@ -21,6 +25,8 @@ pub struct Desk<W: Naming> {
     pub(crate) carried: Carried,
     pub(crate) journal: Journal,
     pub(crate) results: Vec<Option<Rows>>,
+    pub(crate) shelf: Vec<ShelvedReport<Report<W>>>,
+    pub(crate) ordered: Orders,
 }
 
 impl<W: Naming> Model for Desk<W> {
@@ -31,10 +37,11 @@ impl<W: Naming> Model for Desk<W> {
 
     ghost coded = { desk_code };
 
-    ghost view = { λ d. desk_data d.job d.carried d.journal d.results.items };
+    ghost view = { λ d.
+        desk_data d.job d.carried d.journal d.results.items d.shelf.items d.ordered };
 
-    ghost invariant = { λ d.
-        IsSoundDesk W.work (desk_data d.job d.carried d.journal d.results.items) };
+    ghost invariant = { λ d. IsSoundDesk W.work
+        (desk_data d.job d.carried d.journal d.results.items d.shelf.items d.ordered) };
 }
 
 impl<W: Naming> Desk<W> {
@@ -72,6 +79,20 @@ impl<W: Naming> Desk<W> {
         ensures { result.now ≡ self.now.results }
     {
         self.results.as_slice()
+    }
+
+    /// The reports that are to be told later, by rising keys.
+    pub fn shelf(&self) -> &[ShelvedReport<Report<W>>]
+        ensures { result.now ≡ self.now.shelf }
+    {
+        self.shelf.as_slice()
+    }
+
+    /// The greatest generation of an executor's store that was seen.
+    pub fn seen(&self, exec: ExecId) -> Generation
+        ensures { result ≡ (trust_of (core_of self.now).dag.tracker exec).seen }
+    {
+        self.core().seen(exec)
     }
 
     /// What every desk keeps.

@@ -1,26 +1,45 @@
-//! The driver's desk: one job of a work while it runs.
+//! The driver's desk: one job of a work while it runs, under the work's fault plan.
 //!
 //! A [`Desk`] hands tasks out and receives reports. [`Desk::begin`] plans the job of a goal behind
-//! what is carried from the jobs before, [`Desk::take`] gives an executor a task, [`Desk::post`]
-//! takes a report in, and [`Desk::close`] gives the history, the results and what goes on to the
-//! next job. Each call is one event of the scheduler's core, and enters what was answered into the
-//! journal; what is refused for want of memory enters nothing. Rows come with reports, and are kept
-//! where the core finishes their partition; a report whose attempt runs but whose task isn't the
-//! one that was given is a stranger, and is handed back.
+//! what is passed on from the jobs before, [`Desk::take`] gives an executor a task, [`Desk::post`]
+//! takes a report in, and [`Desk::close`] gives the history, the results and what is passed on to
+//! the next job. Each of these calls is one event of the scheduler's core, and enters what was
+//! answered into the journal; what is refused for want of memory enters nothing. Rows come with
+//! reports, and are kept where the core finishes their partition.
+//!
+//! A report whose attempt runs but whose task isn't the one that was given is a stranger, and one
+//! that speaks of a generation that no wipe has brought yet is early; both are handed back. One
+//! that comes late, and the copy of one that comes twice, stand on the shelf until
+//! [`Desk::release`] tells them. [`Desk::tell_lost`] tells that an executor is lost. What is to be
+//! told next, and which wipe or eviction the plan orders next, say [`Desk::due_report`],
+//! [`Desk::due_loss`] and [`Desk::due_order`]; each order comes once in a run, when it is due
+//! ([`orders_are_due`]).
 //!
 //! Contracts see a desk as the record `DeskData` of `specs/DeskData.antt`. What holds of every desk
 //! stands in `specs/Sound.antt`: the results are those of the work that `W` stands for, they are
-//! there exactly where the core says so, and each failure that was told has its evidence. The desk
-//! computes nothing and holds no block. Below it lie `sc_core`, `sc_jobs` and `sc_net`.
+//! there exactly where the core says so, the shelf has the reports that the core is to be told of,
+//! and each failure that was posted has its evidence. The desk computes nothing and holds no block.
+//! Below it lie `sc_core`, `sc_jobs` and `sc_net`.
 #![tactic(auto)]
 
 mod begins;
 mod closes;
 mod desks;
+mod dues;
+mod laws;
+mod orders;
+mod passes;
 mod posts;
+mod receipts;
+mod shelves;
 mod takes;
+mod tellings;
 
 pub use closes::Closed;
 pub use desks::Desk;
+pub use laws::orders_are_due;
+pub use orders::{Ordered, Orders};
+pub use passes::Passed;
 pub use posts::Posted;
-pub use takes::Taken;
+pub use receipts::Receipt;
+pub use takes::{Logged, Taken};

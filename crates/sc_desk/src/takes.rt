@@ -2,9 +2,10 @@
 #![tactic(auto)]
 
 ghost use Rattle.std.specs.Prelude.{◌≡◌, IfOk, OnErr};
-ghost use Rattle.sc_desk.specs.Takes.{IsGivable, IsTaken, Takes};
+ghost use Rattle.sc_desk.specs.Takes.{IsGivable, IsTaken, Takes, TakesLogged};
 
 use crate::desks::Desk;
+use crate::shelves::clear_after_end;
 use sc_core::{Abort, Answer, Event};
 use sc_ids::{AttemptId, ExecId, Mark};
 use sc_jobs::Job;
@@ -40,6 +41,15 @@ pub enum Taken<W: Naming> {
     Aborted(Abort),
 }
 
+/// What an executor that asks for a task gets, and what the core answered, for the log.
+#[derive(Drop)]
+pub struct Logged<W: Naming> {
+    /// What it gets.
+    pub taken: Taken<W>,
+    /// What the core answered.
+    pub answer: Answer,
+}
+
 impl<W: Naming> Desk<W> {
     /// An executor asks for a task. It gets what the core answers, with an entry. A refused call
     /// changes nothing.
@@ -47,11 +57,28 @@ impl<W: Naming> Desk<W> {
         ensures taken { IfOk result (λ t. Takes self.old by exec t self.new) }
         ensures refused { OnErr result (self.new ≡ self.old) }
     {
+        let Logged { taken, .. } = self.take_logged(by, exec)?;
+        Ok(taken)
+    }
+
+    /// The same for a caller who keeps a log of answers too.
+    pub fn take_logged(&mut self, by: Mark, exec: ExecId) -> Result<Logged<W>, AllocError>
+        ensures taken { IfOk result
+            (λ l. TakesLogged self.old by exec l.taken l.answer self.new) }
+        ensures refused { OnErr result (self.new ≡ self.old) }
+    {
         let work = self.work.share()?;
         let job = self.job.share()?;
         self.journal.core().is_sound();
-        match self.journal.enter(by, Event::Take { exec }) {
-            Ok(answer) => Ok(told(work, job, answer)),
+        self.journal.is_replay();
+        match self.journal.enter_logged(by, Event::Take { exec }) {
+            Ok(entered) => {
+                clear_after_end(&mut self.shelf, self.journal.core());
+                Ok(Logged {
+                    taken: told(work, job, entered.answer),
+                    answer: entered.log,
+                })
+            }
             Err(_) => Err(AllocError),
         }
     }

@@ -1,6 +1,7 @@
-use Rattle.std.proofs.Common.{subst}
+use Rattle.std.proofs.Common.{◌∙◌, ap, subst}
 use Rattle.std.specs.Option.{option_map}
 use Rattle.sc_core.specs.Openings.{IsOpening}
+use Rattle.sc_lineage.specs.ScriptData.{WorkData}
 use Rattle.sc_desk.proofs.BeginLemmas.{fits_job, opened_alike}
 use Rattle.sc_desk.proofs.begins.journal_of.Goals as goal
 
@@ -18,16 +19,18 @@ open-requires-2-clause-fits g c =
 
 pub begin-requires : goal.begin-requires
 begin-requires g c =
+    let plan = c.plan-plan.ensures
+    ∙ ap (λ (w : WorkData). w.plan) (c.get-2.ensures ∙ c.is_named.ensures) in
     opened_alike g.W.Naming.work c.limits-limits.result c.args.job.now
     (option_map (λ l. l.now) c.args.last) c.in_ok-core.core c.in_ok-opening.opening
     c.is_job.ensures c.requires c.are_sound.ensures
-    (subst (λ plan. IsOpening c.args.job.now.graph c.limits-limits.result 0 plan
-    (option_map (λ l. l.now) c.args.last) c.in_ok-core.core) c.empty-plan.ensures
-    (subst (λ graph. IsOpening graph c.limits-limits.result 0 c.empty-plan.result
+    (subst (λ p. IsOpening c.args.job.now.graph c.limits-limits.result 0 p
+    (option_map (λ l. l.now) c.args.last) c.in_ok-core.core) plan
+    (subst (λ graph. IsOpening graph c.limits-limits.result 0 c.plan-plan.result.now
     (option_map (λ l. l.now) c.args.last) c.in_ok-core.core) c.graph-2.ensures
     c.in_ok-core.ensures))
-    (subst (λ plan. IsOpening c.args.job.now.graph c.limits-limits.result 0 plan
-    (option_map (λ l. l.now) c.args.last) c.in_ok-opening.opening) c.empty-plan.ensures
-    (subst (λ graph. IsOpening graph c.limits-limits.result 0 c.empty-plan.result
+    (subst (λ p. IsOpening c.args.job.now.graph c.limits-limits.result 0 p
+    (option_map (λ l. l.now) c.args.last) c.in_ok-opening.opening) plan
+    (subst (λ graph. IsOpening graph c.limits-limits.result 0 c.plan-plan.result.now
     (option_map (λ l. l.now) c.args.last) c.in_ok-opening.opening) c.graph.ensures
     c.in_ok-opening.ensures))

@@ -1,10 +1,8 @@
-use Rattle.std.proofs.Common.{◌≡◌, ap, ap₂, length, true, refl, subst, sym}
-use Rattle.sc_core.specs.Sound.{IsSoundCore}
-use Rattle.sc_core.specs.declared.events.Event.TheVariants.{Post}
-use Rattle.sc_desk.specs.DeskData.{desk_data}
-use Rattle.sc_desk.specs.Entries.{Enters}
-use Rattle.sc_desk.specs.Posts.{IsGiven, Receives}
-use Rattle.sc_desk.proofs.PostLemmas.{known_given, posted_keeps, received}
+use Rattle.std.proofs.Common.{◌≡◌, true, refl, subst, sym}
+use Rattle.sc_desk.specs.DeskData.{core_of}
+use Rattle.sc_desk.specs.Dues.{IsEarly}
+use Rattle.sc_desk.specs.Posts.{IsGiven}
+use Rattle.sc_desk.proofs.PostLemmas.{early_known, known_given}
 use Rattle.sc_desk.proofs.desks.Desk.post.Goals as goal
 
 pub returns-then-not-is_given-clause-posted : goal.returns-then-not-is_given-clause-posted
@@ -19,49 +17,14 @@ returns-then-not-is_given-clause-posted g c = (
   refl,
 )
 
-pub invariant_of-self : goal.invariant_of-self
-invariant_of-self g c =
-    let d = desk_data c.self.inside.job c.self.inside.carried c.self.inside.journal
-    c.self.inside.results.items in
-    let after = desk_data c.self.inside.job c.self.inside.carried c.enter.new.self
-    c.keep.new.results.items in
+pub returns-in-Some-clause-posted : goal.returns-in-Some-clause-posted
+returns-in-Some-clause-posted g c =
     let is : c.is_given.result ≡ true = cc in
-    posted_keeps g.W.Naming.work d after c.args.by c.args.report c.in-Ok.answer c.self.invariant
-    (subst IsSoundCore c.core.ensures c.is_sound.ensures) c.is_true.ensures
-    (subst (λ x. IsGiven x c.args.report.task) (sym c.self.view_is)
-    (subst (λ t. IsGiven c.args.self.now t) c.task.ensures (c.is_given.ensures.0 is)))
-    (subst (λ event. Enters d c.args.by event c.in-Ok.answer after)
-    (ap₂ (λ a o. Post a o) c.attempt-attempt.ensures c.outcome-outcome.ensures)
-    (record {
-      step = c.in-Ok.ensures.step;
-      entries = c.in-Ok.ensures.entry;
-      opening = c.in-Ok.ensures.opening;
-      job = refl;
-      carried = refl;
-    }))
-    c.keep.ensures
-
-pub returns-in-Ok-clause-posted : goal.returns-in-Ok-clause-posted
-returns-in-Ok-clause-posted g c =
-    let d = desk_data c.self.inside.job c.self.inside.carried c.self.inside.journal
-    c.self.inside.results.items in
-    let after = desk_data c.self.inside.job c.self.inside.carried c.enter.new.self
-    c.keep.new.results.items in
-    let is : c.is_given.result ≡ true = cc in
-    subst (λ x. Receives x c.args.by c.args.report (length c.entries-entry.result.now)
-    c.in-Ok.answer after) c.self.view_is
-    (received d after c.args.by c.args.report (length c.entries-entry.result.now) c.in-Ok.answer
-    c.self.invariant.prompt
-    (subst (λ x. IsGiven x c.args.report.task) (sym c.self.view_is)
-    (subst (λ t. IsGiven c.args.self.now t) c.task.ensures (c.is_given.ensures.0 is)))
-    (ap length c.entries-entry.ensures)
-    (subst (λ event. Enters d c.args.by event c.in-Ok.answer after)
-    (ap₂ (λ a o. Post a o) c.attempt-attempt.ensures c.outcome-outcome.ensures)
-    (record {
-      step = c.in-Ok.ensures.step;
-      entries = c.in-Ok.ensures.entry;
-      opening = c.in-Ok.ensures.opening;
-      job = refl;
-      carried = refl;
-    }))
-    c.keep.ensures)
+    let early = subst (λ f. IsEarly g.W.Naming.work (core_of c.args.self.now).told f c.in-Some.due)
+    c.finding.ensures c.in-Some.ensures.early in (
+      early_known g.W.Naming.work c.args.self.now c.args.report c.in-Some.due c.is_true.ensures
+          (subst (λ t. IsGiven c.args.self.now t) c.task.ensures (c.is_given.ensures.0 is)) early,
+      early,
+      refl,
+      refl,
+    )

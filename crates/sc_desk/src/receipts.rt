@@ -1,0 +1,13 @@
+//! What is entered at a desk.
+#![tactic(auto)]
+
+use sc_core::Answer;
+
+/// Where something that happened is entered, and what it was answered.
+#[derive(Drop)]
+pub struct Receipt {
+    /// The place of its entry.
+    pub entry: usize,
+    /// What it is answered.
+    pub answer: Answer,
+}
