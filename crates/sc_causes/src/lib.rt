@@ -1,0 +1,15 @@
+//! Why a job that ends without a value does so: laws that tie what was seen of it to what the
+//! script means, and to what the plan says.
+//!
+//! A task is one of many behind an action: where what it is to compute raises, the action has no
+//! outcome by the sequential meaning, in which there are no tasks. And where every executor was
+//! told lost, the plan loses each of them. So a job that ends without a value for one of these
+//! causes could not have had one, or was planned to end so.
+//!
+//! `specs/Raises.antt` and `specs/Losses.antt` say what the laws are. Each law stands under a
+//! function that does nothing, for a caller to cite.
+#![tactic(auto)]
+
+mod laws;
+
+pub use laws::{planned_losses_alone, raises_leave_no_value};
