@@ -1,0 +1,36 @@
+-- Orders of a fault plan that wipe.
+use Rattle.std.proofs.Common.{◌≡◌, ℕ, ◌+◌, ◌<◌, ◌≤◌, true, List, Option, Some, length, refl, sym, ◌∙◌, arith, rules, true≢false}
+use Rattle.sc_plan.specs.Orders.{Due, due_count, nth_order, wipes_of}
+use Rattle.sc_plan.specs.declared.lines.PlanLine.{PlanLine}
+use Rattle.sc_plan.specs.declared.orders.Order.{Order}
+use Rattle.sc_plan.specs.declared.orders.OrderKind.{OrderKind}
+use Rattle.sc_plan.specs.declared.orders.OrderKind.TheVariants as kinds
+use Rattle.sc_store.specs.Storing.{IsWipe}
+use Rattle.sc_desk.specs.Orders.{IsDueAmong}
+use Rattle.sc_desk.proofs.OrderLemmas.{due_room, is_wipe, numbered, wipes_are}
+
+-- a wipe of a plan wipes
+pub is_wiping : (plan : List PlanLine) (told : ℕ) (order : Order)
+    → IsDueAmong (wipes_of plan order.exec) told order → IsWipe order.kind
+is_wiping plan told order (below, is) =
+    by order.kind
+    (numbered order.exec true (wipes_of plan order.exec) order.number order
+    (wipes_are plan order.exec) is).sort
+  where
+    by : (kind : OrderKind) → is_wipe kind ≡ true → IsWipe kind
+    by kinds.Drop e = tt
+    by kinds.Lose e = tt
+    by kinds.Evict e = true≢false (sym e)
+
+-- one that is due is there
+pub is_known : (dues : List Due) (told number : ℕ) → number ≤ due_count dues told
+    → number ≤ length dues
+is_known dues told number le = let room = due_room dues told in omega (arith, le, room)
+
+-- orders have numbers from 1 on
+pub none_zero : (dues : List Due) (told : ℕ) (order : Order) → order.number ≡ 0
+    → IsDueAmong dues told order → ⊥
+none_zero dues told order zero (below, is) = by order.number zero is
+  where
+    by : (n : ℕ) → n ≡ 0 → nth_order order.exec n dues ≡ Some order → ⊥
+    by n z e = let bad = rw z at e in search (rules, bad)

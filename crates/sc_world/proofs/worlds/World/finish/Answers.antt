@@ -1,0 +1,22 @@
+use Rattle.std.proofs.Common.{arith}
+use Rattle.sc_world.proofs.CodeRuns.{goes_then, stays}
+use Rattle.sc_world.proofs.CodeTurns.{no_more_then}
+use Rattle.sc_world.proofs.worlds.World.finish.Goals as goal
+
+pub loop-alloc-init : goal.loop-alloc-init
+loop-alloc-init g c =
+    record {
+      on = stays g.W.Naming.work c.args.self.now;
+      alone = c.requires.alone;
+      no_more = λ runs. (runs, omega arith);
+    }
+
+pub loop-alloc-preserved : goal.loop-alloc-preserved
+loop-alloc-preserved g c =
+    record {
+      on = goes_then g.W.Naming.work c.args.self.now c.loop-alloc.self c.advance.new.self
+          c.loop-alloc.invariant.on c.in_ok-advance.ensures.advances.on;
+      alone = c.in_ok-advance.ensures.advances.alone;
+      no_more = no_more_then g.W.Naming.work c.args.self.now c.loop-alloc.self c.advance.new.self
+          c.loop-alloc.invariant.no_more c.in_ok-advance.ensures.advances.no_more;
+    }

@@ -1,0 +1,20 @@
+use Rattle.std.proofs.Common.{subst}
+use Rattle.sc_world.specs.Steps.{HandsOrder}
+use Rattle.sc_world.proofs.CodeTurns.{order_due, order_there, orders_turn}
+use Rattle.sc_world.proofs.worlds.World.order_next.Goals as goal
+
+pub carry_out-requires-clause-due : goal.carry_out-requires-clause-due
+carry_out-requires-clause-due g c =
+    order_due g.W.Naming.work c.args.self.now c.next_order.new.self c.in-Some.order
+    c.in-Some.ensures
+
+pub carry_out-requires-clause-there : goal.carry_out-requires-clause-there
+carry_out-requires-clause-there g c =
+    order_there g.W.Naming.work c.args.self.now c.next_order.new.self c.in-Some.order
+    c.is_world.ensures c.in-Some.ensures
+
+pub returns-in-Some : goal.returns-in-Some
+returns-in-Some g c =
+    orders_turn g.W.Naming.work c.args.self.now c.next_order.new.self c.carry_out.new.self
+    c.in-Some.order c.requires.rests c.in-Some.ensures c.carry_out.ensures.on
+    c.carry_out.ensures.desk c.carry_out.ensures.held

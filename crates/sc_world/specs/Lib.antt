@@ -1,0 +1,9 @@
+pub mod Tracks
+pub mod Ties
+pub mod WorldData
+pub mod Sound
+pub mod Steps
+pub mod Places
+pub mod Runs
+pub mod Laws
+pub mod Serial

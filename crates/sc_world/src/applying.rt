@@ -1,0 +1,185 @@
+//! Any step of a world.
+#![tactic(auto)]
+
+ghost use Rattle.std.specs.Prelude.{◌≡◌, ◌↔◌, ◌<◌, IfOk, IsTrue, OnErr, length};
+ghost use Rattle.sc_desk.specs.Orders.{IsDueAmong};
+ghost use Rattle.sc_plan.specs.Orders.{wipes_of};
+ghost use Rattle.sc_world.specs.Runs.{Reaches, Runs};
+ghost use Rattle.sc_world.specs.Steps.{Goes};
+ghost use Rattle.sc_world.specs.WorldData.{core_in};
+ghost use Rattle.sc_world.specs.declared.steps.Step.TheVariants as steps;
+
+use crate::places::Phase;
+use crate::steps::{Applied, Step};
+use crate::worlds::World;
+use sc_base::OrMemory;
+use sc_ids::ExecId;
+use sc_plan::Order;
+use sc_work::Naming;
+use std::alloc::{AllocError, Global};
+
+impl<W: Naming> World<W> {
+    /// Does one step, where it is enabled; one that isn't changes nothing. A refused call changes
+    /// nothing.
+    pub fn apply(&mut self, alloc: Global, step: Step) -> Result<Applied, AllocError>
+        ensures goes { IfOk result (λ a. Goes W.work self.old step a self.new) }
+        ensures refused { OnErr result (self.new ≡ self.old) }
+    {
+        match step {
+            Step::Take { exec } => self.apply_take(alloc, exec),
+            Step::Read { exec } => self.apply_read(exec),
+            Step::Compute { exec } => self.apply_compute(alloc, exec),
+            Step::Put { exec } => self.apply_put(exec),
+            Step::Post { exec } => self.apply_post(exec),
+            Step::Release { key } => self.apply_release(key),
+            Step::TellLost { exec } => self.apply_loss(exec),
+            Step::Wipe(order) => Ok(self.apply_wipe(order)),
+            Step::Evict { exec } => Ok(self.apply_evict(exec)),
+            Step::NextOrder => Ok(self.apply_order()),
+        }
+    }
+
+    /// Does some steps, one after the other. Whatever comes, the world is one that steps lead to.
+    pub fn apply_all(&mut self, alloc: Global, steps: &[Step]) -> Result<Vec<Applied>, AllocError>
+        ensures runs { IfOk result
+            (λ answers. Runs W.work self.old steps.now answers.items self.new) }
+        ensures reaches { Reaches W.work self.old self.new }
+    {
+        let mut answers = Vec::with_capacity(alloc, steps.len())?;
+        for step in steps {
+            answers.push(self.apply(alloc, *step)?)?;
+        }
+        Ok(answers)
+    }
+
+    fn apply_take(&mut self, alloc: Global, exec: ExecId) -> Result<Applied, AllocError>
+        ensures goes { IfOk result (λ a. Goes W.work self.old (steps.Take exec) a self.new) }
+        ensures refused { OnErr result (self.new ≡ self.old) }
+    {
+        if (exec as usize) < self.held.len() {
+            Ok(Applied::Told(self.take(alloc, exec)?))
+        } else {
+            Ok(Applied::NotEnabled)
+        }
+    }
+
+    fn apply_read(&mut self, exec: ExecId) -> Result<Applied, AllocError>
+        ensures goes { IfOk result (λ a. Goes W.work self.old (steps.Read exec) a self.new) }
+        ensures refused { OnErr result (self.new ≡ self.old) }
+    {
+        if self.phase(exec) == Phase::Reads {
+            self.read(exec)?;
+            Ok(Applied::Done)
+        } else {
+            Ok(Applied::NotEnabled)
+        }
+    }
+
+    fn apply_compute(&mut self, alloc: Global, exec: ExecId) -> Result<Applied, AllocError>
+        ensures goes { IfOk result (λ a. Goes W.work self.old (steps.Compute exec) a self.new) }
+        ensures refused { OnErr result (self.new ≡ self.old) }
+    {
+        if self.phase(exec) == Phase::Computes {
+            self.compute(alloc, exec)?;
+            Ok(Applied::Done)
+        } else {
+            Ok(Applied::NotEnabled)
+        }
+    }
+
+    fn apply_put(&mut self, exec: ExecId) -> Result<Applied, AllocError>
+        ensures goes { IfOk result (λ a. Goes W.work self.old (steps.Put exec) a self.new) }
+        ensures refused { OnErr result (self.new ≡ self.old) }
+    {
+        if self.phase(exec) == Phase::Puts {
+            Ok(Applied::Put(self.put(exec)?))
+        } else {
+            Ok(Applied::NotEnabled)
+        }
+    }
+
+    fn apply_post(&mut self, exec: ExecId) -> Result<Applied, AllocError>
+        ensures goes { IfOk result (λ a. Goes W.work self.old (steps.Post exec) a self.new) }
+        ensures refused { OnErr result (self.new ≡ self.old) }
+    {
+        if self.phase(exec) == Phase::Reports {
+            Ok(Applied::Told(self.post(exec)?))
+        } else {
+            Ok(Applied::NotEnabled)
+        }
+    }
+
+    fn apply_release(&mut self, key: u32) -> Result<Applied, AllocError>
+        ensures goes { IfOk result (λ a. Goes W.work self.old (steps.Release key) a self.new) }
+        ensures refused { OnErr result (self.new ≡ self.old) }
+    {
+        match self.release_any(key) {
+            Ok(answer) => Ok(Applied::Told(answer)),
+            Err(OrMemory::Fault(_)) => Ok(Applied::NotEnabled),
+            Err(OrMemory::OutOfMemory) => Err(AllocError),
+        }
+    }
+
+    fn apply_loss(&mut self, exec: ExecId) -> Result<Applied, AllocError>
+        ensures goes { IfOk result (λ a. Goes W.work self.old (steps.TellLost exec) a self.new) }
+        ensures refused { OnErr result (self.new ≡ self.old) }
+    {
+        if self.desk.core().may_be_lost(exec) {
+            Ok(Applied::Told(self.tell_lost(exec)?))
+        } else {
+            Ok(Applied::NotEnabled)
+        }
+    }
+
+    fn apply_wipe(&mut self, order: Order) -> Applied
+        ensures { Goes W.work self.old (steps.Wipe order) result self.new }
+    {
+        if self.runs() && self.has_store(order.exec) && self.is_wipe_due(order) {
+            Applied::Wipe(self.wipe(order))
+        } else {
+            Applied::NotEnabled
+        }
+    }
+
+    fn apply_evict(&mut self, exec: ExecId) -> Applied
+        ensures { Goes W.work self.old (steps.Evict exec) result self.new }
+    {
+        if self.runs() && self.has_store(exec) {
+            self.evict(exec);
+            Applied::Done
+        } else {
+            Applied::NotEnabled
+        }
+    }
+
+    fn apply_order(&mut self) -> Applied
+        ensures { Goes W.work self.old steps.NextOrder result self.new }
+    {
+        if self.runs() {
+            Applied::Ordered(self.next_order())
+        } else {
+            Applied::NotEnabled
+        }
+    }
+
+    /// Whether an executor has a store.
+    fn has_store(&self, exec: ExecId) -> bool
+        ensures { IsTrue result ↔ (exec < length self.now.stores) }
+    {
+        (exec as usize) < self.stores.len()
+    }
+
+    /// Whether a wipe is one of the fault plan, and is due.
+    fn is_wipe_due(&self, order: Order) -> bool
+        ensures { IsTrue result
+            ↔ IsDueAmong (wipes_of W.work.plan order.exec) (core_in self.now).told order }
+    {
+        self.desk.work().is_named();
+        let plan = self.desk.work().get().plan();
+        let due = plan.due_wipes(order.exec, self.desk.core().told());
+        if order.number == 0 || due < u64::from(order.number) {
+            return false;
+        }
+        plan.wipe_order(order.exec, order.number) == order
+    }
+}

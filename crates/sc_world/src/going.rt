@@ -1,0 +1,120 @@
+//! How one attempt goes on.
+#![tactic(auto)]
+
+ghost use Rattle.std.specs.Prelude.{◌≡◌, IfErr, IfOk, OnErr, OnOk, Some};
+ghost use Rattle.sc_net.specs.Tasks.{is_map_task};
+ghost use Rattle.sc_task.specs.Attempts.{assigned, attempt_data_of};
+ghost use Rattle.sc_task.specs.Caches.{IsSameButCache};
+ghost use Rattle.sc_task.specs.Nexts.{next_of};
+ghost use Rattle.sc_task.specs.declared.next.Next.{Next};
+ghost use Rattle.sc_world.specs.Places.{AreInOrder, FetchStands, FetchesTo, IsAtRest, NextStands};
+ghost use Rattle.sc_world.specs.Steps.{HasMade, Makes, ReadsAt, phase_of, phase_reading};
+
+use crate::places::Phase;
+use sc_net::Task;
+use sc_store::Store;
+use sc_task::{Assigned, Attempt, Computed, Did, Next, Took};
+use sc_work::Naming;
+use std::alloc::{AllocFailed, Global};
+
+/// How far an attempt is.
+pub(crate) fn phase_of<W: Naming>(attempt: &Attempt<W>) -> Phase
+    ensures { result ≡ phase_of (Some (attempt_data_of attempt.now)) }
+{
+    match attempt {
+        Attempt::Assigned(state) => phase_reading(state.next()),
+        Attempt::Computed(_) => Phase::Puts,
+        Attempt::Stored(_) | Attempt::Reported(_) => Phase::Reports,
+    }
+}
+
+/// How far an attempt is that reads, by what comes next.
+fn phase_reading(next: Next) -> Phase
+    ensures { result ≡ phase_reading next }
+{
+    match next {
+        Next::Fetch { .. } | Next::Missing { .. } => Phase::Reads,
+        Next::Complete => Phase::Computes,
+    }
+}
+
+/// The attempt that has read the next block, or has found that it can't. A refused call hands it
+/// back.
+pub(crate) fn read_next<W: Naming>(
+    stores: &[Store<W>],
+    state: Assigned<W>,
+) -> Result<Attempt<W>, AllocFailed<Assigned<W>>>
+    requires order { AreInOrder stores.now }
+    requires stands { NextStands stores.now (next_of state.task state.got) }
+    requires reads { phase_reading (next_of state.task state.got) ≡ Phase.Reads }
+    ensures reads { IfOk result (λ next. ReadsAt stores.now
+        (Some (assigned state.task state.got)) (Some (attempt_data_of next))) }
+    ensures rests { IfOk result (λ next. IsAtRest (Some (attempt_data_of next))) }
+    ensures back { IfErr result (λ failed. failed.value ≡ state) }
+{
+    match state.next() {
+        Next::Fetch { loc, .. } => fetch_next(&stores[loc.exec as usize], state),
+        Next::Missing { .. } => Ok(Attempt::Reported(state.missing())),
+        Next::Complete => unreachable!(),
+    }
+}
+
+/// Fetches the next block of an attempt from the store where it lies.
+fn fetch_next<W: Naming>(
+    store: &Store<W>,
+    state: Assigned<W>,
+) -> Result<Attempt<W>, AllocFailed<Assigned<W>>>
+    requires stands { FetchStands store.now (next_of state.task state.got) }
+    ensures fetches { IfOk result (λ next. FetchesTo store.now state.task state.got
+        (next_of state.task state.got) (attempt_data_of next)) }
+    ensures rests { IfOk result (λ next. IsAtRest (Some (attempt_data_of next))) }
+    ensures back { IfErr result (λ failed. failed.value ≡ state) }
+{
+    match state.read(store) {
+        Ok(Took::Next(next)) => Ok(Attempt::Assigned(next)),
+        Ok(Took::Gone(report)) => Ok(Attempt::Reported(report)),
+        Ok(Took::Absent { .. }) => unreachable!(),
+        Err(failed) => Err(failed),
+    }
+}
+
+/// The attempt that has computed, unless it fails: then it is to report. A refused call hands it
+/// back.
+pub(crate) fn compute_next<W: Naming>(
+    alloc: Global,
+    state: Assigned<W>,
+    store: &mut Store<W>,
+) -> Result<Attempt<W>, AllocFailed<Assigned<W>>>
+    requires complete { next_of state.task state.got ≡ Next.Complete }
+    ensures makes { IfOk result (λ next. Makes W.work state.task (attempt_data_of next)) }
+    ensures rests { IfOk result (λ next. IsAtRest (Some (attempt_data_of next))) }
+    ensures cached { OnOk result (IsSameButCache store.old store.new) }
+    ensures back { IfErr result (λ failed. failed.value ≡ state) }
+    ensures same { OnErr result (store.new ≡ store.old) }
+{
+    match state.compute(alloc, store) {
+        Ok(Did::Computed(computed)) => Ok(made_of(computed)),
+        Ok(Did::Failed(report)) => Ok(Attempt::Reported(report)),
+        Err(failed) => Err(failed),
+    }
+}
+
+/// What an attempt has that has computed: a block to be put, or rows to report.
+fn made_of<W: Naming>(computed: Computed<W>) -> Attempt<W>
+    ensures made { HasMade W.work computed.task (attempt_data_of result) }
+    ensures rests { IsAtRest (Some (attempt_data_of result)) }
+{
+    if is_map(computed.task()) {
+        return Attempt::Computed(computed);
+    }
+    let report = computed.result();
+    report.is_true();
+    Attempt::Reported(report)
+}
+
+/// Whether a task is one of a map stage.
+fn is_map<W: Naming>(task: &Task<W>) -> bool
+    ensures { result ≡ is_map_task task.now }
+{
+    task.block().is_some()
+}

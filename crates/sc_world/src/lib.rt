@@ -1,0 +1,31 @@
+//! The world of a job: the desk, the stores of its executors, and the attempts that they have out.
+//!
+//! A [`World`] goes on by steps ([`Step`]), in any order: an executor takes a task, its attempt
+//! reads block by block, computes, puts what it has computed and reports; reports are told that
+//! were to be told later, executors are told lost, stores are wiped by orders of the fault plan or
+//! let cached blocks go. [`World::apply`] does any step that is enabled, and changes nothing where
+//! one isn't; each step is a call of its own too. [`World::serial`] runs the job to its end on one
+//! thread.
+//!
+//! Contracts see a world as the record `WorldData` of `specs/WorldData.antt`, and
+//! `specs/Steps.antt` says what each step does. What holds of every world stands in
+//! `specs/Sound.antt`, and a world keeps it by its type, so it holds after every list of steps: a
+//! block that an attempt fetches lies where the attempt was sent, as far as that store wasn't wiped
+//! since, and no report is a stranger to the desk.
+#![tactic(auto)]
+
+mod among;
+mod applying;
+mod going;
+mod laws;
+mod places;
+mod serial;
+mod stepping;
+mod steps;
+mod turns;
+mod worlds;
+
+pub use laws::{reports_move_trackers, worlds_stay_sound};
+pub use places::Phase;
+pub use steps::{Applied, Step};
+pub use worlds::{NoRoom, World};

@@ -1,0 +1,190 @@
+//! The place of the attempt that an executor has out.
+#![tactic(auto)]
+
+ghost use Rattle.std.specs.Prelude.{◌≡◌, IfOk, IfSome, None, OnErr, OnOk, Some, is_some};
+ghost use Rattle.sc_task.specs.Attempts.{assigned, reported};
+ghost use Rattle.sc_task.specs.Caches.{IsSameButCache};
+ghost use Rattle.sc_world.specs.Places.{AreInOrder, ComputesAt, PutsAt, ReadStands};
+ghost use Rattle.sc_world.specs.Steps.{ReadsAt, phase_of};
+
+use crate::going::{compute_next, phase_of, read_next};
+use sc_ids::Loc;
+use sc_net::{Report, Task};
+use sc_store::Store;
+use sc_task::{Attempt, assign};
+use sc_work::Naming;
+use std::alloc::{AllocError, Global};
+use std::marker::Model;
+
+/// How far the attempt is that an executor may have out.
+#[derive(Clone, Copy, Debug, PartialEq, Eq)]
+pub enum Phase {
+    /// There is none.
+    Idle,
+    /// It is to read its next block.
+    Reads,
+    /// It has read all, and is to compute.
+    Computes,
+    /// It is to put the block that it has computed.
+    Puts,
+    /// It is to report.
+    Reports,
+}
+
+/// A place for the attempt that an executor has out.
+#[derive(Drop)]
+pub(crate) struct Place<W: Naming> {
+    attempt: Option<Attempt<W>>,
+}
+
+impl<W: Naming> Model for Place<W> {
+    ghost use Rattle.std.specs.Prelude.{Option};
+    ghost use Rattle.std.specs.Coded.{coded_option};
+    ghost use Rattle.std.specs.Option.{option_map};
+    ghost use Rattle.sc_task.specs.Attempts.{AttemptData, attempt_code, attempt_data_of};
+    ghost use Rattle.sc_world.specs.Places.{IsAtRest};
+
+    ghost Value = { Option AttemptData };
+
+    ghost coded = { coded_option attempt_code };
+
+    ghost view = { λ p. option_map attempt_data_of p.attempt };
+
+    ghost invariant = { λ p. IsAtRest (option_map attempt_data_of p.attempt) };
+}
+
+impl<W: Naming> Place<W> {
+    /// A place without an attempt.
+    pub(crate) fn empty() -> Place<W>
+        ensures { result ≡ None }
+    {
+        Place { attempt: None }
+    }
+
+    /// How far its attempt is.
+    pub(crate) fn phase(&self) -> Phase
+        ensures { result ≡ phase_of self.now }
+    {
+        match &self.attempt {
+            Some(attempt) => phase_of(attempt),
+            None => Phase::Idle,
+        }
+    }
+
+    /// Whether it has an attempt.
+    pub(crate) fn is_taken(&self) -> bool
+        ensures { result ≡ is_some self.now }
+    {
+        self.attempt.is_some()
+    }
+
+    /// An attempt of a task takes the place, which has read nothing yet.
+    pub(crate) fn give(&mut self, alloc: Global, task: Task<W>)
+        ensures { self.new ≡ Some (assigned task 0) }
+    {
+        self.attempt = Some(Attempt::Assigned(assign(alloc, task)));
+    }
+
+    /// The attempt reads the next block. A refused call changes nothing.
+    pub(crate) fn read(&mut self, stores: &[Store<W>]) -> Result<(), AllocError>
+        requires order { AreInOrder stores.now }
+        requires stands { IfSome self.old (ReadStands stores.now) }
+        requires reads { phase_of self.old ≡ Phase.Reads }
+        ensures reads { OnOk result (ReadsAt stores.now self.old self.new) }
+        ensures refused { OnErr result (self.new ≡ self.old) }
+    {
+        let Some(attempt) = self.attempt.take() else {
+            unreachable!();
+        };
+        let Attempt::Assigned(state) = attempt else {
+            unreachable!();
+        };
+        match read_next(stores, state) {
+            Ok(next) => {
+                self.attempt = Some(next);
+                Ok(())
+            }
+            Err(failed) => {
+                self.attempt = Some(Attempt::Assigned(failed.value));
+                Err(AllocError)
+            }
+        }
+    }
+
+    /// The attempt has read all, and computes; meanwhile the store of its executor may use cached
+    /// blocks, and keep more of them. A refused call changes nothing.
+    pub(crate) fn compute(&mut self, alloc: Global, store: &mut Store<W>) -> Result<(), AllocError>
+        requires computes { phase_of self.old ≡ Phase.Computes }
+        ensures computes { OnOk result (ComputesAt W.work self.old self.new) }
+        ensures cached { OnOk result (IsSameButCache store.old store.new) }
+        ensures refused { OnErr result (self.new ≡ self.old) }
+        ensures same { OnErr result (store.new ≡ store.old) }
+    {
+        let Some(attempt) = self.attempt.take() else {
+            unreachable!();
+        };
+        let Attempt::Assigned(state) = attempt else {
+            unreachable!();
+        };
+        match compute_next(alloc, state, store) {
+            Ok(next) => {
+                self.attempt = Some(next);
+                Ok(())
+            }
+            Err(failed) => {
+                self.attempt = Some(Attempt::Assigned(failed.value));
+                Err(AllocError)
+            }
+        }
+    }
+
+    /// The attempt puts the block that it has computed into the store of its executor, and is to
+    /// report where it lies. A refused call changes nothing.
+    pub(crate) fn put(&mut self, store: &mut Store<W>) -> Result<Loc, AllocError>
+        requires puts { phase_of self.old ≡ Phase.Puts }
+        ensures puts { IfOk result
+            (λ loc. PutsAt W.work self.old store.old loc self.new store.new) }
+        ensures refused { OnErr result (self.new ≡ self.old) }
+        ensures same { OnErr result (store.new ≡ store.old) }
+    {
+        let Some(attempt) = self.attempt.take() else {
+            unreachable!();
+        };
+        let Attempt::Computed(state) = attempt else {
+            unreachable!();
+        };
+        match state.put(store) {
+            Ok(stored) => {
+                let loc = stored.loc();
+                self.attempt = Some(Attempt::Reported(stored.report()));
+                Ok(loc)
+            }
+            Err(failed) => {
+                self.attempt = Some(Attempt::Computed(failed.value));
+                Err(AllocError)
+            }
+        }
+    }
+
+    /// The attempt leaves the place, and what it reports goes on.
+    pub(crate) fn take_report(&mut self) -> Report<W>
+        requires reports { phase_of self.old ≡ Phase.Reports }
+        ensures held { self.old ≡ Some (reported result.task result.finding) }
+        ensures empty { self.new ≡ None }
+    {
+        let Some(attempt) = self.attempt.take() else {
+            unreachable!();
+        };
+        let Attempt::Reported(report) = attempt else {
+            unreachable!();
+        };
+        report
+    }
+
+    /// An attempt takes the place that is to report.
+    pub(crate) fn hold(&mut self, report: Report<W>)
+        ensures { self.new ≡ Some (reported report.task report.finding) }
+    {
+        self.attempt = Some(Attempt::Reported(report));
+    }
+}

@@ -1,0 +1,73 @@
+//! The steps of a world.
+#![tactic(auto)]
+
+use sc_core::Answer;
+use sc_ids::{ExecId, Loc};
+use sc_plan::Order;
+use sc_store::WipeAnswer;
+
+/// One step of a world: what happens, and on which executor.
+#[derive(Clone, Copy, Debug, PartialEq, Eq)]
+pub enum Step {
+    /// An executor asks for a task.
+    Take {
+        /// The executor.
+        exec: ExecId,
+    },
+    /// Its attempt reads the next block.
+    Read {
+        /// The executor.
+        exec: ExecId,
+    },
+    /// Its attempt has read all, and computes.
+    Compute {
+        /// The executor.
+        exec: ExecId,
+    },
+    /// Its attempt puts the block that it has computed.
+    Put {
+        /// The executor.
+        exec: ExecId,
+    },
+    /// Its attempt reports.
+    Post {
+        /// The executor.
+        exec: ExecId,
+    },
+    /// A report is told that was to be told later.
+    Release {
+        /// Its key.
+        key: u32,
+    },
+    /// An executor is told lost.
+    TellLost {
+        /// The executor.
+        exec: ExecId,
+    },
+    /// A store is wiped.
+    Wipe(Order),
+    /// A store lets its least recently used cached block go.
+    Evict {
+        /// The executor.
+        exec: ExecId,
+    },
+    /// The order of the fault plan that comes next is handed out, if one is due.
+    NextOrder,
+}
+
+/// What a step answers.
+#[derive(Drop)]
+pub enum Applied {
+    /// What the scheduler answered.
+    Told(Answer),
+    /// Where a block was put.
+    Put(Loc),
+    /// What the store answered to a wipe.
+    Wipe(WipeAnswer),
+    /// Which order was handed out, if one was due.
+    Ordered(Option<Order>),
+    /// It was done, and there is nothing to tell.
+    Done,
+    /// It isn't enabled, and nothing has changed.
+    NotEnabled,
+}

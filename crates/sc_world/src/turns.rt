@@ -1,0 +1,158 @@
+//! What the driver and an executor do in a turn.
+#![tactic(auto)]
+
+ghost use Rattle.std.specs.Prelude.{◌≡◌, ◌<◌, IfOk, None, OnErr, OnOk, is_some, length, true};
+ghost use Rattle.sc_core.specs.CoreData.{job_runs};
+ghost use Rattle.sc_desk.specs.Dues.{IsDueReport};
+ghost use Rattle.sc_desk.specs.Orders.{IsDueOrder};
+ghost use Rattle.sc_world.specs.Serial.{Advances, Asks, Drives, Finishes, GoesOn, IsAlone, IsLive, IsResting, Turns};
+ghost use Rattle.sc_world.specs.WorldData.{core_in, held_at};
+
+use crate::places::Phase;
+use crate::worlds::World;
+use sc_ids::ExecId;
+use sc_plan::{Order, OrderKind};
+use sc_work::Naming;
+use std::alloc::{AllocError, Global};
+
+impl<W: Naming> World<W> {
+    /// The driver does what is due before an executor asks, and answers whether anything was.
+    pub(crate) fn drive(&mut self, exec: ExecId) -> Result<bool, AllocError>
+        requires runs { job_runs (core_in self.old) ≡ true }
+        requires rests { IsResting self.old }
+        ensures drives { IfOk result (λ driven. Drives W.work exec driven self.old self.new) }
+        ensures refused { OnErr result (self.new ≡ self.old) }
+    {
+        self.is_world();
+        match self.desk.due_loss() {
+            Some(lost) => {
+                self.tell_lost(lost)?;
+                Ok(true)
+            }
+            None => self.tell_next(exec),
+        }
+    }
+
+    /// The same where no loss is due.
+    fn tell_next(&mut self, exec: ExecId) -> Result<bool, AllocError>
+        requires runs { job_runs (core_in self.old) ≡ true }
+        requires rests { IsResting self.old }
+        ensures drives { IfOk result (λ driven. Drives W.work exec driven self.old self.new) }
+        ensures refused { OnErr result (self.new ≡ self.old) }
+    {
+        self.is_world();
+        match self.desk.due_report(exec) {
+            Some(key) => {
+                self.release(key)?;
+                Ok(true)
+            }
+            None => Ok(self.order_next(exec)),
+        }
+    }
+
+    /// The same where no report is due either.
+    fn order_next(&mut self, exec: ExecId) -> bool
+        requires runs { job_runs (core_in self.old) ≡ true }
+        requires rests { IsResting self.old }
+        requires due { IsDueReport (core_in self.old) exec None }
+        ensures { Drives W.work exec result self.old self.new }
+    {
+        self.is_world();
+        match self.next_order() {
+            Some(order) => {
+                self.carry_out(order);
+                true
+            }
+            None => false,
+        }
+    }
+
+    /// An order that was handed out is carried out: a wipe, or an eviction.
+    fn carry_out(&mut self, order: Order)
+        requires runs { job_runs (core_in self.old) ≡ true }
+        requires due { IsDueOrder W.work.plan (core_in self.old).told order.kind order }
+        requires there { order.exec < length self.old.stores }
+        ensures on { GoesOn W.work self.old self.new }
+        ensures desk { self.new.desk ≡ self.old.desk }
+        ensures held { self.new.held ≡ self.old.held }
+    {
+        match order.kind {
+            OrderKind::Drop | OrderKind::Lose => {
+                let _ = self.wipe(order);
+            }
+            OrderKind::Evict => self.evict(order.exec),
+        }
+    }
+
+    /// An executor asks for a task, and its attempt goes on until it has reported.
+    pub(crate) fn run_task(&mut self, alloc: Global, exec: ExecId) -> Result<(), AllocError>
+        requires runs { job_runs (core_in self.old) ≡ true }
+        requires rests { IsResting self.old }
+        requires due { IsDueReport (core_in self.old) exec None }
+        requires live { IsLive self.old exec }
+        ensures turns { OnOk result (Turns W.work self.old self.new) }
+        ensures on { GoesOn W.work self.old self.new }
+    {
+        self.ask(alloc, exec)?;
+        self.finish(alloc, exec)
+    }
+
+    /// An executor asks for a task. It gets one, or the job ends.
+    fn ask(&mut self, alloc: Global, exec: ExecId) -> Result<(), AllocError>
+        requires runs { job_runs (core_in self.old) ≡ true }
+        requires rests { IsResting self.old }
+        requires due { IsDueReport (core_in self.old) exec None }
+        requires live { IsLive self.old exec }
+        ensures asks { OnOk result (Asks W.work exec self.old self.new) }
+        ensures refused { OnErr result (self.new ≡ self.old) }
+    {
+        self.is_world();
+        let _ = self.take(alloc, exec)?;
+        Ok(())
+    }
+
+    /// An executor's attempt goes on until it has reported.
+    fn finish(&mut self, alloc: Global, exec: ExecId) -> Result<(), AllocError>
+        requires alone { IsAlone exec self.old }
+        ensures finishes { OnOk result (Finishes W.work self.old self.new) }
+        ensures on { GoesOn W.work self.old self.new }
+    {
+        while self.is_out(exec) {
+            self.advance(alloc, exec)?;
+        }
+        Ok(())
+    }
+
+    /// An executor's attempt goes on by one step.
+    fn advance(&mut self, alloc: Global, exec: ExecId) -> Result<(), AllocError>
+        requires out { is_some (held_at self.old exec) ≡ true }
+        requires alone { IsAlone exec self.old }
+        ensures advances { OnOk result (Advances W.work exec self.old self.new) }
+        ensures refused { OnErr result (self.new ≡ self.old) }
+    {
+        self.is_world();
+        match self.phase(exec) {
+            Phase::Idle => unreachable!(),
+            Phase::Reads => self.read(exec),
+            Phase::Computes => self.compute(alloc, exec),
+            Phase::Puts => {
+                self.put(exec)?;
+                Ok(())
+            }
+            Phase::Reports => {
+                let _ = self.post(exec)?;
+                Ok(())
+            }
+        }
+    }
+
+    /// Whether an executor has an attempt out.
+    fn is_out(&self, exec: ExecId) -> bool
+        ensures { result ≡ is_some (held_at self.now exec) }
+    {
+        match self.held.get(exec as usize) {
+            Some(place) => place.is_taken(),
+            None => false,
+        }
+    }
+}
