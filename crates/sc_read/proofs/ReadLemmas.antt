@@ -1,9 +1,8 @@
 -- The inputs that were taken so far, one more of them, and why the reading stops.
-use Rattle.std.proofs.Common.{◌≡◌, ◌∙◌, ℕ, ◌+◌, ◌<◌, ◌≤◌, List, [], ◌∷◌, ◌++◌, length, map, take, get_or, refl, ap, sym, subst, arith, Option, Some, None, inl, inr, length-append, append_assoc}
+use Rattle.std.proofs.Common.{◌≡◌, ◌∙◌, ℕ, ◌+◌, ◌<◌, List, [], ◌∷◌, ◌++◌, length, map, take, get_or, refl, ap, sym, subst, arith, Option, Some, None, inl, inr, length-append, append_assoc}
 use Rattle.std.proofs.lemmas.List.{append-nil, map_push, take_more}
 use Rattle.std.proofs.lemmas.Option.{slice_get_within, slice_get_read, get_or_from_slice_get}
 use Rattle.std.specs.List.{slice_get}
-use Rattle.std.specs.Option.{option_map}
 use Rattle.std.specs.Prelude.{Err}
 use Rattle.sc_base.specs.Counts.{Rose}
 use Rattle.sc_base.specs.declared.refusals.OrMemory.{OrMemory}
@@ -11,14 +10,15 @@ use Rattle.sc_base.specs.declared.refusals.OrMemory.TheVariants.{Fault, OutOfMem
 use Rattle.sc_base.specs.Outside.{Files, SourceState, HasAsked, IsQuietSource, IsLaterSource, with_more}
 use Rattle.sc_ids.specs.declared.limits.Limits.{Limits}
 use Rattle.sc_lineage.specs.ScriptData.{ScriptData, input_names, name_of_input, AreTexts}
+use Rattle.sc_plan.specs.declared.lines.PlanLine.{PlanLine}
 use Rattle.sc_read.specs.declared.reads.Read.{Read}
 use Rattle.sc_read.specs.declared.stops.InputStop.{InputStop}
 use Rattle.sc_read.specs.declared.stops.InputStop.TheVariants as stops
 use Rattle.sc_read.specs.declared.stops.Unreadable.{Unreadable}
 use Rattle.sc_read.specs.declared.stops.Unreadable.TheVariants.{Missing, Failed}
-use Rattle.sc_read.specs.Files.{IsUnreadable, TakesFile}
+use Rattle.sc_read.specs.Files.{IsUnreadable}
 use Rattle.sc_read.specs.Inputs.{StopsAtFile, StopsAtText, TakesAsInput, TakesAsWork, TakesInput, TakesInputs}
-use Rattle.sc_read.specs.Reads.{input_read, IsMissing, IsShown, AreShown, AreFirstInputs}
+use Rattle.sc_read.specs.Reads.{input_read, IsMissing, IsShown, AreShown}
 
 -- more behind more
 pub with_more-append : {A : Type 0} (shown : Option (List A)) (xs ys : List A)
@@ -135,14 +135,14 @@ module _ (script : ScriptData) (start : SourceState) (before : List Read) where
       (subst (λ faults. Rose faults later.faults) quiet.faults why.0, why.1 ∙ quiet.misses)
 
   -- why the next input wasn't taken is why the inputs weren't
-  pub stops-taking : (limits : Limits) (source later : SourceState) (now after : List Read)
-      (inputs : Files) (name : List ℕ) (error : OrMemory InputStop)
+  pub stops-taking : (plan : List PlanLine) (limits : Limits) (source later : SourceState)
+      (now after : List Read) (inputs : Files) (name : List ℕ) (error : OrMemory InputStop)
       → TakesInputs script start source before now inputs → IsLaterSource start source
       → AreTexts inputs → slice_get (input_names script) (length inputs) ≡ Some name
       → TakesAsInput source later name now after (Err error)
-      → TakesAsWork script limits start later before after (Err error)
-  stops-taking limits source later now after inputs name (Fault (stops.Unreadable n why)) so_far
-      was texts next x =
+      → TakesAsWork script plan limits start later before after (Err error)
+  stops-taking plan limits source later now after inputs name (Fault (stops.Unreadable n why))
+      so_far was texts next x =
       subst (λ m. StopsAtFile script start later before after m why) (sym x.0) (record {
         inputs = inputs;
         first = so_far.first;
@@ -152,8 +152,8 @@ module _ (script : ScriptData) (start : SourceState) (before : List Read) where
             x.2.asked;
         cause = unreadable-since source later name why was so_far.quiet x.2.cause;
       })
-  stops-taking limits source later now after inputs name (Fault (stops.NotText n)) so_far was
-      texts next x =
+  stops-taking plan limits source later now after inputs name (Fault (stops.NotText n)) so_far
+      was texts next x =
       subst (λ m. StopsAtText script start later before after m) (sym x.0) (record {
         inputs = inputs;
         bytes = x.1.0;
@@ -161,13 +161,13 @@ module _ (script : ScriptData) (start : SourceState) (before : List Read) where
         taken = one-taken source later now after inputs name x.1.0 so_far was next x.1.1;
         no_text = x.1.2;
       })
-  stops-taking limits source later now after inputs name OutOfMemory so_far was texts next
+  stops-taking plan limits source later now after inputs name OutOfMemory so_far was texts next
       (inl x) = (
         inputs,
         subst (λ s. TakesInputs script start s before after inputs) (sym x.1)
             (subst (λ rs. TakesInputs script start source before rs inputs) (sym x.0) so_far),
       )
-  stops-taking limits source later now after inputs name OutOfMemory so_far was texts next
+  stops-taking plan limits source later now after inputs name OutOfMemory so_far was texts next
       (inr x) = (
         inputs ++ (name, x.0) ∷ [],
         one-taken source later now after inputs name x.0 so_far was next x.1,

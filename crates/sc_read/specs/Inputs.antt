@@ -8,6 +8,7 @@ use Rattle.sc_ids.specs.declared.limits.Limits.{Limits}
 use Rattle.sc_lineage.specs.ScriptData.{ScriptData, input_names, name_of_input, AreTexts}
 use Rattle.sc_lineage.specs.declared.inputs.Input.{Input}
 use Rattle.sc_lineage.specs.declared.works.Work.{Work}
+use Rattle.sc_plan.specs.declared.lines.PlanLine.{PlanLine}
 use Rattle.sc_read.specs.declared.reads.Read.{Read}
 use Rattle.sc_read.specs.declared.stops.InputStop.{InputStop}
 use Rattle.sc_read.specs.declared.stops.InputStop.TheVariants as stops
@@ -75,16 +76,17 @@ TakesAsInput before after name reads reads' (Err OutOfMemory) =
     ((reads' ≡ reads) × (after ≡ before))
     ⊎ ((bytes : List ℕ) × TakesInput before after name reads reads' bytes)
 
--- what the reading of a script's inputs under limits answers, by what it has then kept
+-- what the reading of a script's inputs under a plan and limits answers, by what it has then kept
 abbrev pub TakesAsWork :
-    ScriptData → Limits → SourceState → SourceState → List Read → List Read
+    ScriptData → List PlanLine → Limits → SourceState → SourceState → List Read → List Read
     → Result Work (OrMemory InputStop) → Type 0
-TakesAsWork script limits before after reads reads' (Ok work) =
-    (work.script ≡ script) × (work.plan ≡ []) × (work.limits ≡ limits)
+TakesAsWork script plan limits before after reads reads' (Ok work) =
+    (work.script ≡ script) × (work.plan ≡ plan) × (work.limits ≡ limits)
     × TakesInputs script before after reads reads' work.inputs
-TakesAsWork script limits before after reads reads' (Err (Fault (stops.Unreadable name why))) =
+TakesAsWork script plan limits before after reads reads'
+    (Err (Fault (stops.Unreadable name why))) =
     StopsAtFile script before after reads reads' name why
-TakesAsWork script limits before after reads reads' (Err (Fault (stops.NotText name))) =
+TakesAsWork script plan limits before after reads reads' (Err (Fault (stops.NotText name))) =
     StopsAtText script before after reads reads' name
-TakesAsWork script limits before after reads reads' (Err OutOfMemory) =
+TakesAsWork script plan limits before after reads reads' (Err OutOfMemory) =
     (inputs : Files) × TakesInputs script before after reads reads' inputs

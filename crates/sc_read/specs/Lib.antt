@@ -2,4 +2,5 @@ pub mod Naming
 pub mod Reads
 pub mod Files
 pub mod Scripts
+pub mod Plans
 pub mod Inputs

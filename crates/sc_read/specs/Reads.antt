@@ -1,5 +1,5 @@
 -- What was read, in order.
-use Rattle.std.specs.Prelude.{ℕ, ◌≡◌, List, [], ◌∷◌, length, map, take, Option, Some, None, IfSome}
+use Rattle.std.specs.Prelude.{ℕ, ◌≡◌, List, [], ◌∷◌, ◌++◌, length, map, take, Option, Some, None, IfSome, unwrap_or}
 use Rattle.sc_base.specs.Lists.{content_of}
 use Rattle.sc_base.specs.Outside.{Files}
 use Rattle.sc_lineage.specs.ScriptData.{ScriptData, input_names, name_of_input}
@@ -11,6 +11,8 @@ use Rattle.sc_read.specs.declared.reads.Read.{Read}
 pub record Taken : Type 0 where
   -- the script's bytes
   pub script : List ℕ
+  -- the plan's bytes, where a plan was read
+  pub plan : Option (List ℕ)
   -- the inputs, each under its name
   pub inputs : Files
 
@@ -18,22 +20,33 @@ pub record Taken : Type 0 where
 abbrev pub script_read : List ℕ → Read
 script_read bytes = record { role = roles.Script; bytes = bytes }
 
+-- these bytes, read as the plan
+abbrev pub plan_read : List ℕ → Read
+plan_read bytes = record { role = roles.Plan; bytes = bytes }
+
+-- the plan, read, where it was
+abbrev pub plan_reads : Option (List ℕ) → List Read
+plan_reads None = []
+plan_reads (Some bytes) = plan_read bytes ∷ []
+
 -- an input, read
 abbrev pub input_read : List ℕ × List ℕ → Read
 input_read input = record { role = roles.Input input.0; bytes = input.1 }
 
 -- what was taken, as a list of reads in their order
 abbrev pub reads_of : Taken → List Read
-reads_of taken = script_read taken.script ∷ map input_read taken.inputs
+reads_of taken =
+    script_read taken.script ∷ (plan_reads taken.plan ++ map input_read taken.inputs)
 
--- the name that was asked for in a role, where the script is named by this word
-abbrev pub name_of_role : List ℕ → Role → List ℕ
-name_of_role word roles.Script = word
-name_of_role word (roles.Input name) = name
+-- the name that was asked for in a role, where script and plan are named by these words
+abbrev pub name_of_role : List ℕ → Option (List ℕ) → Role → List ℕ
+name_of_role script plan roles.Script = script
+name_of_role script plan roles.Plan = unwrap_or plan []
+name_of_role script plan (roles.Input name) = name
 
 -- the names of reads, in order
-abbrev pub names_of_reads : List ℕ → List Read → List (List ℕ)
-names_of_reads word reads = map (λ read. name_of_role word read.role) reads
+abbrev pub names_of_reads : List ℕ → Option (List ℕ) → List Read → List (List ℕ)
+names_of_reads script plan reads = map (λ read. name_of_role script plan read.role) reads
 
 -- where a source shows its files, it has these bytes under the name
 abbrev pub IsShown : Option Files → List ℕ → List ℕ → Type 0

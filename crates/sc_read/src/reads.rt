@@ -8,6 +8,8 @@ use sc_value::{Name, Octets};
 pub enum Role {
     /// The script.
     Script,
+    /// The fault plan.
+    Plan,
     /// The input of this name.
     Input(Name),
 }

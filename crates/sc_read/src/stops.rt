@@ -1,6 +1,7 @@
 //! Why a reading stopped.
 #![tactic(auto)]
 
+use sc_plan::PlanFault;
 use sc_script::ScriptFault;
 use sc_value::Name;
 
@@ -20,6 +21,20 @@ pub enum ScriptStop {
     Unreadable(Unreadable),
     /// Its bytes have this fault.
     Faulty(ScriptFault),
+}
+
+/// Why there is no plan.
+#[derive(Drop)]
+pub enum PlanStop {
+    /// Its file gave no bytes.
+    Unreadable {
+        /// Its name.
+        name: Name,
+        /// Why it gave none.
+        why: Unreadable,
+    },
+    /// Its bytes have this fault.
+    Faulty(PlanFault),
 }
 
 /// Why an input wasn't taken.

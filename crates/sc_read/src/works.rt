@@ -3,6 +3,7 @@
 
 ghost use Rattle.sc_base.specs.Outside.{IsLaterSource};
 ghost use Rattle.sc_ids.specs.LimitRanges.{AreLimits};
+ghost use Rattle.sc_plan.specs.PlanLines.{AreBelow};
 ghost use Rattle.sc_read.specs.Inputs.{TakesAsWork};
 
 use crate::inputs::read_input;
@@ -17,8 +18,8 @@ use sc_plan::Plan;
 use std::alloc::Global;
 
 /// A script with its inputs, each of which is asked for once, in the order in which the script
-/// names them first, under these limits. What was read is kept behind what was kept before. No
-/// fault is planned.
+/// names them first, under this plan and these limits. What was read is kept behind what was kept
+/// before.
 ///
 /// # Errors
 ///
@@ -27,12 +28,14 @@ pub fn read_work<S: Source>(
     alloc: Global,
     source: &mut S,
     script: Script,
+    plan: Plan,
     limits: Limits,
     reads: &mut Vec<Read>,
 ) -> Result<Work, OrMemory<InputStop>>
-    requires { AreLimits limits }
+    requires limits { AreLimits limits }
+    requires plan { AreBelow limits.executors plan }
     ensures later { IsLaterSource (S.state source.old) (S.state source.new) }
-    ensures work { TakesAsWork script limits (S.state source.old) (S.state source.new)
+    ensures work { TakesAsWork script plan limits (S.state source.old) (S.state source.new)
         reads.old.items reads.new.items result }
 {
     let names = names_of(alloc, &script)?;
@@ -40,5 +43,5 @@ pub fn read_work<S: Source>(
     for name in &names {
         inputs.push(read_input(alloc, source, name, reads)?)?;
     }
-    Ok(Work::new(script, inputs, Plan::empty(alloc), limits))
+    Ok(Work::new(script, inputs, plan, limits))
 }

@@ -1,8 +1,6 @@
-use Rattle.std.proofs.Common.{◌+◌, ◌∙◌, ap, ℕ, length, length-append, [], ◌∷◌, ◌++◌, subst, sym}
+use Rattle.std.proofs.Common.{◌+◌, ◌∙◌, ap, ℕ, length, length-append, [], ◌∷◌, ◌++◌}
 use Rattle.std.proofs.lemmas.Result.{err_from_is_err_and}
-use Rattle.sc_lineage.specs.ScriptData.{AreTexts}
 use Rattle.sc_lineage.proofs.SoundLemmas.{AreTexts-append}
-use Rattle.sc_read.specs.Inputs.{TakesInputs}
 use Rattle.sc_read.proofs.ReadLemmas.{input-taken, later-more, next-name, stops-taking}
 use Rattle.sc_read.proofs.works.read_work.Goals as goal
 
@@ -15,7 +13,7 @@ returns-in_err-read_input-clause-work g c =
     (c.deref-name-items.ensures.value ∙ c.in_ok-names.ensures) c.loop-name-test.true
     c.name-item.is c.loop-name.invariant.count in
     rw (p.1, p.2) (stops-taking c.args.script (g.S.Source.state c.args.source.now)
-    c.args.reads.now.items c.args.limits (g.S.Source.state c.loop-name.source)
+    c.args.reads.now.items c.args.plan c.args.limits (g.S.Source.state c.loop-name.source)
     (g.S.Source.state c.read_input.new.source) c.loop-name.reads.items
     c.read_input.new.reads.items c.loop-name.inputs.items c.name-item.result
     c.in_err-read_input.field-0.0 c.loop-name.invariant.taken c.loop-name.invariant.later
