@@ -1,5 +1,5 @@
 -- A script's name alone.
-use Rattle.std.proofs.Common.{◌≡◌, ◌==◌, ℕ, List, [], ◌∷◌, Some, None, false, refl, codes}
+use Rattle.std.proofs.Common.{◌≡◌, ◌==◌, ℕ, [], ◌∷◌, Some, None, false, refl, codes}
 use Rattle.clap.proofs.OnLiterals.{clap_on_literals}
 use Rattle.std.proofs.lemmas.Bool.{ne_eqb}
 use Rattle.std.specs.Str.{bytes_eq}
@@ -11,7 +11,7 @@ use Rattle.sc_words.specs.Words.{NamesAreCommands, command_of}
 -- `run` and a name that doesn't begin with `-` (45) ask for its run with no option set
 plain_run : (c : ℕ) (cs : Text) → (c == 45) ≡ false
     → command_of (codes "run" ∷ (c ∷ cs) ∷ [])
-    ≡ Some (record { script = c ∷ cs; limits = default_limits })
+    ≡ Some (record { script = c ∷ cs; plan = None; limits = default_limits })
 unfolding command_of clap_on_literals
 plain_run c cs e =
     let dashes : bytes_eq (c ∷ cs) (45 ∷ 45 ∷ []) ≡ false = rw e refl in
@@ -21,7 +21,7 @@ plain_run c cs e =
 
 -- and so do `run` and the empty name
 empty_run : command_of (codes "run" ∷ [] ∷ [])
-    ≡ Some (record { script = []; limits = default_limits })
+    ≡ Some (record { script = []; plan = None; limits = default_limits })
 unfolding command_of clap_on_literals
 empty_run = refl
 

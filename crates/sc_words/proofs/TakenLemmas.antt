@@ -1,5 +1,5 @@
 -- Which words `clap` takes, and what they name.
-use Rattle.std.proofs.Common.{◌≡◌, ◌≢◌, ◌∙◌, ap, Bool, true, false, refl, subst, sym, List, [], ◌∷◌, Option, Some, None, Err, Ok, inl, inr, is_some, map}
+use Rattle.std.proofs.Common.{◌≡◌, ◌∙◌, ap, Bool, true, false, refl, subst, List, [], ◌∷◌, Option, Some, None, Err, inl, inr, is_some}
 use Rattle.std.specs.Option.{option_map}
 use Rattle.clap.specs.Faults.{check_fault, defaults_fault, fault_of, settle_fault, walk_fault, is_simple_and_free, level_fault}
 use Rattle.clap.specs.Kinds.{HasKind, IsAmong, Kinds, or_else}

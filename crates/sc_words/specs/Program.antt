@@ -1,6 +1,6 @@
 -- The command line, as what `clap` reads of it: one subcommand with a script and options.
-use Rattle.std.specs.Prelude.{ℕ, true, false, List, [], ◌∷◌, ◌++◌, Some, codes, fold, pos}
-use Rattle.clap.specs.Words.{App, Rule, Text, new_app, new_rule, with_rule}
+use Rattle.std.specs.Prelude.{ℕ, true, false, List, [], ◌∷◌, Some, codes, pos}
+use Rattle.clap.specs.Words.{App, Rule, Text, new_app, new_rule}
 use Rattle.clap.specs.declared.builder.value_parser.ValueParser.TheVariants as parsers
 
 -- the script's name, which has to be there
@@ -25,6 +25,8 @@ run_rules =
     ∷ number_rule (codes "executors") 64
     ∷ number_rule (codes "task-failures") 16
     ∷ number_rule (codes "stage-attempts") 16
+    ∷ number_rule (codes "cache") 4096
+    ∷ text_rule (codes "plan")
     ∷ []
 
 -- the subcommand `run`

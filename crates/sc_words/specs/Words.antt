@@ -40,12 +40,14 @@ limits_at rows = record default_limits {
   executors = number_at (codes "executors") 64 rows default_limits.executors;
   task_failures = number_at (codes "task-failures") 16 rows default_limits.task_failures;
   stage_attempts = number_at (codes "stage-attempts") 16 rows default_limits.stage_attempts;
+  cache = number_at (codes "cache") 4096 rows default_limits.cache;
 }
 
 -- the command of what `clap` found for `run`
 abbrev pub command_at : List Row → Command
 command_at rows = record {
   script = unwrap_or (first_of (codes "SCRIPT") rows) [];
+  plan = first_of (codes "plan") rows;
   limits = limits_at rows;
 }
 
@@ -88,4 +90,4 @@ abbrev pub NamesAreCommands : Type 0
 NamesAreCommands =
     (name : Text) → IsPlainName name
     → command_of (codes "run" ∷ name ∷ [])
-    ≡ Some (record { script = name; limits = default_limits })
+    ≡ Some (record { script = name; plan = None; limits = default_limits })

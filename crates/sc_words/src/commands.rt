@@ -9,6 +9,8 @@ use sc_value::Name;
 pub struct Command {
     /// The name of the script.
     pub script: Name,
+    /// The name of the fault plan, where there is one.
+    pub plan: Option<Name>,
     /// The limits of the run.
     pub limits: Limits,
 }

@@ -30,7 +30,9 @@ fn run_command<'a>(alloc: Global) -> Result<Command<'a>, AllocError>
         .arg(script)?
         .arg(number_option(alloc, "executors", 64))?
         .arg(number_option(alloc, "task-failures", 16))?
-        .arg(number_option(alloc, "stage-attempts", 16))
+        .arg(number_option(alloc, "stage-attempts", 16))?
+        .arg(number_option(alloc, "cache", 4096))?
+        .arg(text_option(alloc, "plan"))
 }
 
 /// An option that takes a whole number from 1 to `most`.

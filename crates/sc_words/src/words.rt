@@ -1,7 +1,7 @@
 //! The reading of the words.
 #![tactic(auto)]
 
-ghost use Rattle.std.specs.Prelude.{◌≡◌, IfOk, map};
+ghost use Rattle.std.specs.Prelude.{◌≡◌, IfOk, map, option_map};
 ghost use Rattle.std.specs.String.{string_bytes};
 ghost use Rattle.clap.specs.Words.{found_of, kind_of, rows_of};
 ghost use Rattle.sc_ids.specs.LimitRanges.{AreLimits};
@@ -60,8 +60,23 @@ fn command_from(alloc: Global, run: &ArgMatches<'_>) -> Result<Command, AllocErr
     ensures limits { IfOk result (λ c. AreLimits c.limits) }
 {
     let script = Name::new(alloc, run.get_str("SCRIPT").unwrap_or(""))?;
+    let plan = name_from(alloc, run.get_str("plan"))?;
     let limits = limits_from(run);
-    Ok(Command { script, limits })
+    Ok(Command {
+        script,
+        plan,
+        limits,
+    })
+}
+
+/// The name that a text is, where there is one.
+fn name_from(alloc: Global, text: Option<&str>) -> Result<Option<Name>, AllocError>
+    ensures { IfOk result (λ name. name ≡ option_map (λ t. t.now) text.entry) }
+{
+    match text {
+        Some(text) => Ok(Some(Name::new(alloc, text)?)),
+        None => Ok(None),
+    }
 }
 
 /// The limits that the options set.
@@ -74,6 +89,7 @@ fn limits_from(run: &ArgMatches<'_>) -> Limits
         executors: number_from(run, "executors", 64, limits.executors),
         task_failures: number_from(run, "task-failures", 16, limits.task_failures),
         stage_attempts: number_from(run, "stage-attempts", 16, limits.stage_attempts),
+        cache: number_from(run, "cache", 4096, limits.cache),
         ..limits
     }
 }

@@ -1,7 +1,6 @@
-use Rattle.std.proofs.Common.{◌≡◌, ◌∙◌, ap, rules}
+use Rattle.std.proofs.Common.{◌∙◌, ap}
 use Rattle.std.proofs.lemmas.Result.{IfOk-weaker}
 use Rattle.clap.specs.Simple.{Shape, app_of_fields, on_top}
-use Rattle.clap.specs.Words.{App, app_of}
 use Rattle.std.specs.Prelude.{true}
 use Rattle.sc_words.proofs.ProgramLemmas.{adds_subcommand}
 use Rattle.sc_words.proofs.program.program.Goals as goal

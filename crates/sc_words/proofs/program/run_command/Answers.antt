@@ -14,9 +14,13 @@ returns-clause-app c =
     c.number_option.ensures.rule in
     let three = adds_rule _ _ _ _ _ c.in_ok-arg-3.ensures c.number_option-2.ensures.local two
     c.number_option-2.ensures.rule in
-    IfOk-weaker c.arg-4.result _ _
-    (λ m added. adds_rule _ _ _ _ _ added c.number_option-3.ensures.local three
-    c.number_option-3.ensures.rule) c.arg-4.ensures
+    let four = adds_rule _ _ _ _ _ c.in_ok-arg-4.ensures c.number_option-3.ensures.local three
+    c.number_option-3.ensures.rule in
+    let five = adds_rule _ _ _ _ _ c.in_ok-arg-5.ensures c.number_option-4.ensures.local four
+    c.number_option-4.ensures.rule in
+    IfOk-weaker c.arg-6.result _ _
+    (λ m added. adds_rule _ _ _ _ _ added c.text_option.ensures.local five
+    c.text_option.ensures.rule) c.arg-6.ensures
 
 pub returns-clause-local : goal.returns-clause-local
 returns-clause-local c =
@@ -24,5 +28,7 @@ returns-clause-local c =
     let one = stays_local _ _ _ c.in_ok-arg.ensures local c.new-2.ensures.local in
     let two = stays_local _ _ _ c.in_ok-arg-2.ensures c.number_option.ensures.local one in
     let three = stays_local _ _ _ c.in_ok-arg-3.ensures c.number_option-2.ensures.local two in
-    IfOk-weaker c.arg-4.result _ _
-    (λ m added. stays_local _ _ _ added c.number_option-3.ensures.local three) c.arg-4.ensures
+    let four = stays_local _ _ _ c.in_ok-arg-4.ensures c.number_option-3.ensures.local three in
+    let five = stays_local _ _ _ c.in_ok-arg-5.ensures c.number_option-4.ensures.local four in
+    IfOk-weaker c.arg-6.result _ _
+    (λ m added. stays_local _ _ _ added c.text_option.ensures.local five) c.arg-6.ensures

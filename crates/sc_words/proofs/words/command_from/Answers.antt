@@ -15,7 +15,10 @@ returns-clause-command c =
     ∙ text_or_empty c.get_str.result _ refl
     ∙ ap (λ (o : Option (List ℕ)). unwrap_or o [])
     (c.get_str.ensures ∙ first_value-rows found (codes "SCRIPT")) in
+    let plan : c.in_ok-plan.plan ≡ first_of (codes "plan") rows =
+    c.in_ok-plan.ensures ∙ c.get_str-2.ensures ∙ first_value-rows found (codes "plan") in
     λ i. record {
       script = script i;
+      plan = plan i;
       limits = c.limits_from-limits.ensures.limits i;
     }
