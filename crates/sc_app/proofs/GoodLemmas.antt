@@ -1,12 +1,11 @@
 -- With nothing to refuse a run ends well.
-use Rattle.std.proofs.Common.{◌≡◌, ◌∙◌, ℕ, List, [], ◌∷◌, ◌++◌, length, subst, sym, ap, Option, Some, None, inl, inr, true, false}
-use Rattle.std.specs.Prelude.{◌⊎◌, Contains, slice_get}
+use Rattle.std.proofs.Common.{◌≡◌, ◌∙◌, ℕ, List, [], ◌∷◌, ◌++◌, length, subst, ap, refl, Some, None, inl, inr, true, false}
+use Rattle.std.specs.Prelude.{◌⊎◌}
 use Rattle.std.proofs.lemmas.Option.{slice_get_within, get_or_from_slice_get}
 use Rattle.sc_base.specs.Counts.{Rose}
 use Rattle.sc_base.specs.Lists.{content_of}
-use Rattle.sc_base.specs.Outside.{Files}
 use Rattle.sc_lineage.specs.ScriptData.{input_names}
-use Rattle.sc_read.specs.Reads.{IsMissing}
+use Rattle.sc_read.specs.Reads.{IsMissing, Taken}
 use Rattle.sc_app.specs.declared.ran.Status.{Status}
 use Rattle.sc_app.specs.declared.ran.Status.TheVariants as statuses
 use Rattle.sc_app.specs.Ends.{Ends}
@@ -21,23 +20,32 @@ there run name all (inl next) missing =
     let gone : content_of all.files name ≡ None =
     subst (λ shown. IsMissing shown name) all.shown missing in
     all.script next.1.0 next.1.1 (ap (content_of all.files) next.1.2 ∙ gone)
-there run name all (inr next) missing =
+there run name all (inr (inl next)) missing =
+    let gone : content_of all.files name ≡ None =
+    subst (λ shown. IsMissing shown name) all.shown missing in
+    all.plan next.command name next.is_command next.named gone
+there run name all (inr (inr next)) missing =
     let gone : content_of all.files name ≡ None =
     subst (λ shown. IsMissing shown name) all.shown missing in
     let names = input_names next.0 in
-    let at = length next.1 in
-    all.inputs (record { script = next.2.bytes; inputs = next.1 }) next.0 name next.2.is
-    next.2.is_script (
+    let at = length next.2 in
+    let taken : Taken =
+    record { script = next.3.bytes; plan = next.3.plan_bytes; inputs = next.2 } in
+    all.inputs taken next.0 name next.3.is next.3.is_script (
       at,
-      slice_get_within names at name next.3.next,
-      get_or_from_slice_get names at name name next.3.next,
+      slice_get_within names at name next.4.next,
+      get_or_from_slice_get names at name name next.4.next,
     ) gone
 
 pub ends_well : (run : RunData) (status : Status) → Ends run status → IsGood run → EndsWell status
 ends_well run statuses.Done ends good = tt
 ends_well run statuses.Usage ends good = good.command ends.no_command
 ends_well run (statuses.Script fault) ends good =
-    good.script (record { script = ends.bytes; inputs = [] }) fault ends.is ends.faults
+    good.script (record { script = ends.bytes; plan = None; inputs = [] }) fault ends.is ends.faults
+ends_well run (statuses.Plan fault) ends good =
+    let taken : Taken =
+    record { script = ends.bytes; plan = Some ends.plan_bytes; inputs = [] } in
+    good.plan ends.command taken ends.plan_bytes fault ends.is_command ends.is refl ends.faults
 ends_well run (statuses.Input name true) ends good = by_there good.there
   where
     by_there : (Rose run.before.source.misses run.after.source.misses → ⊥) ⊎ AreAllThere run → ⊥
@@ -52,7 +60,6 @@ ends_well run (statuses.NotText name) ends good =
     ends.no_text (AreTexts-last ends.inputs name ends.bytes
     (good.texts (record {
       script = ends.read.bytes;
-      inputs =
-          ends.inputs ++ (name, ends.bytes) ∷ [];
-    })
-    ends.read.is))
+      plan = ends.read.plan_bytes;
+      inputs = ends.inputs ++ (name, ends.bytes) ∷ [];
+    }) ends.read.is))

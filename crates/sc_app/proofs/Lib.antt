@@ -1,6 +1,10 @@
+pub mod AskedLemmas
+pub mod BegunLemmas
 pub mod ExactlyLemmas
 pub mod GoodLemmas
 pub mod PieceLemmas
+pub mod PlanLemmas
 pub mod ReadingLemmas
 pub mod RunLemmas
 pub mod TextLemmas
+pub mod WithoutTextLemmas

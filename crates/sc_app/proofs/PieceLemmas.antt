@@ -1,12 +1,12 @@
 -- The pieces that a sink took, put together.
-use Rattle.std.proofs.Common.{◌≡◌, ◌∙◌, ℕ, List, [], ◌∷◌, ◌++◌, length, map, take, refl, ap, sym, Option, Some, None}
+use Rattle.std.proofs.Common.{◌≡◌, ◌∙◌, ℕ, List, [], ◌∷◌, ◌++◌, length, take, refl, ap, Option, Some, None}
 use Rattle.std.specs.List.{concat, cons_option, filter_map, flat_map}
 use Rattle.std.specs.Option.{option_map}
 use Rattle.std.specs.Prelude.{unwrap_or}
 use Rattle.std.proofs.lemmas.List.Folds.{concat-append}
 use Rattle.sc_base.specs.Outside.{SinkState, bytes_taken, with_more}
 use Rattle.sc_lineage.specs.Actions.{action_text, printed_by, some_text, texts_by}
-use Rattle.sc_lineage.specs.ScriptData.{ActionData, WorkData}
+use Rattle.sc_lineage.specs.ScriptData.{WorkData}
 use Rattle.sc_print.specs.Printing.{PrintsAll}
 
 -- texts, of which the empty ones are left out, give the same bytes

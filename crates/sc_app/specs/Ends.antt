@@ -1,18 +1,21 @@
 -- How a run ends: each status with its cause, and with what stands then.
-use Rattle.std.specs.Prelude.{ℕ, ◌≡◌, ◌⊎◌, ◌↔◌, Bool, true, false, List, [], ◌∷◌, ◌++◌, length, Some, None}
+use Rattle.std.specs.Prelude.{ℕ, ◌≡◌, ◌⊎◌, Bool, true, false, List, [], ◌∷◌, ◌++◌, length, Some, None}
 use Rattle.std.specs.Str.{IsUtf8}
 use Rattle.sc_base.specs.Outside.{Files, Outside, bytes_taken, with_more, IsQuietSource}
 use Rattle.sc_lineage.specs.Actions.{printed_by}
 use Rattle.sc_lineage.specs.ScriptData.{ScriptData, WorkData}
 use Rattle.sc_lineage.specs.declared.nodes.DriverFault.{DriverFault}
+use Rattle.sc_plan.specs.Plans.{FaultsPlan}
+use Rattle.sc_plan.specs.declared.faults.PlanFault.{PlanFault}
+use Rattle.sc_plan.specs.declared.lines.PlanLine.{PlanLine}
 use Rattle.sc_print.specs.Printing.{PrintsAll, HasPrinted, StopsAtRaise, StopsAtDriver, StopsAtWrite}
 use Rattle.sc_read.specs.Files.{IsUnreadable}
 use Rattle.sc_read.specs.Inputs.{IsNextInput}
-use Rattle.sc_read.specs.Reads.{script_read}
+use Rattle.sc_read.specs.Reads.{plan_read, script_read}
 use Rattle.sc_read.specs.declared.reads.Read.{Read}
 use Rattle.sc_read.specs.declared.stops.Unreadable.{Unreadable}
 use Rattle.sc_read.specs.declared.stops.Unreadable.TheVariants.{Missing, Failed}
-use Rattle.sc_script.specs.Scripts.{FaultsScript}
+use Rattle.sc_script.specs.Scripts.{FaultsScript, ReadsScript}
 use Rattle.sc_script.specs.declared.faults.ScriptFault.{ScriptFault}
 use Rattle.sc_app.specs.declared.ran.Status.{Status}
 use Rattle.sc_app.specs.declared.ran.Status.TheVariants as statuses
@@ -29,7 +32,7 @@ NothingWritten run = run.after.sink ≡ run.before.sink
 abbrev pub NothingMissed : RunData → Type 0
 NothingMissed run = IsQuietSource run.before.source run.after.source
 
--- a script and its inputs were read, and the sink got the text of its sequential meaning
+-- a script, its plan and its inputs were read, and the sink got the text of its sequential meaning
 pub record PrintsMeaning (run : RunData) : Type 0 where
   pub work : WorkData
   pub read : HasReadWork run.words run.reads work
@@ -55,6 +58,19 @@ pub record EndsForScript (run : RunData) (fault : ScriptFault) : Type 0 where
   pub quiet : NothingMissed run
   pub nothing_written : NothingWritten run
 
+-- the bytes read as the plan, behind a script without a fault, have this fault
+pub record EndsForPlan (run : RunData) (fault : PlanFault) : Type 0 where
+  pub command : Command
+  pub bytes : List ℕ
+  pub script : ScriptData
+  pub plan_bytes : List ℕ
+  pub is_command : command_of run.words ≡ Some command
+  pub is : run.reads ≡ script_read bytes ∷ plan_read plan_bytes ∷ []
+  pub is_script : ReadsScript bytes script
+  pub faults : FaultsPlan command.limits.executors plan_bytes fault
+  pub quiet : NothingMissed run
+  pub nothing_written : NothingWritten run
+
 -- why a name gave no bytes, as the status tells it
 abbrev pub why_of : Bool → Unreadable
 why_of true = Missing
@@ -69,9 +85,10 @@ pub record EndsForInput (run : RunData) (name : List ℕ) (missing : Bool) : Typ
 -- the input read last isn't text, and those before it are
 pub record EndsForText (run : RunData) (name : List ℕ) : Type 0 where
   pub script : ScriptData
+  pub plan : List PlanLine
   pub inputs : Files
   pub bytes : List ℕ
-  pub read : HasRead run.reads script (inputs ++ (name, bytes) ∷ [])
+  pub read : HasRead run.words run.reads script plan (inputs ++ (name, bytes) ∷ [])
   pub is_next : IsNextInput script inputs name
   pub no_text : IsUtf8 bytes → ⊥
   pub quiet : NothingMissed run
@@ -111,6 +128,7 @@ abbrev pub Ends : RunData → Status → Type 0
 Ends run statuses.Done = PrintsMeaning run
 Ends run statuses.Usage = EndsForUsage run
 Ends run (statuses.Script fault) = EndsForScript run fault
+Ends run (statuses.Plan fault) = EndsForPlan run fault
 Ends run (statuses.Input name missing) = EndsForInput run name missing
 Ends run (statuses.TaskLimit k attempt partition) = EndsForRaise run k attempt partition
 Ends run (statuses.DriverFault k fault) = EndsForDriver run k fault

@@ -5,6 +5,8 @@ use Rattle.std.specs.Str.{IsUtf8}
 use Rattle.sc_lineage.specs.Actions.{action_outcome, faults, never, HasText}
 use Rattle.sc_lineage.specs.ScriptData.{ActionData, WorkData}
 use Rattle.sc_lineage.specs.declared.nodes.DriverFault.{DriverFault}
+use Rattle.sc_plan.specs.Plans.{FaultsPlan}
+use Rattle.sc_plan.specs.declared.faults.PlanFault.{PlanFault}
 use Rattle.sc_read.specs.declared.reads.Read.{Read}
 use Rattle.sc_read.specs.Reads.{Taken, reads_of}
 use Rattle.sc_script.specs.declared.faults.ScriptFault.{ScriptFault}
@@ -12,7 +14,8 @@ use Rattle.sc_script.specs.Scripts.{FaultsScript}
 use Rattle.sc_app.specs.declared.ran.Status.{Status}
 use Rattle.sc_app.specs.declared.ran.Status.TheVariants as statuses
 use Rattle.sc_app.specs.Runs.{HasReadWork}
-use Rattle.sc_words.specs.Words.{AreTaken}
+use Rattle.sc_words.specs.Words.{AreTaken, command_of}
+use Rattle.sc_words.specs.declared.commands.Command.{Command}
 
 -- the status is this one, unless memory ran out
 abbrev pub IsUnlessMemory : Status → Status → Type 0
@@ -32,6 +35,14 @@ abbrev pub TellsFault : List Read → Status → Type 0
 TellsFault reads status = (taken : Taken) (fault : ScriptFault)
     → reads ≡ reads_of taken → FaultsScript taken.script fault
     → IsUnlessMemory (statuses.Script fault) status
+
+-- if the bytes read as the plan have a fault, the status is that fault
+abbrev pub TellsPlanFault : List (List ℕ) → List Read → Status → Type 0
+TellsPlanFault words reads status =
+    (command : Command) (taken : Taken) (bytes : List ℕ) (fault : PlanFault)
+    → command_of words ≡ Some command → reads ≡ reads_of taken → taken.plan ≡ Some bytes
+    → FaultsPlan command.limits.executors bytes fault
+    → IsUnlessMemory (statuses.Plan fault) status
 
 -- if an input that was read isn't text, the status has its name
 abbrev pub TellsNotText : List Read → Status → Type 0

@@ -3,13 +3,15 @@ use Rattle.std.specs.Prelude.{ℕ, Bool, true, false, List, [], ◌++◌, codes}
 use Rattle.std.specs.Fmt.{decimal}
 use Rattle.sc_script.specs.declared.faults.FaultKind.{FaultKind}
 use Rattle.sc_script.specs.declared.faults.FaultKind.TheVariants as kinds
+use Rattle.sc_plan.specs.declared.faults.PlanFaultKind.{PlanFaultKind}
+use Rattle.sc_plan.specs.declared.faults.PlanFaultKind.TheVariants as plan_kinds
 use Rattle.sc_expr.specs.declared.exprs.Raise.{Raise}
 use Rattle.sc_expr.specs.declared.exprs.Raise.TheVariants as raises
 use Rattle.sc_lineage.specs.declared.nodes.DriverFault.{DriverFault}
 use Rattle.sc_lineage.specs.declared.nodes.DriverFault.TheVariants as causes
 use Rattle.sc_app.specs.declared.ran.Status.{Status}
 use Rattle.sc_app.specs.declared.ran.Status.TheVariants as statuses
-use Rattle.sc_app.specs.declared.ran.Status.TheVariants.{Done, Usage, Script, Input, TaskLimit, WriteFault, OutOfMemory, NotText}
+use Rattle.sc_app.specs.declared.ran.Status.TheVariants.{Done, Usage, Script, Plan, Input, TaskLimit, WriteFault, OutOfMemory, NotText}
 
 -- the name of a kind of fault
 abbrev pub kind_text : FaultKind → List ℕ
@@ -19,6 +21,14 @@ kind_text kinds.Syntax = codes "Syntax"
 kind_text kinds.UnknownName = codes "UnknownName"
 kind_text kinds.Twice = codes "Twice"
 kind_text kinds.IllTyped = codes "IllTyped"
+
+-- the name of a kind of fault of a plan
+abbrev pub plan_kind_text : PlanFaultKind → List ℕ
+plan_kind_text plan_kinds.NotText = codes "NotText"
+plan_kind_text plan_kinds.Limit = codes "Limit"
+plan_kind_text plan_kinds.Syntax = codes "Syntax"
+plan_kind_text plan_kinds.UnknownName = codes "UnknownName"
+plan_kind_text plan_kinds.Twice = codes "Twice"
 
 -- how a name failed
 abbrev pub missing_text : Bool → List ℕ
@@ -42,6 +52,8 @@ fault_text Done = []
 fault_text Usage = codes "usage"
 fault_text (Script fault) =
     codes "script: line " ++ decimal fault.line ++ codes ": " ++ kind_text fault.kind
+fault_text (Plan fault) =
+    codes "plan: line " ++ decimal fault.line ++ codes ": " ++ plan_kind_text fault.kind
 fault_text (Input name missing) = codes "input: " ++ name ++ codes ": " ++ missing_text missing
 fault_text (TaskLimit k attempt partition) =
     codes "task limit: stage " ++ decimal k ++ codes " attempt " ++ decimal attempt

@@ -4,6 +4,8 @@ use Rattle.sc_base.specs.Counts.{Rose}
 use Rattle.sc_base.specs.Lists.{content_of}
 use Rattle.sc_base.specs.Outside.{Files}
 use Rattle.sc_lineage.specs.ScriptData.{AreTexts, ScriptData, input_names}
+use Rattle.sc_plan.specs.Plans.{FaultsPlan}
+use Rattle.sc_plan.specs.declared.faults.PlanFault.{PlanFault}
 use Rattle.sc_read.specs.Reads.{Taken, reads_of}
 use Rattle.sc_script.specs.declared.faults.ScriptFault.{ScriptFault}
 use Rattle.sc_script.specs.Scripts.{FaultsScript, ReadsScript}
@@ -13,18 +15,21 @@ use Rattle.sc_app.specs.Runs.{RunData}
 use Rattle.sc_words.specs.Words.{command_of}
 use Rattle.sc_words.specs.declared.commands.Command.{Command}
 
--- the source shows its files, and the script and each input that it names are among them
+-- the source shows its files, and the script, the plan that is named, and each input that the
+-- script names are among them
 pub record AreAllThere (run : RunData) : Type 0 where
   pub files : Files
   pub shown : run.before.source.shown ≡ Some files
   pub script : (command : Command) → command_of run.words ≡ Some command
       → content_of files command.script ≢ None
+  pub plan : (command : Command) (name : List ℕ) → command_of run.words ≡ Some command
+      → command.plan ≡ Some name → content_of files name ≢ None
   pub inputs : (taken : Taken) (script : ScriptData) (name : List ℕ) → run.reads ≡ reads_of taken
       → ReadsScript taken.script script → Contains (input_names script) name
       → content_of files name ≢ None
 
 -- the words are a command, nothing failed outside, each named file is there, and what was read is a
--- script and texts
+-- script, a plan where one is named, and texts
 pub record IsGood (run : RunData) : Type 0 where
   pub command : command_of run.words ≢ None
   pub no_fault : Rose run.before.source.faults run.after.source.faults → ⊥
@@ -32,6 +37,9 @@ pub record IsGood (run : RunData) : Type 0 where
   pub no_write_fault : Rose run.before.sink.faults run.after.sink.faults → ⊥
   pub script : (taken : Taken) (fault : ScriptFault) → run.reads ≡ reads_of taken
       → FaultsScript taken.script fault → ⊥
+  pub plan : (command : Command) (taken : Taken) (bytes : List ℕ) (fault : PlanFault)
+      → command_of run.words ≡ Some command → run.reads ≡ reads_of taken
+      → taken.plan ≡ Some bytes → FaultsPlan command.limits.executors bytes fault → ⊥
   pub texts : (taken : Taken) → run.reads ≡ reads_of taken → AreTexts taken.inputs
 
 -- such a run is done, or memory ran out, or an action has no text, which its status tells
@@ -39,6 +47,7 @@ abbrev pub EndsWell : Status → Type 0
 EndsWell statuses.Done = Unit {0}
 EndsWell statuses.Usage = ⊥
 EndsWell (statuses.Script fault) = ⊥
+EndsWell (statuses.Plan fault) = ⊥
 EndsWell (statuses.Input name missing) = ⊥
 EndsWell (statuses.TaskLimit k attempt partition) = Unit {0}
 EndsWell (statuses.DriverFault k fault) = Unit {0}

@@ -1,12 +1,14 @@
 -- What a run was given, what it read, and what it left.
-use Rattle.std.specs.Prelude.{ℕ, ◌≡◌, ◌⊎◌, List, [], ◌∷◌, ◌++◌, length, Option, Some, None, slice_get}
+use Rattle.std.specs.Prelude.{ℕ, ◌≡◌, ◌⊎◌, List, [], ◌∷◌, ◌++◌, Option, Some, None}
 use Rattle.std.specs.Option.{option_map}
 use Rattle.sc_base.specs.Outside.{Files, Outside, HasAsked}
 use Rattle.sc_ids.specs.declared.limits.Limits.{Limits}
 use Rattle.sc_lineage.specs.ScriptData.{ScriptData, WorkData, IsSoundWork}
+use Rattle.sc_plan.specs.declared.lines.PlanLine.{PlanLine}
 use Rattle.sc_read.specs.declared.reads.Read.{Read}
 use Rattle.sc_read.specs.Inputs.{IsNextInput}
-use Rattle.sc_read.specs.Reads.{Taken, reads_of, names_of_reads, IsShown, AreFirstInputs}
+use Rattle.sc_read.specs.Plans.{IsPlanOf, IsPlanShown}
+use Rattle.sc_read.specs.Reads.{Taken, script_read, reads_of, names_of_reads, IsShown, AreFirstInputs}
 use Rattle.sc_script.specs.Scripts.{ReadsScript}
 use Rattle.sc_app.specs.declared.ran.Status.{Status}
 use Rattle.sc_app.specs.declared.ran.Status.TheVariants as statuses
@@ -28,38 +30,54 @@ abbrev pub run_of : List (List ℕ) → List Read → Outside → Outside → Ru
 run_of words reads before after =
     record { words = words; reads = reads; before = before; after = after }
 
--- the reads are those of a script and of these inputs behind it
-pub record HasRead (reads : List Read) (script : ScriptData) (inputs : Files) : Type 0 where
+-- the reads are those of a script, of the plan where the words name one, and of these inputs behind
+-- them; with no plan named the plan is the empty one
+pub record HasRead (words : List (List ℕ)) (reads : List Read) (script : ScriptData)
+    (plan : List PlanLine) (inputs : Files) : Type 0 where
+  pub command : Command
   pub bytes : List ℕ
-  pub is : reads ≡ reads_of (record { script = bytes; inputs = inputs })
+  pub plan_bytes : Option (List ℕ)
+  pub is_command : command_of words ≡ Some command
+  pub is : reads ≡ reads_of (record { script = bytes; plan = plan_bytes; inputs = inputs })
   pub is_script : ReadsScript bytes script
+  pub is_plan : IsPlanOf command.plan command.limits.executors plan_bytes plan
 
 -- the limits that words set
 abbrev pub limits_of : List (List ℕ) → Option Limits
 limits_of words = option_map (λ command. command.limits) (command_of words)
 
--- A script was read, and each input that it names, once, in order of first naming, all of them
--- text. No fault is planned, and the limits are those that the words set.
+-- A script was read, the plan where one is named, and each input that the script names, once, in
+-- order of first naming, all of them text. The limits are those that the words set.
 pub record HasReadWork (words : List (List ℕ)) (reads : List Read) (work : WorkData)
     : Type 0 where
-  pub read : HasRead reads work.script work.inputs
+  pub read : HasRead words reads work.script work.plan work.inputs
   pub sound : IsSoundWork work
-  pub plan : work.plan ≡ []
   pub limits : limits_of words ≡ Some work.limits
 
--- the script was read under its word, and behind it the first inputs that it names; where the
--- source shows its files, these are their bytes
+-- what was read behind a script: no input, or the first ones that it names, behind the plan that
+-- a command names, where it names one
+abbrev pub ReadsInputs : Command → ScriptData → Option Files → Taken → Type 0
+ReadsInputs command script shown taken =
+    (taken.inputs ≡ [])
+    ⊎ ((plan : List PlanLine)
+    × IsPlanOf command.plan command.limits.executors taken.plan plan
+    × AreFirstInputs script shown taken.inputs)
+
+-- the script was read under its word, behind it the plan under its own, where one is named, and
+-- then the first inputs that the script names; where the source shows its files, these are their
+-- bytes
 pub record ReadsInOrder (run : RunData) : Type 0 where
   pub command : Command
   pub taken : Taken
   pub is_command : command_of run.words ≡ Some command
   pub is : run.reads ≡ reads_of taken
   pub are_shown : IsShown run.before.source.shown command.script taken.script
-  pub of_script : (taken.inputs ≡ [])
+  pub plan_shown : IsPlanShown run.before.source.shown command.plan taken.plan
+  pub of_script : ((taken.plan ≡ None) × (taken.inputs ≡ []))
       ⊎ ((script : ScriptData) × ReadsScript taken.script script
-      × AreFirstInputs script run.before.source.shown taken.inputs)
+      × ReadsInputs command script run.before.source.shown taken)
 
--- nothing was read, or the script and then inputs
+-- nothing was read, or the script, then the plan and then inputs
 abbrev pub AreReads : RunData → Type 0
 AreReads run = (run.reads ≡ []) ⊎ ReadsInOrder run
 
@@ -73,12 +91,23 @@ abbrev pub AsksOnce : RunData → Status → Type 0
 AsksOnce run status =
     (command : Command) → command_of run.words ≡ Some command
     → HasAsked run.before.source run.after.source
-    (names_of_reads command.script run.reads ++ name_missed status)
+    (names_of_reads command.script command.plan run.reads ++ name_missed status)
 
--- the name that is to be read next: the script's, or the next that the script names
+-- the script was read and has no fault, and the plan has this name and is to be read next
+pub record IsNextPlan (run : RunData) (name : List ℕ) : Type 0 where
+  pub command : Command
+  pub bytes : List ℕ
+  pub script : ScriptData
+  pub is_command : command_of run.words ≡ Some command
+  pub is : run.reads ≡ script_read bytes ∷ []
+  pub is_script : ReadsScript bytes script
+  pub named : command.plan ≡ Some name
+
+-- the name that is to be read next: the script's, the plan's, or the next that the script names
 abbrev pub IsNextName : RunData → List ℕ → Type 0
 IsNextName run name =
     ((run.reads ≡ []) × ((command : Command) × (command_of run.words ≡ Some command)
     × (command.script ≡ name)))
-    ⊎ ((script : ScriptData) × (inputs : Files) × HasRead run.reads script inputs
-    × IsNextInput script inputs name)
+    ⊎ (IsNextPlan run name
+    ⊎ ((script : ScriptData) × (plan : List PlanLine) × (inputs : Files)
+    × HasRead run.words run.reads script plan inputs × IsNextInput script inputs name))

@@ -6,18 +6,21 @@ use Rattle.sc_print.specs.declared.printing.PrintFault.{PrintFault}
 use Rattle.sc_print.specs.declared.printing.PrintFault.TheVariants as prints
 use Rattle.sc_read.specs.declared.stops.InputStop.{InputStop}
 use Rattle.sc_read.specs.declared.stops.InputStop.TheVariants as inputs
+use Rattle.sc_read.specs.declared.stops.PlanStop.{PlanStop}
+use Rattle.sc_read.specs.declared.stops.PlanStop.TheVariants as plans
 use Rattle.sc_read.specs.declared.stops.ScriptStop.{ScriptStop}
 use Rattle.sc_read.specs.declared.stops.ScriptStop.TheVariants as scripts
 use Rattle.sc_read.specs.declared.stops.Unreadable.{Unreadable}
 use Rattle.sc_read.specs.declared.stops.Unreadable.TheVariants.{Missing, Failed}
 use Rattle.sc_app.specs.declared.ran.Status.{Status}
-use Rattle.sc_app.specs.declared.ran.Status.TheVariants.{Done, Usage, Script, Input, TaskLimit, DriverFault, WriteFault, OutOfMemory, NotText}
+use Rattle.sc_app.specs.declared.ran.Status.TheVariants.{Done, Usage, Script, Plan, Input, TaskLimit, DriverFault, WriteFault, OutOfMemory, NotText}
 
 -- the number of a status
 abbrev pub number_of : Status → ℕ
 number_of Done = 0
 number_of Usage = 2
 number_of (Script fault) = 3
+number_of (Plan fault) = 4
 number_of (Input name missing) = 5
 number_of (TaskLimit k attempt partition) = 6
 number_of (DriverFault k fault) = 9
@@ -35,6 +38,12 @@ abbrev pub status_of_script : List ℕ → OrMemory ScriptStop → Status
 status_of_script name (refusals.Fault (scripts.Faulty fault)) = Script fault
 status_of_script name (refusals.Fault (scripts.Unreadable why)) = Input name (is_missing why)
 status_of_script name refusals.OutOfMemory = OutOfMemory
+
+-- the status where there is no plan
+abbrev pub status_of_plan : OrMemory PlanStop → Status
+status_of_plan (refusals.Fault (plans.Faulty fault)) = Plan fault
+status_of_plan (refusals.Fault (plans.Unreadable name why)) = Input name (is_missing why)
+status_of_plan refusals.OutOfMemory = OutOfMemory
 
 -- the status where an input wasn't taken
 abbrev pub status_of_input : OrMemory InputStop → Status

@@ -5,7 +5,7 @@ ghost use Rattle.std.specs.Prelude.{◌≡◌, ◌≤◌, [], map};
 ghost use Rattle.std.specs.String.{string_bytes};
 ghost use Rattle.sc_base.specs.Outside.{IsLaterSource, outside_of};
 ghost use Rattle.sc_app.specs.Ends.{Ends, IsRun, PrintsMeaning};
-ghost use Rattle.sc_app.specs.Exactly.{TellsDriverFault, TellsFault, TellsNever, TellsNotText, TellsUsage};
+ghost use Rattle.sc_app.specs.Exactly.{TellsDriverFault, TellsFault, TellsNever, TellsNotText, TellsPlanFault, TellsUsage};
 ghost use Rattle.sc_app.specs.Good.{EndsWell, IsGood};
 ghost use Rattle.sc_app.specs.Runs.{AreReads, AsksOnce, run_of};
 
@@ -13,6 +13,7 @@ use crate::ran::{Ran, Status};
 use crate::scripts::run_script;
 use sc_base::OrMemory;
 use sc_input::Source;
+use sc_plan::plans_have_one_reading;
 use sc_read::Read;
 use sc_script::scripts_have_one_reading;
 use sc_sink::Sink;
@@ -29,9 +30,10 @@ use std::alloc::Global;
 /// > from one attempt authorised alone; an abort is answered only where the returned history shows
 /// > its limit, loss, script fault or device fault.
 ///
-/// Today one thread evaluates the actions, a fault plan may be named and isn't read, there is no
-/// clock, and nothing is saved. `read` of the answer is the script and then its inputs, as they
-/// were read, which shows a script's fault.
+/// Today one thread evaluates the actions, a fault plan may be named and is read, and nothing comes
+/// of it, there is no clock, and nothing is saved. `read` of the answer is the script, the plan
+/// where one is named, and then the inputs, as they were read, which shows a script's fault and a
+/// plan's.
 pub fn run<R, S: Source, K: Sink>(
     _rt: &R,
     alloc: Global,
@@ -43,7 +45,8 @@ pub fn run<R, S: Source, K: Sink>(
     ensures later { IsLaterSource (S.state source.old) (S.state source.new) }
     ensures sink_later { (K.state sink.old).faults ≤ (K.state sink.new).faults }
 
-    // The script was read under its word, and then each input that it names, once and in order.
+    // The script was read under its word, then the plan, where one is named, and then each input
+    // that the script names, once and in order.
     ensures reads { AreReads (run_of (map string_bytes words.now) result.read.items
         (outside_of (S.state source.old) (K.state sink.old))
         (outside_of (S.state source.new) (K.state sink.new))) }
@@ -70,6 +73,10 @@ pub fn run<R, S: Source, K: Sink>(
     // A fault of the bytes that were read as the script is told, unless memory runs out.
     ensures script_exactly { TellsFault result.read.items result.status }
 
+    // So is a fault of the bytes that were read as the plan.
+    ensures plan_exactly { TellsPlanFault (map string_bytes words.now) result.read.items
+        result.status }
+
     // An input that was read and isn't text is told by its name, unless memory runs out.
     ensures text_exactly { TellsNotText result.read.items result.status }
 
@@ -86,6 +93,7 @@ pub fn run<R, S: Source, K: Sink>(
         (outside_of (S.state source.new) (K.state sink.new))) → EndsWell result.status }
 {
     scripts_have_one_reading();
+    plans_have_one_reading();
     let mut read = Vec::new(alloc);
     let status = run_words(alloc, words, source, sink, &mut read);
     Ran { status, read }

@@ -1,10 +1,10 @@
 //! A run: from the words of the command line to the printed text.
 //!
-//! [`run`] reads the script that the words name and the inputs that the script names, evaluates its
-//! actions in order, and writes the text of each to the sink. Its contract is the promise of the
-//! whole program: a run that is done has written exactly the text of the script's sequential
-//! meaning over the inputs that it read, and every other [`Status`] comes only with its cause, and
-//! with what then stands. `specs/Ends.antt` has that on one page.
+//! [`run`] reads the script and the fault plan that the words name and the inputs that the script
+//! names, evaluates its actions in order, and writes the text of each to the sink. Its contract is
+//! the promise of the whole program: a run that is done has written exactly the text of the
+//! script's sequential meaning over the inputs that it read, and every other [`Status`] comes only
+//! with its cause, and with what then stands. `specs/Ends.antt` has that on one page.
 //!
 //! It runs on the thread that calls it, and it returns.
 #![tactic(auto)]

@@ -5,6 +5,7 @@ ghost use Rattle.std.specs.Prelude.{◌≡◌};
 ghost use Rattle.sc_app.specs.Statuses.{number_of};
 
 use sc_lineage::DriverFault;
+use sc_plan::PlanFault;
 use sc_read::Read;
 use sc_script::ScriptFault;
 use sc_value::Name;
@@ -18,6 +19,8 @@ pub enum Status {
     Usage,
     /// The script has a fault.
     Script(ScriptFault),
+    /// The fault plan has a fault.
+    Plan(PlanFault),
     /// A file is missing or couldn't be read.
     Input {
         /// Its name.
@@ -61,6 +64,7 @@ impl Status {
             Status::Done => 0,
             Status::Usage => 2,
             Status::Script(_) => 3,
+            Status::Plan(_) => 4,
             Status::Input { .. } => 5,
             Status::TaskLimit { .. } => 6,
             Status::DriverFault { .. } => 9,
@@ -76,6 +80,6 @@ impl Status {
 pub struct Ran {
     /// How it ended.
     pub status: Status,
-    /// The script and then the inputs, as far as they were read.
+    /// The script, the plan where one is named, and then the inputs, as far as they were read.
     pub read: Vec<Read>,
 }

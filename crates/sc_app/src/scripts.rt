@@ -7,15 +7,15 @@ ghost use Rattle.sc_ids.specs.LimitRanges.{AreLimits};
 ghost use Rattle.sc_app.specs.Ends.{IsRunOf};
 
 use crate::ran::Status;
-use crate::stops::{status_of_input, status_of_print, status_of_script};
+use crate::stops::{status_of_input, status_of_plan, status_of_print, status_of_script};
 use sc_input::Source;
 use sc_print::print_work;
-use sc_read::{Read, read_script, read_work};
+use sc_read::{Read, read_plan, read_script, read_work};
 use sc_sink::Sink;
 use sc_words::Command;
 use std::alloc::Global;
 
-/// Reads the script that a command names and its inputs, and prints its actions.
+/// Reads the script that a command names, its plan and its inputs, and prints its actions.
 pub(crate) fn run_script<S: Source, K: Sink>(
     alloc: Global,
     command: Command,
@@ -35,7 +35,12 @@ pub(crate) fn run_script<S: Source, K: Sink>(
         Ok(script) => script,
         Err(stop) => return status_of_script(command.script, stop),
     };
-    let work = match read_work(alloc, source, script, command.limits, reads) {
+    let limits = command.limits;
+    let plan = match read_plan(alloc, source, command.plan, limits.executors, reads) {
+        Ok(plan) => plan,
+        Err(stop) => return status_of_plan(stop),
+    };
+    let work = match read_work(alloc, source, script, plan, limits, reads) {
         Ok(work) => work,
         Err(stop) => return status_of_input(stop),
     };

@@ -2,12 +2,12 @@
 #![tactic(auto)]
 
 ghost use Rattle.std.specs.Prelude.{◌≡◌};
-ghost use Rattle.sc_app.specs.Statuses.{is_missing, status_of_input, status_of_print, status_of_script};
+ghost use Rattle.sc_app.specs.Statuses.{is_missing, status_of_input, status_of_plan, status_of_print, status_of_script};
 
 use crate::ran::Status;
 use sc_base::OrMemory;
 use sc_print::PrintFault;
-use sc_read::{InputStop, ScriptStop, Unreadable};
+use sc_read::{InputStop, PlanStop, ScriptStop, Unreadable};
 use sc_value::Name;
 
 /// The status where there is no script under this name.
@@ -17,6 +17,17 @@ pub(crate) fn status_of_script(name: Name, stop: OrMemory<ScriptStop>) -> Status
     match stop {
         OrMemory::Fault(ScriptStop::Faulty(fault)) => Status::Script(fault),
         OrMemory::Fault(ScriptStop::Unreadable(why)) => unreadable(name, why),
+        OrMemory::OutOfMemory => Status::OutOfMemory,
+    }
+}
+
+/// The status where there is no plan.
+pub(crate) fn status_of_plan(stop: OrMemory<PlanStop>) -> Status
+    ensures { result ≡ status_of_plan stop }
+{
+    match stop {
+        OrMemory::Fault(PlanStop::Unreadable { name, why }) => unreadable(name, why),
+        OrMemory::Fault(PlanStop::Faulty(fault)) => Status::Plan(fault),
         OrMemory::OutOfMemory => Status::OutOfMemory,
     }
 }

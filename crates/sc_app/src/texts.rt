@@ -3,11 +3,12 @@
 
 ghost use Rattle.std.specs.Prelude.{◌≡◌, IfOk};
 ghost use Rattle.std.specs.String.{string_bytes};
-ghost use Rattle.sc_app.specs.FaultTexts.{cause_text, fault_text as text_of, kind_text, missing_text, raise_text};
+ghost use Rattle.sc_app.specs.FaultTexts.{cause_text, fault_text as text_of, kind_text, missing_text, plan_kind_text, raise_text};
 
 use crate::ran::Status;
 use sc_expr::Raise;
 use sc_lineage::DriverFault;
+use sc_plan::{PlanFault, PlanFaultKind};
 use sc_script::{FaultKind, ScriptFault};
 use sc_value::Name;
 use std::alloc::{AllocError, Global};
@@ -20,6 +21,7 @@ pub fn fault_text(alloc: Global, status: &Status) -> Result<String, AllocError>
         Status::Done => Ok(String::new(alloc)),
         Status::Usage => String::from_str(alloc, "usage"),
         Status::Script(fault) => script_text(alloc, *fault),
+        Status::Plan(fault) => plan_text(alloc, *fault),
         Status::Input { name, missing } => input_text(alloc, name, *missing),
         Status::TaskLimit {
             stage,
@@ -43,6 +45,15 @@ fn script_text(alloc: Global, fault: ScriptFault) -> Result<String, AllocError>
     let line = fault.line;
     let kind = name_of_kind(fault.kind);
     format!(in alloc; "script: line {line}: {kind}")
+}
+
+/// The text of a plan's fault.
+fn plan_text(alloc: Global, fault: PlanFault) -> Result<String, AllocError>
+    ensures { IfOk result (λ t. string_bytes t ≡ text_of (Status.Plan fault)) }
+{
+    let line = fault.line;
+    let kind = name_of_plan_kind(fault.kind);
+    format!(in alloc; "plan: line {line}: {kind}")
 }
 
 /// The text of an input that is missing or couldn't be read.
@@ -102,6 +113,19 @@ fn name_of_kind(kind: FaultKind) -> &'static str
         FaultKind::UnknownName => "UnknownName",
         FaultKind::Twice => "Twice",
         FaultKind::IllTyped => "IllTyped",
+    }
+}
+
+/// The name of a kind of fault of a plan.
+fn name_of_plan_kind(kind: PlanFaultKind) -> &'static str
+    ensures { result.now ≡ plan_kind_text kind }
+{
+    match kind {
+        PlanFaultKind::NotText => "NotText",
+        PlanFaultKind::Limit => "Limit",
+        PlanFaultKind::Syntax => "Syntax",
+        PlanFaultKind::UnknownName => "UnknownName",
+        PlanFaultKind::Twice => "Twice",
     }
 }
 

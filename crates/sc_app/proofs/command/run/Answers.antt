@@ -1,4 +1,5 @@
-use Rattle.sc_app.proofs.ExactlyLemmas.{tells_driver_fault, tells_fault, tells_never, tells_not_text}
+use Rattle.sc_app.proofs.ExactlyLemmas.{tells_fault, tells_not_text, tells_plan_fault}
+use Rattle.sc_app.proofs.WithoutTextLemmas.{tells_driver_fault, tells_never}
 use Rattle.sc_app.proofs.GoodLemmas.{ends_well}
 use Rattle.sc_app.proofs.command.run.Goals as goal
 
@@ -14,8 +15,14 @@ returns-clause-script_exactly g c =
 
 pub returns-clause-never_exactly : goal.returns-clause-never_exactly
 returns-clause-never_exactly g c =
-    tells_never c.scripts_have_one_reading.ensures _ _ c.run_words-status.ensures.run.ends
+    tells_never c.scripts_have_one_reading.ensures c.plans_have_one_reading.ensures _ _
+    c.run_words-status.ensures.run.ends
 
 pub returns-clause-driver_exactly : goal.returns-clause-driver_exactly
 returns-clause-driver_exactly g c =
-    tells_driver_fault c.scripts_have_one_reading.ensures _ _ c.run_words-status.ensures.run.ends
+    tells_driver_fault c.scripts_have_one_reading.ensures c.plans_have_one_reading.ensures _ _
+    c.run_words-status.ensures.run.ends
+
+pub returns-clause-plan_exactly : goal.returns-clause-plan_exactly
+returns-clause-plan_exactly g c =
+    tells_plan_fault c.plans_have_one_reading.ensures _ _ c.run_words-status.ensures.run.ends

@@ -1,7 +1,9 @@
-use Rattle.std.proofs.Common.{◌≡◌, List, [], Err, Ok, subst}
+use Rattle.std.proofs.Common.{List, Err, Ok, subst}
 use Rattle.sc_read.specs.declared.reads.Read.{Read}
 use Rattle.sc_read.specs.Scripts.{TakesAsScript}
-use Rattle.sc_app.proofs.RunLemmas.{inputs-stop, printing-stops, run-done, script-stops}
+use Rattle.sc_app.proofs.BegunLemmas.{begun, script-stops}
+use Rattle.sc_app.proofs.PlanLemmas.{plan-stops}
+use Rattle.sc_app.proofs.RunLemmas.{inputs-stop, printing-stops, run-done}
 use Rattle.sc_app.proofs.scripts.run_script.Goals as goal
 
 pub returns-in-Err-clause-run : goal.returns-in-Err-clause-run
@@ -13,41 +15,68 @@ returns-in-Err-clause-run g c =
     rw c.status_of_script.ensures (λ words is. script-stops words c.args.command is before after
     (g.K.Sink.state c.args.sink.now) c.read_script.new.reads.items c.in-Err.stop taken)
 
+pub returns-in-Err-read_plan-clause-run : goal.returns-in-Err-read_plan-clause-run
+returns-in-Err-read_plan-clause-run g c =
+    let start = g.S.Source.state c.args.source.now in
+    let mid = g.S.Source.state c.read_script.new.source in
+    let after = g.S.Source.state c.read_plan.new.source in
+    let taken = subst (λ (rs : List Read). TakesAsScript start mid c.args.command.script rs
+    c.read_script.new.reads.items (Ok c.in-Ok.script)) c.requires.empty c.in-Ok.ensures.script in
+    rw c.status_of_plan.ensures (λ words is. plan-stops words c.args.command is start mid
+    c.in-Ok.ensures.later c.read_script.new.reads.items taken.0 taken.1 c.in-Ok.script taken.2 after
+    (g.K.Sink.state c.args.sink.now) c.read_plan.new.reads.items c.in-Err-read_plan.stop
+    c.in-Err-read_plan.ensures.plan)
+
 pub returns-in-Err-read_work-clause-run : goal.returns-in-Err-read_work-clause-run
 returns-in-Err-read_work-clause-run g c =
     let start = g.S.Source.state c.args.source.now in
-    let before = g.S.Source.state c.read_script.new.source in
-    let after = g.S.Source.state c.read_work.new.source in
-    let taken = subst (λ (rs : List Read). TakesAsScript start before c.args.command.script rs
+    let mid = g.S.Source.state c.read_script.new.source in
+    let taken = subst (λ (rs : List Read). TakesAsScript start mid c.args.command.script rs
     c.read_script.new.reads.items (Ok c.in-Ok.script)) c.requires.empty c.in-Ok.ensures.script in
+    let before = g.S.Source.state c.read_plan.new.source in
+    let began = begun c.args.command.script c.args.command.plan
+    c.args.command.limits.executors start mid before c.read_script.new.reads.items
+    c.read_plan.new.reads.items taken.0 c.in-Ok.script c.in-Ok-read_plan.plan c.in-Ok.ensures.later
+    c.in-Ok-read_plan.ensures.later taken.1 taken.2 c.in-Ok-read_plan.ensures.plan in
+    let after = g.S.Source.state c.read_work.new.source in
     rw c.status_of_input.ensures (λ words is. inputs-stop words c.args.command is start before
-    c.in-Ok.ensures.later c.read_script.new.reads.items taken.0 taken.1 c.in-Ok.script taken.2
-    after (g.K.Sink.state c.args.sink.now) c.read_work.new.reads.items c.in-Err-read_work.stop
+    c.read_plan.new.reads.items c.in-Ok.script c.in-Ok-read_plan.plan began after
+    (g.K.Sink.state c.args.sink.now) c.read_work.new.reads.items c.in-Err-read_work.stop
     c.in-Err-read_work.ensures.work)
 
 pub returns-in-Ok-print_work-clause-run : goal.returns-in-Ok-print_work-clause-run
 returns-in-Ok-print_work-clause-run g c =
     let start = g.S.Source.state c.args.source.now in
-    let before = g.S.Source.state c.read_script.new.source in
-    let after = g.S.Source.state c.read_work.new.source in
-    let taken = subst (λ (rs : List Read). TakesAsScript start before c.args.command.script rs
+    let mid = g.S.Source.state c.read_script.new.source in
+    let taken = subst (λ (rs : List Read). TakesAsScript start mid c.args.command.script rs
     c.read_script.new.reads.items (Ok c.in-Ok.script)) c.requires.empty c.in-Ok.ensures.script in
-    λ words is. run-done words c.args.command is start before c.in-Ok.ensures.later
-    c.read_script.new.reads.items taken.0 taken.1 c.in-Ok.script taken.2 after
-    c.read_work.new.reads.items c.in-Ok-read_work.work c.in-Ok-read_work.ensures.work.0
-    c.in-Ok-read_work.ensures.work.1 c.in-Ok-read_work.ensures.work.2
-    c.in-Ok-read_work.ensures.work.3 c.is_sound.ensures (g.K.Sink.state c.args.sink.now)
-    (g.K.Sink.state c.print_work.new.sink) c.in-Ok-print_work.ensures.prints
+    let before = g.S.Source.state c.read_plan.new.source in
+    let began = begun c.args.command.script c.args.command.plan
+    c.args.command.limits.executors start mid before c.read_script.new.reads.items
+    c.read_plan.new.reads.items taken.0 c.in-Ok.script c.in-Ok-read_plan.plan c.in-Ok.ensures.later
+    c.in-Ok-read_plan.ensures.later taken.1 taken.2 c.in-Ok-read_plan.ensures.plan in
+    let after = g.S.Source.state c.read_work.new.source in
+    λ words is. run-done words c.args.command is start before c.read_plan.new.reads.items
+    c.in-Ok.script c.in-Ok-read_plan.plan began after c.read_work.new.reads.items
+    c.in-Ok-read_work.work c.in-Ok-read_work.ensures.work.0 c.in-Ok-read_work.ensures.work.1
+    c.in-Ok-read_work.ensures.work.2 c.in-Ok-read_work.ensures.work.3 c.is_sound.ensures
+    (g.K.Sink.state c.args.sink.now) (g.K.Sink.state c.print_work.new.sink)
+    c.in-Ok-print_work.ensures.prints
 
 pub returns-clause-run : goal.returns-clause-run
 returns-clause-run g c =
     let start = g.S.Source.state c.args.source.now in
-    let before = g.S.Source.state c.read_script.new.source in
-    let after = g.S.Source.state c.read_work.new.source in
-    let taken = subst (λ (rs : List Read). TakesAsScript start before c.args.command.script rs
+    let mid = g.S.Source.state c.read_script.new.source in
+    let taken = subst (λ (rs : List Read). TakesAsScript start mid c.args.command.script rs
     c.read_script.new.reads.items (Ok c.in-Ok.script)) c.requires.empty c.in-Ok.ensures.script in
+    let before = g.S.Source.state c.read_plan.new.source in
+    let began = begun c.args.command.script c.args.command.plan
+    c.args.command.limits.executors start mid before c.read_script.new.reads.items
+    c.read_plan.new.reads.items taken.0 c.in-Ok.script c.in-Ok-read_plan.plan c.in-Ok.ensures.later
+    c.in-Ok-read_plan.ensures.later taken.1 taken.2 c.in-Ok-read_plan.ensures.plan in
+    let after = g.S.Source.state c.read_work.new.source in
     rw c.status_of_print.ensures (λ words is. printing-stops words c.args.command is start before
-    c.in-Ok.ensures.later c.read_script.new.reads.items taken.0 taken.1 c.in-Ok.script taken.2 after
+    c.read_plan.new.reads.items c.in-Ok.script c.in-Ok-read_plan.plan began after
     c.read_work.new.reads.items c.in-Ok-read_work.work c.in-Ok-read_work.ensures.work.0
     c.in-Ok-read_work.ensures.work.1 c.in-Ok-read_work.ensures.work.2
     c.in-Ok-read_work.ensures.work.3 c.is_sound.ensures (g.K.Sink.state c.args.sink.now)
