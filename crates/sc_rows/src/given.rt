@@ -12,6 +12,9 @@ use std::str;
 /// The name of the script.
 pub const SCRIPT: &str = "job.spark";
 
+/// The name of the fault plan.
+pub const PLAN: &str = "plan.txt";
+
 /// A run to be: the words, the files, and the calls outside that are to fail.
 #[derive(Drop)]
 pub struct Row {
@@ -25,6 +28,13 @@ impl Row {
     /// The run of a script.
     pub fn of<R: Abort + AllocGlobal>(rt: &R, script: &str) -> Row {
         Row::of_words(rt, &["run", SCRIPT]).file(rt, SCRIPT, script.as_bytes())
+    }
+
+    /// The run of a script under the plan that these bytes are.
+    pub fn planned<R: Abort + AllocGlobal>(rt: &R, script: &str, plan: &[u8]) -> Row {
+        Row::of_words(rt, &["run", SCRIPT, "--plan", PLAN])
+            .file(rt, SCRIPT, script.as_bytes())
+            .file(rt, PLAN, plan)
     }
 
     /// The run of some words, over no files.

@@ -76,6 +76,8 @@ mod paths;
 #[cfg(test)]
 mod plan_faults;
 #[cfg(test)]
+mod planned;
+#[cfg(test)]
 mod plans;
 #[cfg(test)]
 mod raises;

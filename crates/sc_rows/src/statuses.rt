@@ -4,6 +4,7 @@
 use sc_app::{Status, fault_text};
 use sc_expr::Raise;
 use sc_lineage::DriverFault;
+use sc_plan::{PlanFault, PlanFaultKind};
 use sc_script::{FaultKind, ScriptFault};
 use sc_value::Name;
 use std::process::Abort;
@@ -56,6 +57,21 @@ fn each_kind_of_fault_has_its_name(rt: HostRuntime) {
     for (line, kind, text) in cases {
         let status = Status::Script(ScriptFault { line, kind });
         assert_told(&rt, status, 3, text);
+    }
+}
+
+#[test]
+fn each_kind_of_fault_of_a_plan_has_its_name(rt: HostRuntime) {
+    let cases = [
+        (0, PlanFaultKind::NotText, "plan: line 0: NotText"),
+        (1, PlanFaultKind::Limit, "plan: line 1: Limit"),
+        (10, PlanFaultKind::Syntax, "plan: line 10: Syntax"),
+        (3, PlanFaultKind::UnknownName, "plan: line 3: UnknownName"),
+        (65_536, PlanFaultKind::Twice, "plan: line 65536: Twice"),
+    ];
+    for (line, kind, text) in cases {
+        let status = Status::Plan(PlanFault { line, kind });
+        assert_told(&rt, status, 4, text);
     }
 }
 

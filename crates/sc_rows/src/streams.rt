@@ -7,6 +7,7 @@ use sc_ids::Limits;
 use sc_input::MemSource;
 use sc_lineage::{Stream, Work};
 use sc_ops::run_node;
+use sc_plan::Plan;
 use sc_read::{read_script, read_work};
 use sc_value::{Name, Octets};
 use std::alloc::Global;
@@ -29,7 +30,8 @@ pub fn work_of<R: Abort + AllocGlobal>(rt: &R, script: &str, input: &str) -> Wor
     let mut reads = Vec::new(alloc);
     let script = read_script(alloc, &mut source, &name, &mut reads);
     let script = script.ok().expect(rt, "a script");
-    let work = read_work(alloc, &mut source, script, Limits::default(), &mut reads);
+    let (plan, limits) = (Plan::empty(alloc), Limits::default());
+    let work = read_work(alloc, &mut source, script, plan, limits, &mut reads);
     work.ok().expect(rt, "inputs")
 }
 

@@ -7,8 +7,8 @@ use sc_base::OrMemory;
 use sc_words::{Command, read_words};
 use std::process::Abort;
 
-/// What words ask for: the script, and how many executors, failures of a task and attempts of a
-/// stage there may be.
+/// What words ask for: the script, how many executors, failures of a task, attempts of a stage and
+/// blocks of cached nodes there may be, and the plan.
 fn asked<R: Abort + AllocGlobal>(rt: &R, words: &[&str]) -> String {
     let alloc = rt.alloc();
     let words = words_of(alloc, words).expect(rt, "memory");
@@ -27,26 +27,54 @@ fn told<R: Abort + AllocGlobal>(rt: &R, command: &Command) -> String {
     let executors = command.limits.executors;
     let failures = command.limits.task_failures;
     let attempts = command.limits.stage_attempts;
-    format!(in rt.alloc(); "{script} {executors} {failures} {attempts}").expect(rt, "memory")
+    let cache = command.limits.cache;
+    let plan = match &command.plan {
+        Some(name) => name.as_str(),
+        None => "(no plan)",
+    };
+    format!(in rt.alloc(); "{script} {executors} {failures} {attempts} {cache} {plan}").expect(
+        rt, "memory",
+    )
 }
 
 /// Words that are a command, and what they ask for.
-const COMMANDS: [(&[&str], &str); 19] = [
-    (&["run", "a.spark"], "a.spark 2 4 4"),
-    (&["run", "--executors", "3", "a.spark"], "a.spark 3 4 4"),
-    (&["run", "a.spark", "--executors", "3"], "a.spark 3 4 4"),
-    (&["run", "a.spark", "--executors=3"], "a.spark 3 4 4"),
-    (&["run", "a.spark", "--executors=1"], "a.spark 1 4 4"),
-    (&["run", "a.spark", "--executors=64"], "a.spark 64 4 4"),
-    (&["run", "a.spark", "--executors=064"], "a.spark 64 4 4"),
-    (&["run", "a.spark", "--executors=+3"], "a.spark 3 4 4"),
+const COMMANDS: [(&[&str], &str); 27] = [
+    (&["run", "a.spark"], "a.spark 2 4 4 64 (no plan)"),
+    (
+        &["run", "--executors", "3", "a.spark"],
+        "a.spark 3 4 4 64 (no plan)",
+    ),
+    (
+        &["run", "a.spark", "--executors", "3"],
+        "a.spark 3 4 4 64 (no plan)",
+    ),
+    (
+        &["run", "a.spark", "--executors=3"],
+        "a.spark 3 4 4 64 (no plan)",
+    ),
+    (
+        &["run", "a.spark", "--executors=1"],
+        "a.spark 1 4 4 64 (no plan)",
+    ),
+    (
+        &["run", "a.spark", "--executors=64"],
+        "a.spark 64 4 4 64 (no plan)",
+    ),
+    (
+        &["run", "a.spark", "--executors=064"],
+        "a.spark 64 4 4 64 (no plan)",
+    ),
+    (
+        &["run", "a.spark", "--executors=+3"],
+        "a.spark 3 4 4 64 (no plan)",
+    ),
     (
         &["run", "a.spark", "--task-failures", "16"],
-        "a.spark 2 16 4",
+        "a.spark 2 16 4 64 (no plan)",
     ),
     (
         &["run", "a.spark", "--stage-attempts", "16"],
-        "a.spark 2 4 16",
+        "a.spark 2 4 16 64 (no plan)",
     ),
     (
         &[
@@ -58,7 +86,7 @@ const COMMANDS: [(&[&str], &str); 19] = [
             "6",
             "a.spark",
         ],
-        "a.spark 3 5 6",
+        "a.spark 3 5 6 64 (no plan)",
     ),
     (
         &[
@@ -69,19 +97,51 @@ const COMMANDS: [(&[&str], &str); 19] = [
             "5",
             "--executors=3",
         ],
-        "a.spark 3 5 6",
+        "a.spark 3 5 6 64 (no plan)",
     ),
-    (&["run", ""], " 2 4 4"),
-    (&["run", "-"], "- 2 4 4"),
-    (&["run", "run"], "run 2 4 4"),
-    (&["run", "help"], "help 2 4 4"),
-    (&["run", "--", "-a.spark"], "-a.spark 2 4 4"),
-    (&["run", "--", "--executors=3"], "--executors=3 2 4 4"),
-    (&["run", "--executors=3", "--", "a.spark"], "a.spark 3 4 4"),
+    (
+        &["run", "a.spark", "--cache", "1"],
+        "a.spark 2 4 4 1 (no plan)",
+    ),
+    (
+        &["run", "a.spark", "--cache=4096"],
+        "a.spark 2 4 4 4096 (no plan)",
+    ),
+    (
+        &["run", "a.spark", "--plan", "p.txt"],
+        "a.spark 2 4 4 64 p.txt",
+    ),
+    (
+        &["run", "--plan=p.txt", "--cache", "7", "a.spark"],
+        "a.spark 2 4 4 7 p.txt",
+    ),
+    (&["run", "a.spark", "--plan", ""], "a.spark 2 4 4 64 "),
+    (&["run", "a.spark", "--plan="], "a.spark 2 4 4 64 "),
+    (
+        &["run", "a.spark", "--plan", "a.spark"],
+        "a.spark 2 4 4 64 a.spark",
+    ),
+    (
+        &["run", "a.spark", "--plan=--plan"],
+        "a.spark 2 4 4 64 --plan",
+    ),
+    (&["run", ""], " 2 4 4 64 (no plan)"),
+    (&["run", "-"], "- 2 4 4 64 (no plan)"),
+    (&["run", "run"], "run 2 4 4 64 (no plan)"),
+    (&["run", "help"], "help 2 4 4 64 (no plan)"),
+    (&["run", "--", "-a.spark"], "-a.spark 2 4 4 64 (no plan)"),
+    (
+        &["run", "--", "--executors=3"],
+        "--executors=3 2 4 4 64 (no plan)",
+    ),
+    (
+        &["run", "--executors=3", "--", "a.spark"],
+        "a.spark 3 4 4 64 (no plan)",
+    ),
 ];
 
 /// Words that are no command.
-const REFUSED: [&[&str]; 36] = [
+const REFUSED: [&[&str]; 43] = [
     &[],
     &["run"],
     &["run", "--executors", "3"],
@@ -115,8 +175,15 @@ const REFUSED: [&[&str]; 36] = [
     &["run", "a.spark", "--task-failures", "17"],
     &["run", "a.spark", "--stage-attempts", "17"],
     &["run", "a.spark", "--stage-attempts", "0"],
-    &["run", "a.spark", "--cache", "7"],
-    &["run", "a.spark", "--plan", "p.txt"],
+    &["run", "a.spark", "--cache", "0"],
+    &["run", "a.spark", "--cache", "4097"],
+    &["run", "a.spark", "--cache"],
+    &["run", "a.spark", "--cache=7", "--cache=7"],
+    &["run", "a.spark", "--plan"],
+    &["run", "a.spark", "--plan", "--cache=7"],
+    &["run", "a.spark", "--plan", "p.txt", "--plan", "p.txt"],
+    &["run", "a.spark", "--plan", "p.txt", "q.txt"],
+    &["run", "--plan", "p.txt"],
     &["run", "a.spark", "--speculation"],
 ];
 
