@@ -1,0 +1,33 @@
+-- How the bounds of sorts are found by jobs.
+use Rattle.std.specs.Prelude.{ℕ, ◌≡◌, ◌++◌, List, Option, Some}
+use Rattle.sc_compute.specs.Stages.{bounds_at}
+use Rattle.sc_ids.specs.Changes.{change_at}
+use Rattle.sc_lineage.specs.NodeData.{NodeData, text_node, parallelize_node, each_node, union_node, coalesce_node, cache_node, shuffle_node, meet_node}
+use Rattle.sc_lineage.specs.ScriptData.{WorkData}
+use Rattle.sc_stagecut.specs.Carrying.{HasBounds}
+use Rattle.sc_core.specs.declared.journals.JobHistory.{JobHistory}
+use Rattle.sc_context.specs.Contexts.{ContextData}
+use Rattle.sc_context.specs.Progress.{next_node}
+
+-- into how many partitions at most a node's rows are shuffled
+abbrev pub parts_of : NodeData → ℕ
+parts_of (shuffle_node kind parent n) = n
+parts_of node = 0
+
+-- the same action comes next, and the jobs that were done stand at the front of those of before
+pub record GoesOn (c after : ContextData) : Type 0 where
+  pub actions : after.progress.actions ≡ c.progress.actions
+  pub more : List JobHistory
+  pub all : after.histories ≡ c.histories ++ more
+
+-- the bounds of a sort were found
+pub record Finds (work : WorkData) (c : ContextData) (sort : ℕ) (after : ContextData)
+    : Type 0 where
+  pub on : GoesOn c after
+  pub bounds : after.progress.carried.bounds
+      ≡ change_at c.progress.carried.bounds sort (λ _. Some (bounds_at work sort))
+
+-- all bounds that the next action needs were found
+pub record FindsAll (work : WorkData) (c after : ContextData) : Type 0 where
+  pub on : GoesOn c after
+  pub found : HasBounds work.script.nodes after.progress.carried (next_node work after.progress)

@@ -1,0 +1,40 @@
+-- How one job of a run begins and ends.
+use Rattle.std.specs.Prelude.{◌≡◌, List, Option, map}
+use Rattle.sc_base.specs.declared.refusals.OrMemory.{OrMemory}
+use Rattle.sc_base.specs.declared.refusals.OrMemory.TheVariants.{Fault, OutOfMemory}
+use Rattle.sc_value.specs.Datum.{Datum}
+use Rattle.sc_lineage.specs.Actions.{local_results}
+use Rattle.sc_lineage.specs.ScriptData.{WorkData}
+use Rattle.sc_lineage.specs.Streams.{whole_stream}
+use Rattle.sc_core.specs.CoreData.{CoreData}
+use Rattle.sc_core.specs.declared.answers.Abort.{Abort}
+use Rattle.sc_core.specs.declared.answers.Job.TheVariants as jobs
+use Rattle.sc_jobs.specs.JobData.{goal_action}
+use Rattle.sc_jobs.specs.declared.goals.Goal.{Goal}
+use Rattle.sc_store.specs.StoreData.{StoreData}
+use Rattle.sc_desk.specs.Begins.{Begins}
+use Rattle.sc_desk.specs.DeskData.{DeskData, PassedData}
+use Rattle.sc_world.specs.Runs.{idle_world}
+use Rattle.sc_world.specs.WorldData.{WorldData}
+
+-- the world of a job that begins behind what goes on and another job or none, over these stores
+pub record HasBegunFor (work : WorkData) (passed : PassedData) (stores : List StoreData)
+    (last : Option CoreData) (goal : Goal) (w : WorldData) : Type 0 where
+  pub desk : DeskData
+  pub begins : Begins work passed last goal desk
+  pub idle : w ≡ idle_world work desk stores
+
+-- rows are those of the results of all partitions for a goal, of which none raises
+abbrev pub AreRowsFor : WorkData → Goal → List (List Datum) → Type 0
+AreRowsFor work goal rows = local_results work (goal_action work goal) ≡ map whole_stream rows
+
+-- the job of a core is done, and these are the rows of its results
+pub record AreRowsOf (work : WorkData) (goal : Goal) (end : CoreData) (rows : List (List Datum))
+    : Type 0 where
+  pub done : end.job ≡ jobs.Done
+  pub results : AreRowsFor work goal rows
+
+-- it has none, since it was aborted or memory ran out
+abbrev pub HasNoRows : CoreData → OrMemory Abort → Type 0
+HasNoRows end (Fault abort) = end.job ≡ jobs.Aborted abort
+HasNoRows end OutOfMemory = Unit {0}

@@ -1,0 +1,97 @@
+//! The next action.
+#![tactic(auto)]
+
+ghost use Rattle.std.specs.Prelude.{◌≡◌, ◌<◌, IfErr, IfOk, length};
+ghost use Rattle.sc_context.specs.Contexts.{Evaluates, GivesNext, Stops};
+ghost use Rattle.sc_context.specs.Jobs.{AreRowsFor};
+ghost use Rattle.sc_context.specs.Progress.{next_node};
+ghost use Rattle.sc_jobs.specs.JobData.{goal_action};
+ghost use Rattle.sc_jobs.specs.declared.goals.Goal.TheVariants as goals;
+ghost use Rattle.sc_stagecut.specs.Carrying.{HasBounds};
+
+use crate::context::Context;
+use crate::jobs::Ended;
+use crate::stops::Stopped;
+use sc_compute::{Evaluated, settle};
+use sc_jobs::Goal;
+use sc_laws::outcome_law;
+use sc_work::Naming;
+use std::alloc::{AllocError, Global};
+
+/// What an action gave, and the context behind its jobs.
+#[derive(Drop)]
+pub struct Given<W: Naming> {
+    /// The context.
+    pub context: Context<W>,
+    /// What the action gave: its text, or the fault of the driver.
+    pub value: Evaluated,
+}
+
+impl<W: Naming> Context<W> {
+    /// Runs the next action: first the jobs that find the bounds which it needs and that weren't
+    /// found yet, and then its own.
+    ///
+    /// # Errors
+    ///
+    /// The abort of one of these jobs, which its history shows, or want of memory.
+    pub fn run_action(self, alloc: Global) -> Result<Given<W>, Stopped>
+        requires within { self.progress.actions < length W.work.script.actions }
+        ensures given { IfOk result (λ g. GivesNext W.work self g.value g.context) }
+        ensures stops { IfErr result (λ s. Stops W.work self.progress.actions s.why
+            s.histories.items) }
+    {
+        let context = self.find_all_bounds(alloc)?;
+        context.run_own_job(alloc)
+    }
+
+    /// Runs the own job of the next action, whose bounds were all found.
+    fn run_own_job(self, alloc: Global) -> Result<Given<W>, Stopped>
+        requires within { self.progress.actions < length W.work.script.actions }
+        requires found { HasBounds W.work.script.nodes self.progress.carried
+            (next_node W.work self.progress) }
+        ensures given { IfOk result (λ g. GivesNext W.work self g.value g.context) }
+        ensures stops { IfErr result (λ s. Stops W.work self.progress.actions s.why
+            s.histories.items) }
+    {
+        let number = self.actions;
+        let Some(behind) = number.checked_add(1) else {
+            return Err(self.without_memory());
+        };
+        let ended = self.run_job(alloc, Goal::Action { number })?;
+        let Ok(value) = ended.value(alloc) else {
+            return Err(Stopped::without_memory(ended.histories));
+        };
+        let Ended {
+            work,
+            passed,
+            stores,
+            histories,
+            ..
+        } = ended;
+        let context = Context {
+            work,
+            passed,
+            stores,
+            histories,
+            actions: behind,
+        };
+        Ok(Given { context, value })
+    }
+}
+
+impl<W: Naming> Ended<W> {
+    /// What an action gives, whose rows these are.
+    fn value(&self, alloc: Global) -> Result<Evaluated, AllocError>
+        requires within { self.now.actions < length W.work.script.actions }
+        requires results { AreRowsFor W.work (goals.Action self.now.actions) self.now.rows.items }
+        ensures { IfOk result
+            (Evaluates W.work (goal_action W.work (goals.Action self.now.actions))) }
+    {
+        self.work.is_named();
+        let work = self.work.get();
+        work.is_sound();
+        outcome_law();
+        let action = &work.script().actions()[self.actions as usize];
+        settle(alloc, action, self.rows.as_slice())
+    }
+}

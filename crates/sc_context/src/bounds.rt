@@ -1,0 +1,123 @@
+//! The bounds that an action needs.
+#![tactic(auto)]
+
+ghost use Rattle.std.specs.Prelude.{◌≡◌, ◌<◌, IfErr, IfOk, Some, length};
+ghost use Rattle.sc_compute.specs.Stages.{bounds_at};
+ghost use Rattle.sc_context.specs.Bounding.{Finds, FindsAll, parts_of};
+ghost use Rattle.sc_context.specs.Contexts.{Stops};
+ghost use Rattle.sc_context.specs.Jobs.{AreRowsFor};
+ghost use Rattle.sc_context.specs.Progress.{next_node};
+ghost use Rattle.sc_jobs.specs.JobData.{IsGoal};
+ghost use Rattle.sc_jobs.specs.declared.goals.Goal.TheVariants as goals;
+ghost use Rattle.sc_lineage.specs.ScriptData.{node_of_action};
+ghost use Rattle.sc_lineage.specs.Views.{action_data_of, node_data_of};
+ghost use Rattle.sc_stagecut.specs.Carrying.{IsFirstLacking};
+
+use crate::context::Context;
+use crate::jobs::Ended;
+use crate::stops::Stopped;
+use sc_compute::bounds_of_results;
+use sc_jobs::Goal;
+use sc_lineage::{Action, Node, NodeId};
+use sc_part::Bounds;
+use sc_stagecut::unbounded_sort;
+use sc_work::Naming;
+use std::alloc::{AllocError, Global};
+
+impl<W: Naming> Context<W> {
+    /// Runs the jobs that find the bounds which the next action needs and that weren't found yet.
+    pub(crate) fn find_all_bounds(self, alloc: Global) -> Result<Context<W>, Stopped>
+        requires within { self.progress.actions < length W.work.script.actions }
+        ensures finds { IfOk result (FindsAll W.work self) }
+        ensures stops { IfErr result (λ s. Stops W.work self.progress.actions s.why
+            s.histories.items) }
+    {
+        let mut context = self;
+        loop {
+            match context.next_sort(alloc) {
+                Ok(Some(sort)) => context = context.find_bounds(alloc, sort)?,
+                Ok(None) => return Ok(context),
+                Err(_) => return Err(context.without_memory()),
+            }
+        }
+    }
+
+    /// The first sort that the next action reads and whose bounds weren't found, where there is
+    /// one.
+    fn next_sort(&self, alloc: Global) -> Result<Option<NodeId>, AllocError>
+        requires within { self.now.progress.actions < length W.work.script.actions }
+        ensures { IfOk result (IsFirstLacking W.work.script.nodes self.now.progress.carried
+            (next_node W.work self.now.progress)) }
+    {
+        self.work.is_named();
+        let work = self.work.get();
+        work.is_sound();
+        let node = node_of(&work.script().actions()[self.actions as usize]);
+        unbounded_sort(alloc, work, node, &self.passed.carried)
+    }
+
+    /// Runs the job that finds the bounds of a sort, which comes next.
+    fn find_bounds(self, alloc: Global, sort: NodeId) -> Result<Context<W>, Stopped>
+        requires within { self.progress.actions < length W.work.script.actions }
+        requires next { IsFirstLacking W.work.script.nodes self.progress.carried
+            (next_node W.work self.progress) (Some sort) }
+        ensures finds { IfOk result (Finds W.work self sort) }
+        ensures stops { IfErr result (λ s. Stops W.work self.progress.actions s.why
+            s.histories.items) }
+    {
+        let ended = self.run_job(alloc, Goal::Bounds { sort })?;
+        let Ok(bounds) = ended.bounds(alloc, sort) else {
+            return Err(Stopped::without_memory(ended.histories));
+        };
+        let Ended {
+            work,
+            mut passed,
+            stores,
+            histories,
+            actions,
+            ..
+        } = ended;
+        passed.carried.set_bounds(sort, bounds);
+        Ok(Context {
+            work,
+            passed,
+            stores,
+            histories,
+            actions,
+        })
+    }
+}
+
+impl<W: Naming> Ended<W> {
+    /// The bounds of a sort, whose parent's rows these are.
+    fn bounds(&self, alloc: Global, sort: NodeId) -> Result<Bounds, AllocError>
+        requires sort { IsGoal W.work (goals.Bounds sort) }
+        requires results { AreRowsFor W.work (goals.Bounds sort) self.now.rows.items }
+        ensures { IfOk result (λ b. b ≡ bounds_at W.work sort) }
+    {
+        self.work.is_named();
+        let parts = most_partitions(&self.work.get().script().nodes()[sort as usize]);
+        bounds_of_results(alloc, parts, self.rows.as_slice())
+    }
+}
+
+/// The number of partitions that a shuffle asks for.
+fn most_partitions(node: &Node) -> u32
+    ensures { result ≡ parts_of (node_data_of node.now) }
+{
+    match node {
+        Node::Shuffle { partitions, .. } => *partitions,
+        _ => 0,
+    }
+}
+
+/// The node of an action.
+fn node_of(action: &Action) -> NodeId
+    ensures { result ≡ node_of_action (action_data_of action.now) }
+{
+    match action {
+        Action::Collect { node } => *node,
+        Action::Count { node } => *node,
+        Action::Reduce { node, .. } => *node,
+    }
+}

@@ -1,0 +1,102 @@
+//! One job of a context.
+#![tactic(auto)]
+
+ghost use Rattle.std.specs.Prelude.{◌≡◌, ◌<◌, IfErr, IfOk, length};
+ghost use Rattle.std.specs.Option.{option_map};
+ghost use Rattle.sc_context.specs.Contexts.{IsEnded, IsReady, Stops};
+ghost use Rattle.sc_context.specs.Jobs.{HasBegunFor};
+ghost use Rattle.sc_context.specs.Progress.{IsNext};
+ghost use Rattle.sc_jobs.specs.JobData.{IsGoal, goal_node};
+ghost use Rattle.sc_stagecut.specs.Carrying.{HasBounds};
+
+use crate::context::Context;
+use crate::lasts::last_end;
+use crate::stops::Stopped;
+use crate::went::run_world;
+use sc_columns::Rows;
+use sc_core::{Core, JobHistory};
+use sc_desk::{Desk, Passed};
+use sc_jobs::{Goal, laws_of_jobs};
+use sc_store::Store;
+use sc_work::{Naming, SharedWork};
+use sc_world::World;
+use std::alloc::{AllocError, Global};
+
+/// A job that is done, and what goes on behind it.
+#[derive(Drop)]
+pub(crate) struct Ended<W: Naming> {
+    pub(crate) work: SharedWork<W>,
+    pub(crate) passed: Passed,
+    pub(crate) stores: Vec<Store<W>>,
+    pub(crate) histories: Vec<JobHistory>,
+    pub(crate) actions: u32,
+    /// The rows of its results.
+    pub(crate) rows: Vec<Rows>,
+}
+
+impl<W: Naming> Context<W> {
+    /// Runs the job that comes next to its end. Room for its history is made before it begins.
+    pub(crate) fn run_job(self, alloc: Global, goal: Goal) -> Result<Ended<W>, Stopped>
+        requires next { IsNext W.work self.progress goal }
+        requires within { self.progress.actions < length W.work.script.actions }
+        ensures ended { IfOk result (λ e. IsEnded W.work self goal e.passed e.stores.items
+            e.histories.items e.rows.items) }
+        ensures actions { IfOk result (λ e. e.actions ≡ self.progress.actions) }
+        ensures stops { IfErr result (λ s. Stops W.work self.progress.actions s.why
+            s.histories.items) }
+    {
+        show_next(&self.work, goal);
+        let Context {
+            work,
+            passed,
+            stores,
+            mut histories,
+            actions,
+        } = self;
+        if histories.reserve(1).is_err() {
+            return Err(Stopped::without_memory(histories));
+        }
+        let last = last_end(histories.as_slice());
+        let Ok(world) = begin_world(alloc, &work, passed, stores, last, goal) else {
+            return Err(Stopped::without_memory(histories));
+        };
+        let went = run_world(alloc, world);
+        histories.push_reserved(went.history);
+        match went.rows {
+            Ok(rows) => Ok(Ended {
+                work,
+                passed: went.passed,
+                stores: went.stores,
+                histories,
+                actions,
+                rows,
+            }),
+            Err(why) => Err(Stopped { why, histories }),
+        }
+    }
+}
+
+/// The world of a job that begins behind the core of the last one or none.
+fn begin_world<W: Naming>(
+    alloc: Global,
+    work: &SharedWork<W>,
+    passed: Passed,
+    stores: Vec<Store<W>>,
+    last: Option<&Core>,
+    goal: Goal,
+) -> Result<World<W>, AllocError>
+    requires goal { IsGoal W.work goal }
+    requires bounds { HasBounds W.work.script.nodes passed.carried (goal_node W.work goal) }
+    requires ready { IsReady W.work passed stores.items (option_map (λ l. l.now) last) }
+    ensures begun { IfOk result (λ w. HasBegunFor W.work passed stores.items
+        (option_map (λ l. l.now) last.entry) goal w) }
+{
+    let Ok(desk) = Desk::begin(alloc, work.share()?, passed, last, goal) else {
+        return Err(AllocError);
+    };
+    desk.core().is_sound();
+    match World::begin(alloc, desk, stores) {
+        Ok(world) => Ok(world),
+        Err(_) => Err(AllocError),
+    }
+}

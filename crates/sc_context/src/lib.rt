@@ -1,0 +1,29 @@
+//! The jobs of a run: which comes next, how each went, and what the actions give.
+//!
+//! A [`Context`] runs the actions of a work in order. Before an action's own job come those that
+//! find the bounds of the sorts which it reads, where these weren't found before; each job begins
+//! behind what the ones before left: stages, bounds, registered map outputs, the stores of the
+//! executors, and how many reports were told. Each leaves its history. An action gives what the
+//! sequential meaning says, whatever the fault plan does, or a job is aborted, and then the last
+//! history shows why.
+//!
+//! `specs/Progress.antt` says which job comes next, `specs/Histories.antt` how jobs follow one
+//! another, `specs/Aborts.antt` what an abort shows, and `specs/Contexts.antt` what an action
+//! answers. One thread runs the jobs (`World::serial`); nothing is written here.
+//!
+//! After `SparkContext.runJob` of Spark.
+#![tactic(auto)]
+
+mod actions;
+mod bounds;
+mod context;
+mod jobs;
+mod lasts;
+mod results;
+mod starts;
+mod stops;
+mod went;
+
+pub use actions::Given;
+pub use context::Context;
+pub use stops::Stopped;

@@ -1,0 +1,92 @@
+//! A job that goes to its end.
+#![tactic(auto)]
+
+ghost use Rattle.std.specs.Prelude.{◌≡◌, IfErr, IfOk, Some, false, map};
+ghost use Rattle.sc_context.specs.Contexts.{AreReadyBehind};
+ghost use Rattle.sc_context.specs.Jobs.{AreRowsOf, HasNoRows};
+ghost use Rattle.sc_context.specs.Results.{AreThere};
+ghost use Rattle.sc_core.specs.CoreData.{job_runs};
+ghost use Rattle.sc_core.specs.Journals.{Replays};
+ghost use Rattle.sc_core.specs.declared.answers.Job.TheVariants.{Done};
+ghost use Rattle.sc_desk.specs.Begins.{FitsLast, IsPassedFor};
+ghost use Rattle.sc_desk.specs.Sound.{AreEvident};
+ghost use Rattle.sc_world.specs.Serial.{IsResting};
+
+use crate::results::all_rows;
+use sc_base::OrMemory;
+use sc_columns::Rows;
+use sc_core::{Abort, Core, Job, JobHistory};
+use sc_desk::{Closed, Passed};
+use sc_store::Store;
+use sc_work::Naming;
+use sc_world::World;
+use std::alloc::Global;
+
+/// How a job went, and what is left of it.
+#[derive(Drop)]
+pub(crate) struct Went<W: Naming> {
+    pub(crate) history: JobHistory,
+    pub(crate) passed: Passed,
+    pub(crate) stores: Vec<Store<W>>,
+    /// The rows of its results, or why there are none.
+    pub(crate) rows: Result<Vec<Rows>, OrMemory<Abort>>,
+}
+
+/// Runs a job to its end, or as far as memory allows.
+pub(crate) fn run_world<W: Naming>(alloc: Global, world: World<W>) -> Went<W>
+    requires rests { IsResting world }
+    ensures opening { result.history.opening ≡ world.desk.journal.opening }
+    ensures replays { Replays result.history.opening result.history.entries.items
+        result.history.end }
+    ensures evidence { (is : Replays result.history.opening result.history.entries.items
+        result.history.end) → AreEvident W.work world.desk.job result.history.opening
+        result.history.entries.items result.history.end is }
+    ensures carried { result.passed.carried ≡ world.desk.carried }
+    ensures passed { IsPassedFor W.work result.passed }
+    ensures fits { FitsLast W.work (Some result.history.end) }
+    ensures ready { AreReadyBehind W.work result.stores.items (Some result.history.end) }
+    ensures rows { IfOk result.rows (λ rows. AreRowsOf W.work world.desk.job.goal
+        result.history.end rows.items) }
+    ensures none { IfErr result.rows (HasNoRows result.history.end) }
+{
+    let mut world = world;
+    let ran = world.serial(alloc);
+    world.desk().is_sound();
+    world.desk().job().is_job();
+    let (closed, stores) = world.close();
+    let Closed {
+        history,
+        results,
+        passed,
+        ..
+    } = closed;
+    let rows = match ran {
+        Ok(()) => rows_of(alloc, &history.end, results.as_slice()),
+        Err(_) => Err(OrMemory::OutOfMemory),
+    };
+    Went {
+        history,
+        passed,
+        stores,
+        rows,
+    }
+}
+
+/// The rows of the results of a job that has ended, or why there are none.
+fn rows_of(
+    alloc: Global,
+    end: &Core,
+    results: &[Option<Rows>],
+) -> Result<Vec<Rows>, OrMemory<Abort>>
+    requires ended { job_runs end.now ≡ false }
+    requires whole { end.now.job ≡ Done → AreThere results.now }
+    ensures rows { IfOk result (λ rows. results.now ≡ map Some rows.items) }
+    ensures done { IfOk result (λ rows. end.now.job ≡ Done) }
+    ensures none { IfErr result (HasNoRows end.now) }
+{
+    match end.job() {
+        Job::Done => Ok(all_rows(alloc, results)?),
+        Job::Aborted(abort) => Err(OrMemory::Fault(abort)),
+        Job::Running => unreachable!(),
+    }
+}
