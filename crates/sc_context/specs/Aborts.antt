@@ -1,5 +1,5 @@
 -- What an abort shows.
-use Rattle.std.specs.Prelude.{ℕ, ◌<◌, ◌≡◌, List, []}
+use Rattle.std.specs.Prelude.{ℕ, ◌<◌, ◌≡◌, List, [], length}
 use Rattle.sc_lineage.specs.Actions.{action_outcome, never}
 use Rattle.sc_lineage.specs.ScriptData.{WorkData}
 use Rattle.sc_core.specs.Journals.{Replays}
@@ -43,6 +43,7 @@ IsUnplanned work k Budget = Unit {0}
 -- the last job, which ran for this action or for bounds that it needs, was aborted
 pub record IsAborted (work : WorkData) (k : ℕ) (histories : List JobHistory) (abort : Abort)
     : Type 0 where
+  pub known : k < length work.script.actions
   pub progress : Progress
   pub goal : Goal
   pub history : JobHistory

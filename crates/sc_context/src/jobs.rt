@@ -45,7 +45,9 @@ impl<W: Naming> Context<W> {
         ensures stops { IfErr result (λ s. Stops W.work self.progress.actions s.why
             s.histories.items) }
     {
-        show_next(&self.work, goal);
+        laws_of_jobs();
+        self.work.is_named();
+        self.work.get().is_sound();
         let Context {
             work,
             passed,
