@@ -8,10 +8,7 @@ use sc_columns::Rows;
 use std::alloc::{AllocError, Global};
 
 /// The rows of all partitions in order, where each has its result. None of them is copied.
-pub(crate) fn all_rows(
-    alloc: Global,
-    results: &[Option<Rows>],
-) -> Result<Vec<Rows>, AllocError>
+pub(crate) fn all_rows(alloc: Global, results: &[Option<Rows>]) -> Result<Vec<Rows>, AllocError>
     requires { AreThere results.now }
     ensures { IfOk result (λ v. results.now ≡ map Some v.items) }
 {

@@ -1,0 +1,68 @@
+-- Jobs one behind the other.
+use Rattle.std.proofs.Common.{◌≡◌, ◌∙◌, ◌⊎◌, inr, ℕ, zero, suc, ◌+◌, ◌-◌, ◌<◌, ◌≤◌, List, [], ◌∷◌, ◌++◌, Option, Some, None, length, slice_get, refl, ap, sym, subst, arith, append_assoc}
+use Rattle.std.specs.Option.{option_map}
+use Rattle.std.proofs.lemmas.List.{append-nil, length-append}
+use Rattle.sc_base.specs.Lists.{at_or}
+use Rattle.sc_lineage.specs.ScriptData.{WorkData, IsSoundScript}
+use Rattle.sc_core.specs.CoreData.{CoreData}
+use Rattle.sc_core.specs.declared.answers.Job.TheVariants.{Done}
+use Rattle.sc_core.specs.declared.journals.JobHistory.{JobHistory}
+use Rattle.sc_stagecut.specs.Carrying.{HasBounds}
+use Rattle.sc_jobs.specs.JobData.{IsGoal, goal_node}
+use Rattle.sc_jobs.specs.JobLaws.{FirstBoundsCanBeFound}
+use Rattle.sc_jobs.specs.declared.goals.Goal.{Goal}
+use Rattle.sc_jobs.specs.declared.goals.Goal.TheVariants as goals
+use Rattle.sc_context.specs.Contexts.{ContextData, IsEnded}
+use Rattle.sc_context.specs.Histories.{HasCome, HasGone, IsCutShort, IsDone, IsHistory, last_end}
+use Rattle.sc_context.specs.Progress.{IsNext, Progress, behind_job, first_progress, next_node}
+
+-- one job more is done
+pub come_more : (work : WorkData) (p mid after : Progress) (histories : List JobHistory)
+    (h : JobHistory) → HasCome work p histories mid → IsDone work mid h after
+    → HasCome work p (histories ++ h ∷ []) after
+come_more work p mid after [] h come done =
+    (after, subst (λ q. IsDone work q h after) come done, refl)
+come_more work p mid after (x ∷ histories) h (q, first, rest) done =
+    (q, first, come_more work q mid after histories h rest done)
+
+-- the core that the last job left
+pub last_more : (histories : List JobHistory) (h : JobHistory)
+    → last_end (histories ++ h ∷ []) ≡ Some h.end
+last_more histories h =
+    let len = length-append histories (h ∷ []) in
+    let place : length (histories ++ h ∷ []) - 1 ≡ length histories = omega (arith, len) in
+    ap (λ i. option_map (λ (x : JobHistory). x.end) (slice_get (histories ++ h ∷ []) i)) place
+    ∙ ap (option_map (λ (x : JobHistory). x.end)) (behind histories)
+  where
+    behind : (xs : List JobHistory) → slice_get (xs ++ h ∷ []) (length xs) ≡ Some h
+    behind [] = refl
+    behind (x ∷ xs) = behind xs
+
+-- the job that comes next is for something that is there, and lacks no bounds
+pub next_known : FirstBoundsCanBeFound → (work : WorkData) (p : Progress) (goal : Goal)
+    → IsSoundScript work.script → p.actions < length work.script.actions → IsNext work p goal
+    → IsGoal work goal × HasBounds work.script.nodes p.carried (goal_node work goal)
+next_known law work p (goals.Action number) sound within (same, first) = (
+  subst (λ n. n < length work.script.actions) (sym same) within,
+  subst (λ n. HasBounds work.script.nodes p.carried (goal_node work (goals.Action n)))
+      (sym same) first,
+)
+next_known law work p (goals.Bounds sort) sound within first =
+    law work p.carried (next_node work p) sort sound first
+
+-- a job that is done, as the progress behind it has it
+pub ended_come : (work : WorkData) (p : Progress) (histories : List JobHistory) (h : JobHistory)
+    (goal : Goal) → HasCome work (first_progress work) histories p
+    → (is : IsHistory work p goal h) → h.end.job ≡ Done
+    → HasCome work (first_progress work) (histories ++ h ∷ [])
+    (behind_job work p goal is.graph h.end)
+ended_come work p histories h goal come is done =
+    come_more work (first_progress work) p (behind_job work p goal is.graph h.end) histories h come
+    (record { goal = goal; is = is; done = done; behind = refl })
+
+-- memory ran out behind a job
+pub ended_short : (work : WorkData) (p : Progress) (before after : List JobHistory)
+    (h : JobHistory) (goal : Goal) → HasCome work (first_progress work) before p
+    → IsHistory work p goal h → after ≡ before ++ h ∷ [] → IsCutShort work after
+ended_short work p before after h goal come is all =
+    (p, inr (goal, h, record { before = before; all = all; come = come; is = is }))

@@ -1,0 +1,153 @@
+-- What a job leaves that went somehow.
+use Rattle.std.proofs.Common.{◌≡◌, ◌∙◌, ℕ, ◌+◌, ◌<◌, ◌≤◌, List, [], ◌∷◌, ◌++◌, Option, Some, None, length, slice_get, refl, ap, ap₂, sym, subst, arith}
+use Rattle.sc_base.specs.declared.refusals.OrMemory.{OrMemory}
+use Rattle.sc_base.specs.declared.refusals.OrMemory.TheVariants.{Fault, OutOfMemory}
+use Rattle.sc_value.specs.Datum.{Datum}
+use Rattle.sc_lineage.specs.ScriptData.{WorkData, IsSoundWork}
+use Rattle.sc_stagecut.specs.Carrying.{IsCarriedFor, after_job}
+use Rattle.sc_stagecut.specs.Cuts.{IsCut}
+use Rattle.sc_core.specs.CoreData.{CoreData}
+use Rattle.sc_core.specs.Journals.{Replays}
+use Rattle.sc_core.specs.Openings.{IsOpening}
+use Rattle.sc_core.specs.Sound.{IsSoundCore}
+use Rattle.sc_core.specs.declared.answers.Abort.{Abort}
+use Rattle.sc_core.specs.declared.answers.Job.TheVariants.{Done}
+use Rattle.sc_core.specs.declared.journals.JobHistory.{JobHistory}
+use Rattle.sc_jobs.specs.JobData.{IsGoal, JobData, goal_node, job_data}
+use Rattle.sc_jobs.specs.declared.goals.Goal.{Goal}
+use Rattle.sc_store.specs.StoreData.{StoreData}
+use Rattle.sc_desk.specs.Begins.{FitsRun, IsPassedFor}
+use Rattle.sc_desk.specs.DeskData.{DeskData, PassedData}
+use Rattle.sc_desk.specs.Sound.{AreEvident}
+use Rattle.sc_world.specs.WorldData.{WorldData}
+use Rattle.sc_context.specs.Contexts.{ContextData, IsContext, IsEnded, IsReady, Stops, context_data}
+use Rattle.sc_context.specs.Histories.{HasCome, IsHistory, last_end}
+use Rattle.sc_context.specs.Jobs.{AreRowsFor, AreRowsOf, HasBegunFor, HasNoRows}
+use Rattle.sc_context.specs.Progress.{IsNext, Progress, actions_behind, behind_job, carried_behind, first_progress, progress}
+use Rattle.sc_context.proofs.AbortLemmas.{AreLaws, is_aborted}
+use Rattle.sc_context.proofs.ChainLemmas.{ended_come, ended_short, last_more}
+
+-- a job went somehow behind others, and this goes on
+pub record HasWent (work : WorkData) (p : Progress) (goal : Goal) (h : JobHistory)
+    (after : PassedData) : Type 0 where
+  pub is : IsHistory work p goal h
+  pub carried : after.carried ≡ after_job p.carried is.graph
+
+-- The world of a job that begins, and the history that it leaves.
+module _ (work : WorkData) (p : Progress) (goal : Goal) (passed : PassedData)
+    (stores : List StoreData) (w : WorldData)
+    (begun : HasBegunFor work passed stores p.last goal w) where
+  desk_is : w.desk ≡ begun.desk
+  desk_is = ap (λ (x : WorldData). x.desk) begun.idle
+
+  pub goal_is : w.desk.job.goal ≡ goal
+  goal_is = ap (λ (x : DeskData). x.job.goal) desk_is ∙ begun.begins.goal_is
+
+  job_is : w.desk.job ≡ job_data goal begun.desk.job.graph
+  job_is =
+      ap (λ (x : DeskData). x.job) desk_is
+      ∙ ap (λ g. job_data g begun.desk.job.graph) begun.begins.goal_is
+
+  pub has_went : (h : JobHistory) (after : PassedData) → IsNext work p goal
+      → passed.carried ≡ p.carried → h.opening ≡ w.desk.journal.opening
+      → IsSoundCore h.opening → (replays : Replays h.opening h.entries.items h.end)
+      → ((is : Replays h.opening h.entries.items h.end)
+      → AreEvident work w.desk.job h.opening h.entries.items h.end is)
+      → after.carried ≡ w.desk.carried → HasWent work p goal h after
+  has_went h after next same opening core replays evident carried =
+      record {
+        is = record {
+          next = next;
+          graph = begun.desk.job.graph;
+          cut = subst (λ c. IsCut work c (goal_node work goal) begun.desk.job.graph) same
+              begun.begins.cut;
+          opening = subst (IsOpening begun.desk.job.graph work.limits 0 work.plan p.last)
+              (sym (opening ∙ ap (λ (x : DeskData). x.journal.opening) desk_is))
+              begun.begins.opening;
+          began = core;
+          replays = replays;
+          evidence = subst
+              (λ (j : JobData). AreEvident work j h.opening h.entries.items h.end replays)
+              job_is (evident replays);
+        };
+        carried = carried
+            ∙ ap (λ (x : DeskData). x.carried) desk_is
+            ∙ begun.begins.carried_on
+            ∙ ap (λ c. after_job c begun.desk.job.graph) same;
+      }
+
+-- the rows of a job that is done are those for its goal
+pub rows_for : (work : WorkData) (own goal : Goal) (end : CoreData) (rows : List (List Datum))
+    → own ≡ goal → AreRowsOf work own end rows → AreRowsFor work goal rows
+rows_for work own goal end rows same are =
+    subst (λ g. AreRowsFor work g rows) same are.results
+
+-- a job that is done
+pub ended_is : (work : WorkData) (c : ContextData) (goal : Goal) (h : JobHistory)
+    (passed : PassedData) (stores : List StoreData) (histories : List JobHistory)
+    (rows : List (List Datum)) → HasWent work c.progress goal h passed
+    → histories ≡ c.histories ++ h ∷ [] → h.end.job ≡ Done
+    → IsReady work passed stores (Some h.end) → AreRowsFor work goal rows
+    → IsEnded work c goal passed stores histories rows
+ended_is work c goal h passed stores histories rows went all done ready rows_are =
+    record {
+      history = h;
+      all = all;
+      is = went.is;
+      done = done;
+      carried = went.carried;
+      ready = ready;
+      results = rows_are;
+    }
+
+-- one that has no rows
+pub stops_job : AreLaws → (work : WorkData) → IsSoundWork work → (p : Progress) (goal : Goal)
+    (h : JobHistory) (before histories : List JobHistory) → IsHistory work p goal h
+    → IsSoundCore h.end → FitsRun work h.end → HasCome work (first_progress work) before p
+    → histories ≡ before ++ h ∷ [] → p.actions < length work.script.actions
+    → IsCarriedFor work.script.nodes p.carried
+    → IsGoal work goal → (why : OrMemory Abort) → HasNoRows h.end why
+    → Stops work p.actions why histories
+stops_job laws work sound p goal h before histories is core fits come all within carried known
+    (Fault abort) e =
+    is_aborted laws work sound p goal h is core fits histories before abort come all within carried
+    known e
+stops_job laws work sound p goal h before histories is core fits come all within carried known
+    OutOfMemory e =
+    ended_short work p before histories h goal come is all
+
+-- ---- the context behind a job
+
+-- behind a job that is done stands a context
+pub context_behind : (work : WorkData) (c : ContextData) (goal : Goal) (passed after : PassedData)
+    (stores : List StoreData) (histories : List JobHistory) (rows : List (List Datum))
+    (actions : ℕ) → HasCome work (first_progress work) c.histories c.progress
+    → (ended : IsEnded work c goal passed stores histories rows)
+    → after.carried ≡ carried_behind work goal ended.is.graph c.progress.carried
+    → actions ≡ actions_behind goal c.progress.actions → actions ≤ length work.script.actions
+    → IsPassedFor work after → length after.carried.bounds ≡ length work.script.nodes
+    → IsContext work after stores (context_data actions after.carried histories)
+context_behind work c goal passed after stores histories rows actions come ended carried many within
+    serves places =
+    record {
+      come = rw (progress_is, ended.all)
+          (ended_come work c.progress c.histories ended.history goal come ended.is ended.done);
+      within = within;
+      ready = rw last_is (record {
+        passed_on = serves;
+        fits = ended.ready.fits;
+        stores_are = ended.ready.stores_are;
+      });
+      places = places;
+    }
+  where
+    last_is : last_end histories ≡ Some ended.history.end
+    last_is = ap last_end ended.all ∙ last_more c.histories ended.history
+
+    progress_is : progress actions after.carried (last_end histories)
+        ≡ behind_job work c.progress goal ended.is.graph ended.history.end
+    progress_is =
+        ap (λ l. progress actions after.carried l) last_is
+        ∙ ap (λ k. progress actions k (Some ended.history.end)) carried
+        ∙ ap (λ n. progress n (carried_behind work goal ended.is.graph c.progress.carried)
+        (Some ended.history.end)) many

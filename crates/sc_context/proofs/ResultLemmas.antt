@@ -1,0 +1,104 @@
+-- The rows of the results of a job that is done.
+use Rattle.std.proofs.Common.{◌≡◌, ◌≢◌, ◌∙◌, ℕ, zero, suc, ◌+◌, ◌-◌, ◌<◌, List, [], ◌∷◌, ◌++◌, Option, Some, None, length, map, get_or, slice_get, is_some, unwrap_or, true≢false, refl, ap, sym, subst, arith}
+use Rattle.std.specs.List.{All}
+use Rattle.std.proofs.lemmas.List.{ext_get_or, get_or-map, length-map}
+use Rattle.std.proofs.lemmas.List.Elements.{All-from_get_or, All-head, All-tail}
+use Rattle.sc_base.specs.Lists.{at_or}
+use Rattle.sc_value.specs.Datum.{Datum}
+use Rattle.sc_ids.specs.Graphs.{StageData}
+use Rattle.sc_lineage.specs.Actions.{local_results}
+use Rattle.sc_lineage.specs.ScriptData.{ActionData, WorkData}
+use Rattle.sc_lineage.specs.Streams.{whole_stream}
+use Rattle.sc_lineage.specs.Targets.{own_value, result_target}
+use Rattle.sc_lineage.specs.declared.streams.Stream.{Stream}
+use Rattle.sc_lineage.proofs.PlaceLemmas.{at_or-found, at_or-get_or}
+use Rattle.sc_compute.specs.Stages.{local_count}
+use Rattle.sc_compute.proofs.OutcomeLemmas.{length-results, result_at as result_of_partition}
+use Rattle.sc_dag.specs.DagData.{DagData, no_stage, stage_at}
+use Rattle.sc_dag.specs.Openings.{AreNumbered, number_behind}
+use Rattle.sc_core.specs.CoreData.{result_stage}
+use Rattle.sc_jobs.specs.JobData.{JobData, goal_action, goal_node}
+use Rattle.sc_jobs.specs.JobLaws.{JobsGiveResults}
+use Rattle.sc_jobs.specs.Plans.{GivesResults, IsJobFor}
+use Rattle.sc_desk.specs.DeskData.{DeskData, core_of}
+use Rattle.sc_desk.specs.Sound.{AreAllResults, IsResult, IsSoundDesk, result_at, result_count}
+use Rattle.sc_context.specs.Jobs.{AreRowsFor}
+use Rattle.sc_context.specs.Results.{AreThere}
+
+-- where all results are there none is wanting
+pub all_are_there : (work : WorkData) (job : JobData) (results : List (Option (List Datum)))
+    → AreAllResults work job results → AreThere results
+all_are_there work job results all =
+    All-from_get_or (λ found. found ≢ None) results None there
+  where
+    there : (p : ℕ) → p < length results → get_or results p None ≢ None
+    there p lt e =
+        let has = all p lt in
+        absurd (true≢false (ap is_some (sym has.1 ∙ at_or-get_or results p None ∙ e)))
+
+-- ---- how many there are
+
+last_contains : (maps : List StageData) (stage : StageData) (P : StageData → Type 0)
+    → All P (maps ++ stage ∷ []) → P stage
+last_contains [] stage P all = All-head P stage [] all
+last_contains (m ∷ maps) stage P all =
+    last_contains maps stage P (All-tail P m (maps ++ stage ∷ []) all)
+
+-- a desk has a place for the result of each partition of the node that its job is for
+pub places_are : JobsGiveResults → (work : WorkData) (d : DeskData) → IsSoundDesk work d
+    → IsJobFor work d.job → length d.results ≡ local_count work (goal_node work d.job.goal)
+places_are law work d sound job =
+    let gives = law work d.job job in
+    let stage = gives.0 in
+    let stages = (core_of d).dag.stages in
+    let found : slice_get stages stage.id ≡ Some stage =
+    last_contains gives.1.maps stage (λ s. slice_get stages s.id ≡ Some s)
+    (subst (All (λ (s : StageData). slice_get stages s.id ≡ Some s)) gives.1.last
+    sound.stages.each) in
+    let many = sound.stages.many ∙ gives.1.number in
+    let place : length stages - 1 ≡ stage.id = omega (arith, many) in
+    sound.places
+    ∙ ap (λ i. (at_or stages i no_stage).tasks) place
+    ∙ ap (λ (s : StageData). s.tasks) (at_or-found stages stage.id stage no_stage found)
+    ∙ gives.1.tasks
+
+-- ---- what they are
+
+some_inside : {A : Type 0} (x y : A) → Some x ≡ Some y → x ≡ y
+some_inside x y e = ap (λ o. unwrap_or o x) e
+
+-- the rows of all partitions are those that the job's action has by the local meaning
+pub rows_are : (work : WorkData) (job : JobData) (results : List (Option (List Datum)))
+    (rows : List (List Datum)) → AreAllResults work job results
+    → length results ≡ local_count work (goal_node work job.goal) → results ≡ map Some rows
+    → AreRowsFor work job.goal rows
+rows_are work job results rows all many are =
+    ext_get_or (whole_stream []) (local_results work action) (map whole_stream rows)
+    (length-results work action ∙ sym long ∙ sym (length-map rows whole_stream)) each
+  where
+    action : ActionData
+    action = goal_action work job.goal
+
+    long : length rows ≡ local_count work (goal_node work job.goal)
+    long = sym (ap length are ∙ length-map rows Some) ∙ many
+
+    -- the rows of a partition
+    found : (p : ℕ) → p < length rows → result_at results p ≡ Some (get_or rows p [])
+    found p lt =
+        at_or-get_or results p None
+        ∙ ap (λ rs. get_or rs p None) are
+        ∙ get_or-map Some rows p [] None lt
+
+    each : (p : ℕ) → p < length (local_results work action)
+        → get_or (local_results work action) p (whole_stream [])
+        ≡ get_or (map whole_stream rows) p (whole_stream [])
+    each p within =
+        let len = length-results work action in
+        let below : p < local_count work (goal_node work job.goal) = omega (arith, within, len) in
+        let lt : p < length rows = omega (arith, below, long) in
+        let has = all p (omega (arith, below, many)) in
+        let same = some_inside has.0 (get_or rows p []) (sym has.1 ∙ found p lt) in
+        result_of_partition work action p (whole_stream []) below
+        ∙ has.2
+        ∙ ap whole_stream same
+        ∙ sym (get_or-map whole_stream rows p [] (whole_stream []) lt)
