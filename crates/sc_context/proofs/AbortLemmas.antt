@@ -29,13 +29,15 @@ use Rattle.sc_core.specs.declared.events.Outcome.{Outcome}
 use Rattle.sc_core.specs.declared.events.Outcome.TheVariants as outcomes
 use Rattle.sc_core.specs.declared.journals.JobHistory.{JobHistory}
 use Rattle.sc_core.specs.declared.running.Shelved.{Shelved}
-use Rattle.sc_causes.specs.Losses.{EmptyPlansLoseNone, PlannedLossesAlone}
-use Rattle.sc_causes.specs.Raises.{RaisesLeaveNoValue, Serves}
-use Rattle.sc_history.specs.Budgets.{BudgetsAreShown}
-use Rattle.sc_history.specs.Evidence.{ShowsTaskLimit, TaskLimitsAreShown, counts, is_failure_of, is_of_task}
-use Rattle.sc_history.specs.Losses.{NoExecutorsAreShown}
-use Rattle.sc_history.specs.StageEvidence.{StageLimitsAreShown}
+use Rattle.sc_causes.specs.Raises.{Serves}
+use Rattle.sc_causes.proofs.LossLemmas.{empty_plans_lose_none, planned_losses_alone}
+use Rattle.sc_causes.proofs.RaiseLemmas.{raises_leave_no_value}
+use Rattle.sc_history.specs.Evidence.{ShowsTaskLimit, counts, is_failure_of, is_of_task}
 use Rattle.sc_history.specs.Tellings.{Telling, is_heard, telling, tellings, tellings_in, told_late}
+use Rattle.sc_history.proofs.BudgetLemmas.{budgets_are_shown}
+use Rattle.sc_history.proofs.LossLemmas.{no_executors_are_shown}
+use Rattle.sc_history.proofs.StageLimitLemmas.{stage_limits_are_shown}
+use Rattle.sc_history.proofs.TaskLimitLemmas.{task_limits_are_shown}
 use Rattle.sc_jobs.specs.JobData.{IsGoal, JobData, goal_action, goal_node, job_data}
 use Rattle.sc_jobs.specs.declared.goals.Goal.{Goal}
 use Rattle.sc_jobs.specs.declared.goals.Goal.TheVariants as goals
@@ -44,16 +46,6 @@ use Rattle.sc_desk.specs.Sound.{AreEvident, EndedFor, IsEvident}
 use Rattle.sc_context.specs.Aborts.{IsAborted, IsUnplanned, ShowsAbort}
 use Rattle.sc_context.specs.Histories.{HasCome, IsHistory}
 use Rattle.sc_context.specs.Progress.{IsNext, Progress, first_progress}
-
--- the laws of journals and causes
-pub record AreLaws : Type 0 where
-  pub task_limit : TaskLimitsAreShown
-  pub stage_limit : StageLimitsAreShown
-  pub no_executor : NoExecutorsAreShown
-  pub budget : BudgetsAreShown
-  pub raises : RaisesLeaveNoValue
-  pub losses : PlannedLossesAlone
-  pub empty : EmptyPlansLoseNone
 
 -- ---- evidence of what is told
 
@@ -99,29 +91,29 @@ told_evident work job c (entry ∷ entries) end (mid, step, rest) h =
 
 -- ---- aborts
 
-module _ (laws : AreLaws) (work : WorkData) (sound : IsSoundWork work) (p : Progress)
+module _ (work : WorkData) (sound : IsSoundWork work) (p : Progress)
     (goal : Goal) (h : JobHistory) (is : IsHistory work p goal h) (core : IsSoundCore h.end)
     (fits : FitsRun work h.end) where
   -- every executor was told lost
   all_lost : h.end.job ≡ jobs.Aborted NoExecutor → are_lost h.end.dag.tracker.trust ≡ true
   all_lost e =
-      laws.no_executor is.graph work.limits 0 work.plan p.last h.opening h.end h.entries.items
+      no_executors_are_shown is.graph work.limits 0 work.plan p.last h.opening h.end h.entries.items
       is.opening is.began is.replays e
 
   -- the history shows the abort
   pub shows_abort : (abort : Abort) → h.end.job ≡ jobs.Aborted abort
       → ShowsAbort work h is.replays abort
   shows_abort (TaskLimit stage number partition) e =
-      laws.task_limit is.graph work.limits 0 work.plan p.last h.opening h.end h.entries.items
+      task_limits_are_shown is.graph work.limits 0 work.plan p.last h.opening h.end h.entries.items
       stage number partition is.opening is.began is.replays e
   shows_abort (StageLimit stage) e =
-      laws.stage_limit is.graph work.limits 0 work.plan p.last h.opening h.end h.entries.items
+      stage_limits_are_shown is.graph work.limits 0 work.plan p.last h.opening h.end h.entries.items
       stage is.opening is.began is.replays e
   shows_abort NoExecutor e = λ exec within.
-      laws.losses work.plan h.end exec core fits.plan (all_lost e)
+      planned_losses_alone work.plan h.end exec core fits.plan (all_lost e)
       (subst (λ n. exec < n) (sym fits.execs) within)
   shows_abort Budget e =
-      laws.budget is.graph work.limits 0 work.plan p.last h.opening h.end h.entries.items
+      budgets_are_shown is.graph work.limits 0 work.plan p.last h.opening h.end h.entries.items
       is.opening is.replays e
 
   -- Where the plan has no line.
@@ -143,7 +135,7 @@ module _ (laws : AreLaws) (work : WorkData) (sound : IsSoundWork work) (p : Prog
         absurd (false≢true
         (subst (λ (plan : List PlanLine). is_failed plan (place_of a) ≡ true) empty failed))
     counted_raises told a causes.Raised counted raised =
-        (laws.raises work p.carried goal is.graph a.stage a.partition raised.raise sound.script
+        (raises_leave_no_value work p.carried goal is.graph a.stage a.partition raised.raise sound.script
         carried known is.cut raised.task raised.own).served p.actions (serves goal is.next)
     counted_raises told a (causes.Device fault) counted failed = absurd failed
     counted_raises told a (causes.Gone exec wanted found) counted failed =
@@ -194,7 +186,7 @@ module _ (laws : AreLaws) (work : WorkData) (sound : IsSoundWork work) (p : Prog
         let some : 0 < length h.end.dag.tracker.trust =
         subst (λ n. 0 < n) (sym fits.execs) (omega (arith, sound.limits.executors.above)) in
         absurd (true≢false (sym (all_lost e)
-        ∙ laws.empty.left h.end core (fits.plan ∙ empty) some))
+        ∙ empty_plans_lose_none.left h.end core (fits.plan ∙ empty) some))
     unplanned_abort Budget e = tt
 
   -- the job was aborted

@@ -9,9 +9,9 @@ use Rattle.sc_core.specs.declared.answers.Job.TheVariants.{Done}
 use Rattle.sc_core.specs.declared.journals.JobHistory.{JobHistory}
 use Rattle.sc_stagecut.specs.Carrying.{HasBounds}
 use Rattle.sc_jobs.specs.JobData.{IsGoal, goal_node}
-use Rattle.sc_jobs.specs.JobLaws.{FirstBoundsCanBeFound}
 use Rattle.sc_jobs.specs.declared.goals.Goal.{Goal}
 use Rattle.sc_jobs.specs.declared.goals.Goal.TheVariants as goals
+use Rattle.sc_jobs.proofs.SortLemmas.{first_bounds_can_be_found}
 use Rattle.sc_context.specs.Contexts.{ContextData, IsEnded}
 use Rattle.sc_context.specs.Histories.{HasCome, HasGone, IsCutShort, IsDone, IsHistory, last_end}
 use Rattle.sc_context.specs.Progress.{IsNext, Progress, behind_job, first_progress, next_node}
@@ -39,16 +39,16 @@ last_more histories h =
     behind (x ∷ xs) = behind xs
 
 -- the job that comes next is for something that is there, and lacks no bounds
-pub next_known : FirstBoundsCanBeFound → (work : WorkData) (p : Progress) (goal : Goal)
+pub next_known : (work : WorkData) (p : Progress) (goal : Goal)
     → IsSoundScript work.script → p.actions < length work.script.actions → IsNext work p goal
     → IsGoal work goal × HasBounds work.script.nodes p.carried (goal_node work goal)
-next_known law work p (goals.Action number) sound within (same, first) = (
+next_known work p (goals.Action number) sound within (same, first) = (
   subst (λ n. n < length work.script.actions) (sym same) within,
   subst (λ n. HasBounds work.script.nodes p.carried (goal_node work (goals.Action n)))
       (sym same) first,
 )
-next_known law work p (goals.Bounds sort) sound within first =
-    law work p.carried (next_node work p) sort sound first
+next_known work p (goals.Bounds sort) sound within first =
+    first_bounds_can_be_found work p.carried (next_node work p) sort sound first
 
 -- a job that is done, as the progress behind it has it
 pub ended_come : (work : WorkData) (p : Progress) (histories : List JobHistory) (h : JobHistory)

@@ -1,5 +1,6 @@
 -- What a job leaves that went somehow.
-use Rattle.std.proofs.Common.{◌≡◌, ◌∙◌, ℕ, ◌+◌, ◌<◌, ◌≤◌, List, [], ◌∷◌, ◌++◌, Option, Some, None, length, slice_get, refl, ap, ap₂, sym, subst, arith}
+use Rattle.std.proofs.Common.{◌≡◌, ◌∙◌, ℕ, zero, suc, ◌+◌, ◌<◌, ◌≤◌, List, [], ◌∷◌, ◌++◌, Option, Some, None, length, replicate, refl, ap, sym, subst, arith}
+use Rattle.sc_base.specs.Lists.{at_or}
 use Rattle.sc_base.specs.declared.refusals.OrMemory.{OrMemory}
 use Rattle.sc_base.specs.declared.refusals.OrMemory.TheVariants.{Fault, OutOfMemory}
 use Rattle.sc_value.specs.Datum.{Datum}
@@ -19,12 +20,13 @@ use Rattle.sc_store.specs.StoreData.{StoreData}
 use Rattle.sc_desk.specs.Begins.{FitsRun, IsPassedFor}
 use Rattle.sc_desk.specs.DeskData.{DeskData, PassedData}
 use Rattle.sc_desk.specs.Sound.{AreEvident}
+use Rattle.sc_world.specs.Serial.{IsResting}
 use Rattle.sc_world.specs.WorldData.{WorldData}
 use Rattle.sc_context.specs.Contexts.{ContextData, IsContext, IsEnded, IsReady, Stops, context_data}
 use Rattle.sc_context.specs.Histories.{HasCome, IsHistory, last_end}
 use Rattle.sc_context.specs.Jobs.{AreRowsFor, AreRowsOf, HasBegunFor, HasNoRows}
 use Rattle.sc_context.specs.Progress.{IsNext, Progress, actions_behind, behind_job, carried_behind, first_progress, progress}
-use Rattle.sc_context.proofs.AbortLemmas.{AreLaws, is_aborted}
+use Rattle.sc_context.proofs.AbortLemmas.{is_aborted}
 use Rattle.sc_context.proofs.ChainLemmas.{ended_come, ended_short, last_more}
 
 -- a job went somehow behind others, and this goes on
@@ -101,18 +103,18 @@ ended_is work c goal h passed stores histories rows went all done ready rows_are
     }
 
 -- one that has no rows
-pub stops_job : AreLaws → (work : WorkData) → IsSoundWork work → (p : Progress) (goal : Goal)
+pub stops_job : (work : WorkData) → IsSoundWork work → (p : Progress) (goal : Goal)
     (h : JobHistory) (before histories : List JobHistory) → IsHistory work p goal h
     → IsSoundCore h.end → FitsRun work h.end → HasCome work (first_progress work) before p
     → histories ≡ before ++ h ∷ [] → p.actions < length work.script.actions
     → IsCarriedFor work.script.nodes p.carried
     → IsGoal work goal → (why : OrMemory Abort) → HasNoRows h.end why
     → Stops work p.actions why histories
-stops_job laws work sound p goal h before histories is core fits come all within carried known
+stops_job work sound p goal h before histories is core fits come all within carried known
     (Fault abort) e =
-    is_aborted laws work sound p goal h is core fits histories before abort come all within carried
+    is_aborted work sound p goal h is core fits histories before abort come all within carried
     known e
-stops_job laws work sound p goal h before histories is core fits come all within carried known
+stops_job work sound p goal h before histories is core fits come all within carried known
     OutOfMemory e =
     ended_short work p before histories h goal come is all
 
@@ -151,3 +153,18 @@ context_behind work c goal passed after stores histories rows actions come ended
         ∙ ap (λ k. progress actions k (Some ended.history.end)) carried
         ∙ ap (λ n. progress n (carried_behind work goal ended.is.graph c.progress.carried)
         (Some ended.history.end)) many
+
+-- ---- worlds that begin
+
+none_at : (n e : ℕ) → at_or (replicate n None) e None ≡ None
+none_at zero e = refl
+none_at (suc n) zero = refl
+none_at (suc n) (suc e) = none_at n e
+
+-- no executor has an attempt out
+pub begun_rests : (work : WorkData) (passed : PassedData) (stores : List StoreData)
+    (last : Option CoreData) (goal : Goal) (w : WorldData)
+    → HasBegunFor work passed stores last goal w → IsResting w
+begun_rests work passed stores last goal w begun =
+    subst (λ (x : WorldData). IsResting x) (sym begun.idle)
+    (λ exec. none_at work.limits.executors exec)

@@ -1,18 +1,25 @@
 -- The rows of the results of a job that is done.
 use Rattle.std.proofs.Common.{◌≡◌, ◌≢◌, ◌∙◌, ℕ, zero, suc, ◌+◌, ◌-◌, ◌<◌, List, [], ◌∷◌, ◌++◌, Option, Some, None, length, map, get_or, slice_get, is_some, unwrap_or, true≢false, refl, ap, sym, subst, arith}
 use Rattle.std.specs.List.{All}
+use Rattle.std.specs.Option.{option_map}
+use Rattle.std.proofs.lemmas.Option.{slice_get-map, slice_get_read}
 use Rattle.std.proofs.lemmas.List.{ext_get_or, get_or-map, length-map}
 use Rattle.std.proofs.lemmas.List.Elements.{All-from_get_or, All-head, All-tail}
 use Rattle.sc_base.specs.Lists.{at_or}
 use Rattle.sc_value.specs.Datum.{Datum}
 use Rattle.sc_ids.specs.Graphs.{StageData}
-use Rattle.sc_lineage.specs.Actions.{local_results}
-use Rattle.sc_lineage.specs.ScriptData.{ActionData, WorkData}
+use Rattle.sc_lineage.specs.Actions.{action_outcome, local_results, outcome_of_results, outcome_of_rows}
+use Rattle.sc_lineage.specs.ScriptData.{ActionData, WorkData, collect_action}
 use Rattle.sc_lineage.specs.Streams.{whole_stream}
 use Rattle.sc_lineage.specs.Targets.{own_value, result_target}
 use Rattle.sc_lineage.specs.declared.streams.Stream.{Stream}
 use Rattle.sc_lineage.proofs.PlaceLemmas.{at_or-found, at_or-get_or}
 use Rattle.sc_compute.specs.Stages.{local_count}
+use Rattle.sc_compute.specs.Evaluations.{Gives, Settles}
+use Rattle.sc_compute.specs.declared.evaluation.Evaluated.{Evaluated}
+use Rattle.sc_compute.specs.declared.evaluation.Evaluated.TheVariants as evaluated
+use Rattle.sc_lineage.specs.Views.{action_data_of}
+use Rattle.sc_lineage.specs.declared.nodes.Action.{Action}
 use Rattle.sc_compute.proofs.OutcomeLemmas.{length-results, result_at as result_of_partition}
 use Rattle.sc_dag.specs.DagData.{DagData, no_stage, stage_at}
 use Rattle.sc_dag.specs.Openings.{AreNumbered, number_behind}
@@ -22,6 +29,7 @@ use Rattle.sc_jobs.specs.JobLaws.{JobsGiveResults}
 use Rattle.sc_jobs.specs.Plans.{GivesResults, IsJobFor}
 use Rattle.sc_desk.specs.DeskData.{DeskData, core_of}
 use Rattle.sc_desk.specs.Sound.{AreAllResults, IsResult, IsSoundDesk, result_at, result_count}
+use Rattle.sc_context.specs.Contexts.{Evaluates}
 use Rattle.sc_context.specs.Jobs.{AreRowsFor}
 use Rattle.sc_context.specs.Results.{AreThere}
 
@@ -102,3 +110,23 @@ rows_are work job results rows all many are =
         ∙ has.2
         ∙ ap whole_stream same
         ∙ sym (get_or-map whole_stream rows p [] (whole_stream []) lt)
+
+-- ---- what they give
+
+-- an action gives what its rows settle, by the sequential meaning
+pub evaluates : (work : WorkData) (action : ActionData) (rows : List Datum) (value : Evaluated)
+    → outcome_of_results action (local_results work action) ≡ action_outcome work action
+    → Settles (outcome_of_rows action rows) value → Gives work action value
+    → Evaluates work action value
+evaluates work action rows (evaluated.Prints text) same settles gives = sym same ∙ gives
+evaluates work action rows (evaluated.Faults fault) same settles gives = sym same ∙ gives
+evaluates work action rows (evaluated.Never p) same settles gives = settles
+
+-- an action that was read, as data
+pub action_at : (read : List Action) (actions : List ActionData) (i : ℕ) (action : Action)
+    → map action_data_of read ≡ actions → i < length read → action ≡ get_or read i action
+    → at_or actions i (collect_action 0) ≡ action_data_of action
+action_at read actions i action are within is =
+    at_or-found actions i (action_data_of action) (collect_action 0)
+    (ap (λ as_. slice_get as_ i) (sym are) ∙ slice_get-map action_data_of read i
+    ∙ ap (option_map action_data_of) (slice_get_read read (length read) i action refl within is))

@@ -16,7 +16,7 @@ use crate::went::run_world;
 use sc_columns::Rows;
 use sc_core::{Core, JobHistory};
 use sc_desk::{Desk, Passed};
-use sc_jobs::{Goal, laws_of_jobs};
+use sc_jobs::Goal;
 use sc_store::Store;
 use sc_work::{Naming, SharedWork};
 use sc_world::World;
@@ -45,7 +45,6 @@ impl<W: Naming> Context<W> {
         ensures stops { IfErr result (λ s. Stops W.work self.progress.actions s.why
             s.histories.items) }
     {
-        laws_of_jobs();
         self.work.is_named();
         self.work.get().is_sound();
         let Context {
@@ -63,6 +62,8 @@ impl<W: Naming> Context<W> {
             return Err(Stopped::without_memory(histories));
         };
         let went = run_world(alloc, world);
+        went.history.opening.is_sound();
+        went.history.end.is_sound();
         histories.push_reserved(went.history);
         match went.rows {
             Ok(rows) => Ok(Ended {

@@ -17,6 +17,7 @@ use sc_base::OrMemory;
 use sc_columns::Rows;
 use sc_core::{Abort, Core, Job, JobHistory};
 use sc_desk::{Closed, Passed};
+use sc_jobs::laws_of_jobs;
 use sc_store::Store;
 use sc_work::Naming;
 use sc_world::World;
@@ -51,6 +52,7 @@ pub(crate) fn run_world<W: Naming>(alloc: Global, world: World<W>) -> Went<W>
 {
     let mut world = world;
     let ran = world.serial(alloc);
+    laws_of_jobs();
     world.desk().is_sound();
     world.desk().job().is_job();
     let (closed, stores) = world.close();
