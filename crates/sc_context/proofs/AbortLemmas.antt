@@ -124,7 +124,7 @@ module _ (work : WorkData) (sound : IsSoundWork work) (p : Progress)
     serves (goals.Action number) next = next.0
     serves (goals.Bounds sort) next = next.0.reached
 
-    job : JobData
+    abbrev job : JobData
     job = job_data goal is.graph
 
     -- a failure that counts is a raise
@@ -159,10 +159,8 @@ module _ (work : WorkData) (sound : IsSoundWork work) (p : Progress)
     limit_raises stage number partition shows =
         by shows.failures shows.among shows.are shows.many
       where
-        told : List Telling
-        told = tellings h.opening h.entries.items h.end is.replays
-
-        by : (failures : List Telling) → All (Contains told) failures
+        by : (failures : List Telling)
+            → All (Contains (tellings h.opening h.entries.items h.end is.replays)) failures
             → All (λ t. is_failure_of stage number partition t ≡ true) failures
             → work.limits.task_failures ≤ length failures
             → action_outcome work (goal_action work (goals.Action p.actions)) ≡ never
@@ -172,6 +170,7 @@ module _ (work : WorkData) (sound : IsSoundWork work) (p : Progress)
             (counts t.outcome && is_heard t.answer)
             (All-head (λ t. is_failure_of stage number partition t ≡ true) t rest are) in
             let both = and_parts (counts t.outcome) (is_heard t.answer) fails.1 in
+            let told = tellings h.opening h.entries.items h.end is.replays in
             let evident = All-contains (IsHeardFor work job) told t
             (told_evident work job h.opening h.entries.items h.end is.replays is.evidence)
             (All-head (Contains told) t rest among) both.1 in

@@ -49,41 +49,45 @@ lacks_within (n ∷ nodes) (suc k) bounds h =
 
 -- ---- bounds that were found
 
--- the bounds that are carried stay right where those of a sort are put to them
-pub found_right : (work : WorkData) (carried : CarriedData) (sort : ℕ) (found : List KeyData)
-    → found ≡ bounds_at work sort → AreRightBounds work carried
-    → AreRightBounds work (with_bounds carried sort found)
-found_right work carried sort found is right k parent n bounds node at =
-    by (cases_eq k sort) (cases_lt sort (length carried.bounds))
-  where
-    changed : List (Option (List KeyData))
-    changed = change_at carried.bounds sort (λ _. Some found)
+-- Bounds that were found for a sort, beside those that are carried.
+module _ (work : WorkData) (carried : CarriedData) (sort : ℕ) (found : List KeyData)
+    (is : found ≡ bounds_at work sort) (right : AreRightBounds work carried) where
+  abbrev changed : List (Option (List KeyData))
+  changed = change_at carried.bounds sort (λ _. Some found)
 
-    meant : List KeyData
-    meant = bounds_step (meanings_by (known_of work) work) (shuffle_node sort_by_key parent n)
+  abbrev meant : ℕ → ℕ → List KeyData
+  meant parent n =
+      bounds_step (meanings_by (known_of work) work) (shuffle_node sort_by_key parent n)
 
-    own : k ≡ sort → bounds_at work sort ≡ meant
-    own same =
-        ap (bounds_step (meanings_by (known_of work) work))
-        (at_or-found work.script.nodes sort (shuffle_node sort_by_key parent n) (cache_node 0)
-        (subst (λ i. slice_get work.script.nodes i ≡ Some (shuffle_node sort_by_key parent n)) same
-        node))
+  own : (k parent n : ℕ) → k ≡ sort
+      → slice_get work.script.nodes k ≡ Some (shuffle_node sort_by_key parent n)
+      → bounds_at work sort ≡ meant parent n
+  own k parent n same node =
+      ap (bounds_step (meanings_by (known_of work) work))
+      (at_or-found work.script.nodes sort (shuffle_node sort_by_key parent n) (cache_node 0)
+      (subst (λ i. slice_get work.script.nodes i ≡ Some (shuffle_node sort_by_key parent n)) same
+      node))
 
-    by : (k ≡ sort) ⊎ (k ≢ sort) → (sort < length carried.bounds) ⊎ (length carried.bounds ≤ sort)
-        → bounds ≡ meant
-    by (inl same) (inl within) =
-        let e : at_or changed sort None ≡ Some found =
-        at_or_change_same carried.bounds sort None (λ _. Some found) within in
-        ap (λ o. unwrap_or o bounds)
-        (sym at ∙ ap (λ i. at_or changed i None) same ∙ e)
-        ∙ is ∙ own same
-    by (inl same) (inr past) =
-        let len = length_change_at carried.bounds sort (λ _. Some found) in
-        absurd (true≢false (ap is_some (sym at ∙ ap (λ i. at_or changed i None) same
-        ∙ at_or-past changed sort None (omega (arith, past, len)))))
-    by (inr other) within =
-        right k parent n bounds node
-        (sym (at_or_change_other carried.bounds sort k None (λ _. Some found) other) ∙ at)
+  -- they stay right
+  pub found_right : AreRightBounds work (with_bounds carried sort found)
+  found_right k parent n bounds node at =
+      by (cases_eq k sort) (cases_lt sort (length carried.bounds))
+    where
+      by : (k ≡ sort) ⊎ (k ≡ sort → ⊥)
+          → (sort < length carried.bounds) ⊎ (length carried.bounds ≤ sort)
+          → bounds ≡ meant parent n
+      by (inl same) (inl within) =
+          let e : at_or changed sort None ≡ Some found =
+          at_or_change_same carried.bounds sort None (λ _. Some found) within in
+          ap (λ o. unwrap_or o bounds) (sym at ∙ ap (λ i. at_or changed i None) same ∙ e)
+          ∙ is ∙ own k parent n same node
+      by (inl same) (inr past) =
+          let len = length_change_at carried.bounds sort (λ _. Some found) in
+          absurd (true≢false (ap is_some (sym at ∙ ap (λ i. at_or changed i None) same
+          ∙ at_or-past changed sort None (omega (arith, past, len)))))
+      by (inr other) within =
+          right k parent n bounds node
+          (sym (at_or_change_other carried.bounds sort k None (λ _. Some found) other) ∙ at)
 
 -- so what goes on serves the next job again
 pub found_passed : (work : WorkData) (passed : PassedData) (sort : ℕ) (found : List KeyData)

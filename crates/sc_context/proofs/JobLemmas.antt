@@ -132,10 +132,13 @@ pub context_behind : (work : WorkData) (c : ContextData) (goal : Goal) (passed a
 context_behind work c goal passed after stores histories rows actions come ended carried many within
     serves places =
     record {
-      come = rw (progress_is, ended.all)
-          (ended_come work c.progress c.histories ended.history goal come ended.is ended.done);
+      come = subst (λ hs. HasCome work (first_progress work) hs
+          (progress actions after.carried (last_end histories))) (sym ended.all)
+          (subst (HasCome work (first_progress work) (c.histories ++ ended.history ∷ []))
+          (sym progress_is)
+          (ended_come work c.progress c.histories ended.history goal come ended.is ended.done));
       within = within;
-      ready = rw last_is (record {
+      ready = subst (IsReady work after stores) (sym last_is) (record {
         passed_on = serves;
         fits = ended.ready.fits;
         stores_are = ended.ready.stores_are;

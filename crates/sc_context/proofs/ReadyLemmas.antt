@@ -13,7 +13,6 @@ use Rattle.sc_tracker.specs.Outputs.{never, output_in}
 use Rattle.sc_tracker.specs.TrackerData.{ShuffleData, TrackerData, is_of, output_of, output_under, outputs_under, shuffle_data, tracker_data, trust_of}
 use Rattle.sc_tracker.specs.Tracking.{has_room}
 use Rattle.sc_tracker.specs.Trust.{trust_at}
-use Rattle.sc_tracker.specs.declared.outputs.Output.{Output}
 use Rattle.sc_tracker.proofs.BlockLemmas.{under_behind, under_here}
 use Rattle.sc_dag.specs.DagData.{DagData}
 use Rattle.sc_dag.specs.Openings.{sized_by, sized_for_all}
@@ -47,9 +46,6 @@ module _ (P : Option Loc → Type 0) (none : P None) where
   under_more (x ∷ xs) y b each h =
       by (is_of b.shuffle x) refl (λ k. under_more xs y b each k)
     where
-      Q : List Output → Type 0
-      Q os = P (output_in os b.map).last
-
       by : (t : Bool) → is_of b.shuffle x ≡ t
           → (P (output_under xs b).last → P (output_under (xs ++ y ∷ []) b).last)
           → P (output_under (x ∷ (xs ++ y ∷ [])) b).last

@@ -75,41 +75,41 @@ places_are law work d sound job =
 some_inside : {A : Type 0} (x y : A) → Some x ≡ Some y → x ≡ y
 some_inside x y e = ap (λ o. unwrap_or o x) e
 
--- the rows of all partitions are those that the job's action has by the local meaning
-pub rows_are : (work : WorkData) (job : JobData) (results : List (Option (List Datum)))
-    (rows : List (List Datum)) → AreAllResults work job results
-    → length results ≡ local_count work (goal_node work job.goal) → results ≡ map Some rows
-    → AreRowsFor work job.goal rows
-rows_are work job results rows all many are =
-    ext_get_or (whole_stream []) (local_results work action) (map whole_stream rows)
-    (length-results work action ∙ sym long ∙ sym (length-map rows whole_stream)) each
-  where
-    action : ActionData
-    action = goal_action work job.goal
+-- The rows of all partitions of a job.
+module _ (work : WorkData) (job : JobData) (results : List (Option (List Datum)))
+    (rows : List (List Datum)) (all : AreAllResults work job results)
+    (many : length results ≡ local_count work (goal_node work job.goal))
+    (are : results ≡ map Some rows) where
+  long : length rows ≡ local_count work (goal_node work job.goal)
+  long = sym (ap length are ∙ length-map rows Some) ∙ many
 
-    long : length rows ≡ local_count work (goal_node work job.goal)
-    long = sym (ap length are ∙ length-map rows Some) ∙ many
+  found : (p : ℕ) → p < length rows → result_at results p ≡ Some (get_or rows p [])
+  found p lt =
+      at_or-get_or results p None
+      ∙ ap (λ rs. get_or rs p None) are
+      ∙ get_or-map Some rows p [] None lt
 
-    -- the rows of a partition
-    found : (p : ℕ) → p < length rows → result_at results p ≡ Some (get_or rows p [])
-    found p lt =
-        at_or-get_or results p None
-        ∙ ap (λ rs. get_or rs p None) are
-        ∙ get_or-map Some rows p [] None lt
+  each : (p : ℕ) → p < length (local_results work (goal_action work job.goal))
+      → get_or (local_results work (goal_action work job.goal)) p (whole_stream [])
+      ≡ get_or (map whole_stream rows) p (whole_stream [])
+  each p within =
+      let len = length-results work (goal_action work job.goal) in
+      let below : p < local_count work (goal_node work job.goal) = omega (arith, within, len) in
+      let lt : p < length rows = omega (arith, below, long) in
+      let has = all p (omega (arith, below, many)) in
+      let same = some_inside has.0 (get_or rows p []) (sym has.1 ∙ found p lt) in
+      result_of_partition work (goal_action work job.goal) p (whole_stream []) below
+      ∙ has.2
+      ∙ ap whole_stream same
+      ∙ sym (get_or-map whole_stream rows p [] (whole_stream []) lt)
 
-    each : (p : ℕ) → p < length (local_results work action)
-        → get_or (local_results work action) p (whole_stream [])
-        ≡ get_or (map whole_stream rows) p (whole_stream [])
-    each p within =
-        let len = length-results work action in
-        let below : p < local_count work (goal_node work job.goal) = omega (arith, within, len) in
-        let lt : p < length rows = omega (arith, below, long) in
-        let has = all p (omega (arith, below, many)) in
-        let same = some_inside has.0 (get_or rows p []) (sym has.1 ∙ found p lt) in
-        result_of_partition work action p (whole_stream []) below
-        ∙ has.2
-        ∙ ap whole_stream same
-        ∙ sym (get_or-map whole_stream rows p [] (whole_stream []) lt)
+  -- they are those that its action has by the local meaning
+  pub rows_are : AreRowsFor work job.goal rows
+  rows_are =
+      ext_get_or (whole_stream []) (local_results work (goal_action work job.goal))
+      (map whole_stream rows)
+      (length-results work (goal_action work job.goal) ∙ sym long
+      ∙ sym (length-map rows whole_stream)) each
 
 -- ---- what they give
 

@@ -52,6 +52,7 @@ impl<W: Naming> Context<W> {
         ensures stops { IfErr result (λ s. Stops W.work self.progress.actions s.why
             s.histories.items) }
     {
+        self.is_sound();
         let number = self.actions;
         let Some(behind) = number.checked_add(1) else {
             return Err(self.without_memory());

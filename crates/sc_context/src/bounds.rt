@@ -34,6 +34,7 @@ impl<W: Naming> Context<W> {
     {
         let mut context = self;
         loop {
+            context.is_sound();
             match context.next_sort(alloc) {
                 Ok(Some(sort)) => context = context.find_bounds(alloc, sort)?,
                 Ok(None) => return Ok(context),
@@ -65,6 +66,7 @@ impl<W: Naming> Context<W> {
         ensures stops { IfErr result (λ s. Stops W.work self.progress.actions s.why
             s.histories.items) }
     {
+        self.is_sound();
         let ended = self.run_job(alloc, Goal::Bounds { sort })?;
         let Ok(bounds) = ended.bounds(alloc, sort) else {
             return Err(Stopped::without_memory(ended.histories));

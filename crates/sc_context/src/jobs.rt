@@ -45,6 +45,7 @@ impl<W: Naming> Context<W> {
         ensures stops { IfErr result (λ s. Stops W.work self.progress.actions s.why
             s.histories.items) }
     {
+        self.is_sound();
         self.work.is_named();
         self.work.get().is_sound();
         let Context {
