@@ -25,7 +25,8 @@ pub fewer_left : (bounds : List (Option (List KeyData))) (k : ℕ) (found : List
     → places_left (change_at bounds k (λ _. Some found)) < places_left bounds
 fewer_left [] k found within none = absurd (omega arith)
 fewer_left (None ∷ bounds) zero found within none = omega arith
-fewer_left (Some b ∷ bounds) zero found within none = absurd (search none)
+fewer_left (Some b ∷ bounds) zero found within none =
+    absurd (true≢false (ap is_some none))
 fewer_left (None ∷ bounds) (suc k) found within none =
     let rest = fewer_left bounds k found (omega arith) none in omega (arith, rest)
 fewer_left (Some b ∷ bounds) (suc k) found within none =

@@ -1,10 +1,12 @@
 -- Jobs one behind the other.
-use Rattle.std.proofs.Common.{◌≡◌, ◌∙◌, ◌⊎◌, inr, ℕ, zero, suc, ◌+◌, ◌-◌, ◌<◌, ◌≤◌, List, [], ◌∷◌, ◌++◌, Option, Some, None, length, slice_get, refl, ap, sym, subst, arith, append_assoc}
+use Rattle.std.proofs.Common.{◌≡◌, ◌∙◌, ◌⊎◌, inl, inr, ℕ, zero, suc, ◌+◌, ◌-◌, ◌<◌, ◌≤◌, List, [], ◌∷◌, ◌++◌, Option, Some, None, length, slice_get, refl, ap, sym, subst, arith, append_assoc}
 use Rattle.std.specs.Option.{option_map}
 use Rattle.std.proofs.lemmas.List.{append-nil, length-append}
-use Rattle.sc_base.specs.Lists.{at_or}
+use Rattle.sc_base.specs.declared.refusals.OrMemory.{OrMemory}
+use Rattle.sc_base.specs.declared.refusals.OrMemory.TheVariants.{OutOfMemory}
+use Rattle.sc_value.specs.Datum.{Datum}
 use Rattle.sc_lineage.specs.ScriptData.{WorkData, IsSoundScript}
-use Rattle.sc_core.specs.CoreData.{CoreData}
+use Rattle.sc_core.specs.declared.answers.Abort.{Abort}
 use Rattle.sc_core.specs.declared.answers.Job.TheVariants.{Done}
 use Rattle.sc_core.specs.declared.journals.JobHistory.{JobHistory}
 use Rattle.sc_stagecut.specs.Carrying.{HasBounds}
@@ -12,7 +14,10 @@ use Rattle.sc_jobs.specs.JobData.{IsGoal, goal_node}
 use Rattle.sc_jobs.specs.declared.goals.Goal.{Goal}
 use Rattle.sc_jobs.specs.declared.goals.Goal.TheVariants as goals
 use Rattle.sc_jobs.proofs.SortLemmas.{first_bounds_can_be_found}
-use Rattle.sc_context.specs.Contexts.{ContextData, IsEnded}
+use Rattle.sc_store.specs.StoreData.{StoreData}
+use Rattle.sc_desk.specs.DeskData.{PassedData}
+use Rattle.sc_context.specs.Bounding.{GoesOn}
+use Rattle.sc_context.specs.Contexts.{ContextData, IsEnded, Stops}
 use Rattle.sc_context.specs.Histories.{HasCome, HasGone, IsCutShort, IsDone, IsHistory, last_end}
 use Rattle.sc_context.specs.Progress.{IsNext, Progress, behind_job, first_progress, next_node}
 
@@ -66,3 +71,35 @@ pub ended_short : (work : WorkData) (p : Progress) (before after : List JobHisto
     → IsHistory work p goal h → after ≡ before ++ h ∷ [] → IsCutShort work after
 ended_short work p before after h goal come is all =
     (p, inr (goal, h, record { before = before; all = all; come = come; is = is }))
+
+-- memory ran out before a job
+pub stops_short : (work : WorkData) (p : Progress) (k : ℕ) (why : OrMemory Abort)
+    (before histories : List JobHistory) → HasCome work (first_progress work) before p
+    → why ≡ OutOfMemory → histories ≡ before → Stops work k why histories
+stops_short work p k why before histories come none all =
+    subst (λ w. Stops work k w histories) (sym none)
+    (p, inl (subst (λ hs. HasCome work (first_progress work) hs p) (sym all) come))
+
+-- or behind one that is done
+pub stops_ended : (work : WorkData) (c : ContextData) (goal : Goal) (k : ℕ) (why : OrMemory Abort)
+    (passed : PassedData) (stores : List StoreData) (histories left : List JobHistory)
+    (rows : List (List Datum)) → HasCome work (first_progress work) c.histories c.progress
+    → IsEnded work c goal passed stores histories rows → why ≡ OutOfMemory → left ≡ histories
+    → Stops work k why left
+stops_ended work c goal k why passed stores histories left rows come ended none all =
+    subst (λ w. Stops work k w left) (sym none)
+    (ended_short work c.progress c.histories left ended.history goal come ended.is
+    (all ∙ ended.all))
+
+-- ---- contexts that go on
+
+pub goes_on : (c d e : ContextData) → GoesOn c d → GoesOn d e → GoesOn c e
+goes_on c d e h k =
+    record {
+      actions = k.actions ∙ h.actions;
+      more = h.more ++ k.more;
+      all = k.all ∙ ap (λ hs. hs ++ k.more) h.all ∙ append_assoc c.histories h.more k.more;
+    }
+
+pub stays : (c : ContextData) → GoesOn c c
+stays c = record { actions = refl; more = []; all = sym (append-nil c.histories) }
