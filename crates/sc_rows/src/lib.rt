@@ -38,6 +38,8 @@ mod comparisons;
 #[cfg(test)]
 mod cutting;
 #[cfg(test)]
+mod failing_tasks;
+#[cfg(test)]
 mod faults;
 #[cfg(test)]
 mod forms;
@@ -48,19 +50,29 @@ mod hashes;
 #[cfg(test)]
 mod held;
 #[cfg(test)]
+mod histories;
+#[cfg(test)]
 mod job_faults;
 #[cfg(test)]
 mod job_reports;
 #[cfg(test)]
 mod job_runs;
 #[cfg(test)]
+mod job_sequences;
+#[cfg(test)]
 mod jobs;
 #[cfg(test)]
+mod kept_blocks;
+#[cfg(test)]
 mod key_columns;
+#[cfg(test)]
+mod late_reports;
 #[cfg(test)]
 mod layouts;
 #[cfg(test)]
 mod limits;
+#[cfg(test)]
+mod lost_executors;
 #[cfg(test)]
 mod map_outputs;
 #[cfg(test)]
@@ -111,6 +123,8 @@ mod transcripts;
 mod typing;
 #[cfg(test)]
 mod values;
+#[cfg(test)]
+mod wiped_stores;
 #[cfg(test)]
 mod words;
 #[cfg(test)]
