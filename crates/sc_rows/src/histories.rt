@@ -54,6 +54,13 @@ pub fn counted<R: Abort + AllocGlobal>(rt: &R, plan: &str, words: &[&str], end: 
     seen
 }
 
+/// Sees that a word count under a plan is done with each of these words.
+pub fn assert_each_counted<R: Abort + AllocGlobal>(rt: &R, plan: &str, words: &[&str]) {
+    for word in words {
+        let _ = counted(rt, plan, &[*word], COUNTED);
+    }
+}
+
 /// Sees that for each of these texts so many lines of each job have it.
 pub fn assert_counts<R: Abort + AllocGlobal>(rt: &R, seen: &Seen, rows: &[(&str, &str)]) {
     for (text, want) in rows {

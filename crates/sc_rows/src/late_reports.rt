@@ -2,7 +2,7 @@
 #![tactic(auto)]
 
 use crate::claims::assert_end;
-use crate::histories::{COUNTED, assert_counts, counted, run_planned};
+use crate::histories::{COUNTED, assert_counts, assert_each_counted, counted, run_planned};
 
 /// The number of words of a word count.
 const COUNT: &str = r#"
@@ -90,8 +90,6 @@ const MIXED: [&str; 6] = [
 #[test]
 fn late_reports_leave_the_text_as_it_was(rt: HostRuntime) {
     for plan in &MIXED {
-        for word in ["--executors=2", "--executors=4"] {
-            let _ = counted(&rt, *plan, &[word], COUNTED);
-        }
+        assert_each_counted(&rt, *plan, &["--executors=2", "--executors=4"]);
     }
 }

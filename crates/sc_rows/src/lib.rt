@@ -5,7 +5,9 @@
 //! are tables of text, which cost the check next to nothing: `claims` has a function that runs each
 //! kind of table, `given` makes a run of a script over files and tells what was seen of it, and
 //! `streams` shows the raise that a run doesn't tell. `jobs` begins jobs without a script, and
-//! `transcripts` lets their events happen. The other modules have a subject each.
+//! `transcripts` lets their events happen. `histories` runs a script under a fault plan and counts
+//! what its history shows, and `world_lines` lets a world go on by steps. The other modules have a
+//! subject each.
 //!
 //! A test is code, so it is proved too. It is cheap where it is one call with a table, and where
 //! want of memory ends it by `expect`: a `?` is one more way out, on which all that is held has to
@@ -35,6 +37,8 @@ mod combining;
 mod committing;
 #[cfg(test)]
 mod comparisons;
+#[cfg(test)]
+mod contexts;
 #[cfg(test)]
 mod cutting;
 #[cfg(test)]
@@ -129,6 +133,12 @@ mod wiped_stores;
 mod words;
 #[cfg(test)]
 mod worked;
+#[cfg(test)]
+mod works;
+#[cfg(test)]
+mod world_lines;
+#[cfg(test)]
+mod worlds;
 #[cfg(test)]
 mod writers;
 #[cfg(test)]

@@ -2,7 +2,9 @@
 #![tactic(auto)]
 
 use crate::claims::assert_end;
-use crate::histories::{COUNTED, TWO_ACTIONS, assert_counts, counted, last_job, run_planned};
+use crate::histories::{
+    COUNTED, TWO_ACTIONS, assert_counts, assert_each_counted, counted, last_job, run_planned,
+};
 use sc_core::{Abort, Job};
 
 // The wipe is found by a fetch of the second stage, which fails. One map task runs again.
@@ -58,9 +60,7 @@ const EXECUTORS: [&str; 3] = ["--executors=2", "--executors=3", "--executors=8"]
 #[test]
 fn few_wipes_leave_the_text_as_it_was(rt: HostRuntime) {
     for plan in &SURVIVED {
-        for word in &EXECUTORS {
-            let _ = counted(&rt, *plan, &[*word], COUNTED);
-        }
+        assert_each_counted(&rt, *plan, &EXECUTORS);
     }
 }
 
