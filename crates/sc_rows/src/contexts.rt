@@ -75,7 +75,7 @@ fn assert_two<W: Naming, R: Abort + AllocGlobal>(rt: &R, work: Work, first: &str
     assert_eq!(rt; context.into_histories().len(), 2);
 }
 
-/// A word count that is empty, and what its fold gives; and then how many words there are.
+/// The fold of no lines, and their number.
 const NO_WORDS: &str = r#"
 l = text "in.txt" 2
 f = filter l false

@@ -28,7 +28,7 @@ fn cache_of_one_block(rt: HostRuntime) {
     assert_counts(&rt, &seen, &[("take: task", "1 1 1")]);
 }
 
-/// A cached node behind a shuffle, printed three times, and one more behind it.
+/// A cached node behind a shuffle, and one more behind that.
 const CACHED: &str = r#"
 l = text "in.txt" 2
 w = flatMap l (words x)
