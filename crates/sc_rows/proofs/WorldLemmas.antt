@@ -10,7 +10,7 @@ use Rattle.sc_context.proofs.StartLemmas.{fresh_ready}
 use Rattle.sc_rows.specs.Worlds.{IsFirstDesk}
 
 pub first_begun : (work : WorkData) (desk : DeskData) → IsFirstDesk work desk → HasBegun work desk
-first_begun work desk (passed, begins) = passed, None, goals.Action 0, begins
+first_begun work desk (passed, begins) = (passed, None, goals.Action 0, begins)
 
 pub first_ready : (work : WorkData) (desk : DeskData) → IsFirstDesk work desk
     → AreReady work (new_stores work) (core_of desk).dag.tracker (core_of desk).told
