@@ -5,7 +5,9 @@
 //! are tables of text, which cost the check next to nothing: `claims` has a function that runs each
 //! kind of table, `given` makes a run of a script over files and tells what was seen of it, and
 //! `streams` shows the raise that a run doesn't tell. `jobs` begins jobs without a script, and
-//! `transcripts` lets their events happen. The other modules have a subject each.
+//! `transcripts` lets their events happen. `histories` runs a script under a fault plan and counts
+//! what its history shows, and `world_lines` lets a world go on by steps. The other modules have a
+//! subject each.
 //!
 //! A test is code, so it is proved too. It is cheap where it is one call with a table, and where
 //! want of memory ends it by `expect`: a `?` is one more way out, on which all that is held has to
@@ -36,7 +38,11 @@ mod committing;
 #[cfg(test)]
 mod comparisons;
 #[cfg(test)]
+mod contexts;
+#[cfg(test)]
 mod cutting;
+#[cfg(test)]
+mod failing_tasks;
 #[cfg(test)]
 mod faults;
 #[cfg(test)]
@@ -48,19 +54,29 @@ mod hashes;
 #[cfg(test)]
 mod held;
 #[cfg(test)]
+mod histories;
+#[cfg(test)]
 mod job_faults;
 #[cfg(test)]
 mod job_reports;
 #[cfg(test)]
 mod job_runs;
 #[cfg(test)]
+mod job_sequences;
+#[cfg(test)]
 mod jobs;
 #[cfg(test)]
+mod kept_blocks;
+#[cfg(test)]
 mod key_columns;
+#[cfg(test)]
+mod late_reports;
 #[cfg(test)]
 mod layouts;
 #[cfg(test)]
 mod limits;
+#[cfg(test)]
+mod lost_executors;
 #[cfg(test)]
 mod map_outputs;
 #[cfg(test)]
@@ -112,9 +128,17 @@ mod typing;
 #[cfg(test)]
 mod values;
 #[cfg(test)]
+mod wiped_stores;
+#[cfg(test)]
 mod words;
 #[cfg(test)]
 mod worked;
+#[cfg(test)]
+mod works;
+#[cfg(test)]
+mod world_lines;
+#[cfg(test)]
+mod worlds;
 #[cfg(test)]
 mod writers;
 #[cfg(test)]
