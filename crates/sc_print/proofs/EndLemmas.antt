@@ -6,7 +6,7 @@ use Rattle.sc_base.specs.Outside.{SinkState, with_more}
 use Rattle.sc_base.specs.declared.refusals.OrMemory.{OrMemory}
 use Rattle.sc_base.specs.declared.refusals.OrMemory.TheVariants.{Fault, OutOfMemory}
 use Rattle.sc_lineage.specs.Actions.{texts_by}
-use Rattle.sc_lineage.specs.ScriptData.{WorkData}
+use Rattle.sc_lineage.specs.ScriptData.{WorkData, collect_action}
 use Rattle.sc_compute.specs.declared.evaluation.Evaluated.{Evaluated}
 use Rattle.sc_compute.specs.declared.evaluation.Evaluated.TheVariants as evaluated
 use Rattle.sc_core.specs.declared.journals.JobHistory.{JobHistory}
@@ -89,7 +89,7 @@ module _ (work : WorkData) (before after : SinkState) (c next : ContextData)
     -- the next action is there
     there : slice_get work.script.actions c.progress.actions
         ≡ Some (goal_action work (goals.Action c.progress.actions))
-    there = slice_get-at work.script.actions c.progress.actions _ within
+    there = slice_get-at work.script.actions c.progress.actions (collect_action 0) within
 
     -- it is printed
     pub next-printed : (value : Evaluated) → GivesNext work c value next → (done : Unit {0})
