@@ -51,9 +51,9 @@ pub record StopsAtWrite (work : WorkData) (before after : SinkState) : Type 0 wh
   pub pieces : after.pieces ≡ with_more before.pieces (texts_by work k ++ take n printed ∷ [])
   pub rose : Rose before.faults after.faults
 
--- What the printing of a work's actions answers, by what the sink has then taken and by how the jobs
--- went: all actions have their texts; a job for the next one was aborted; its results have no value
--- together; the sink failed; or memory ran out.
+-- What the printing of a work's actions answers, by what the sink has then taken and by how the
+-- jobs went: all actions have their texts; a job for the next one was aborted; its results have no
+-- value together; the sink failed; or memory ran out.
 abbrev pub Prints : WorkData → SinkState → SinkState → Result (Unit {0}) (OrMemory PrintFault)
     → List JobHistory → Type 0
 Prints work before after (Ok done) histories =
