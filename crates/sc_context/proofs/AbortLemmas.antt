@@ -29,9 +29,8 @@ use Rattle.sc_core.specs.declared.events.Outcome.{Outcome}
 use Rattle.sc_core.specs.declared.events.Outcome.TheVariants as outcomes
 use Rattle.sc_core.specs.declared.journals.JobHistory.{JobHistory}
 use Rattle.sc_core.specs.declared.running.Shelved.{Shelved}
-use Rattle.sc_causes.specs.Raises.{Serves}
-use Rattle.sc_causes.proofs.LossLemmas.{empty_plans_lose_none, planned_losses_alone}
-use Rattle.sc_causes.proofs.RaiseLemmas.{raises_leave_no_value}
+use Rattle.sc_causes.specs.Losses.{EmptyPlansLoseNone, PlannedLossesAlone}
+use Rattle.sc_causes.specs.Raises.{RaisesLeaveNoValue, Serves}
 use Rattle.sc_history.specs.Evidence.{ShowsTaskLimit, counts, is_failure_of, is_of_task}
 use Rattle.sc_history.specs.Tellings.{Telling, is_heard, telling, tellings, tellings_in, told_late}
 use Rattle.sc_history.proofs.BudgetLemmas.{budgets_are_shown}
@@ -91,7 +90,13 @@ told_evident work job c (entry ∷ entries) end (mid, step, rest) h =
 
 -- ---- aborts
 
-module _ (work : WorkData) (sound : IsSoundWork work) (p : Progress)
+-- the laws of causes
+pub record AreCauses : Type 0 where
+  pub raises : RaisesLeaveNoValue
+  pub losses : PlannedLossesAlone
+  pub empty : EmptyPlansLoseNone
+
+module _ (known_causes : AreCauses) (work : WorkData) (sound : IsSoundWork work) (p : Progress)
     (goal : Goal) (h : JobHistory) (is : IsHistory work p goal h) (core : IsSoundCore h.end)
     (fits : FitsRun work h.end) where
   -- every executor was told lost
@@ -110,7 +115,7 @@ module _ (work : WorkData) (sound : IsSoundWork work) (p : Progress)
       stage_limits_are_shown is.graph work.limits 0 work.plan p.last h.opening h.end h.entries.items
       stage is.opening is.began is.replays e
   shows_abort NoExecutor e = λ exec within.
-      planned_losses_alone work.plan h.end exec core fits.plan (all_lost e)
+      known_causes.losses work.plan h.end exec core fits.plan (all_lost e)
       (subst (λ n. exec < n) (sym fits.execs) within)
   shows_abort Budget e =
       budgets_are_shown is.graph work.limits 0 work.plan p.last h.opening h.end h.entries.items
@@ -135,7 +140,7 @@ module _ (work : WorkData) (sound : IsSoundWork work) (p : Progress)
         absurd (false≢true
         (subst (λ (plan : List PlanLine). is_failed plan (place_of a) ≡ true) empty failed))
     counted_raises told a causes.Raised counted raised =
-        (raises_leave_no_value work p.carried goal is.graph a.stage a.partition raised.raise sound.script
+        (known_causes.raises work p.carried goal is.graph a.stage a.partition raised.raise sound.script
         carried known is.cut raised.task raised.own).served p.actions (serves goal is.next)
     counted_raises told a (causes.Device fault) counted failed = absurd failed
     counted_raises told a (causes.Gone exec wanted found) counted failed =
@@ -185,7 +190,7 @@ module _ (work : WorkData) (sound : IsSoundWork work) (p : Progress)
         let some : 0 < length h.end.dag.tracker.trust =
         subst (λ n. 0 < n) (sym fits.execs) (omega (arith, sound.limits.executors.above)) in
         absurd (true≢false (sym (all_lost e)
-        ∙ empty_plans_lose_none.left h.end core (fits.plan ∙ empty) some))
+        ∙ known_causes.empty.left h.end core (fits.plan ∙ empty) some))
     unplanned_abort Budget e = tt
 
   -- the job was aborted

@@ -1,6 +1,5 @@
 -- How many sorts lack their bounds.
 use Rattle.std.proofs.Common.{◌≡◌, ◌≢◌, ◌∙◌, ◌⊎◌, inl, inr, ℕ, zero, suc, ◌+◌, ◌<◌, ◌≤◌, Bool, true, false, not, List, [], ◌∷◌, Option, Some, None, is_some, unwrap_or, true≢false, length, slice_get, refl, ap, sym, subst, arith}
-use Rattle.std.specs.List.{count_by}
 use Rattle.std.proofs.lemmas.Bool.{and_parts, cases_eq, cases_lt, false≢true}
 use Rattle.sc_base.specs.Lists.{at_or}
 use Rattle.sc_value.specs.Keys.{KeyData}
@@ -10,6 +9,7 @@ use Rattle.sc_lineage.specs.NodeData.{NodeData, cache_node, shuffle_node, sort_b
 use Rattle.sc_lineage.specs.ScriptData.{WorkData}
 use Rattle.sc_lineage.proofs.PlaceLemmas.{at_or-found, at_or-past}
 use Rattle.sc_compute.specs.Stages.{bounds_at, node_at}
+use Rattle.sc_jobs.proofs.NodeLemmas.{sort_is}
 use Rattle.sc_stagecut.specs.Carrying.{AreRightBounds, CarriedData, is_sort, is_unbounded, with_bounds}
 use Rattle.sc_lineage.specs.Meaning.{bounds_step, known_of, meanings_by}
 use Rattle.sc_desk.specs.Begins.{IsPassedFor}
@@ -17,7 +17,9 @@ use Rattle.sc_desk.specs.DeskData.{PassedData, passed_data}
 
 -- how many places have no bounds
 abbrev pub places_left : List (Option (List KeyData)) → ℕ
-places_left bounds = count_by (λ o. not (is_some o)) bounds
+places_left [] = 0
+places_left (None ∷ bounds) = suc (places_left bounds)
+places_left (Some found ∷ bounds) = places_left bounds
 
 -- one less where some are put at a place that has none
 pub fewer_left : (bounds : List (Option (List KeyData))) (k : ℕ) (found : List KeyData)
@@ -39,6 +41,15 @@ lacks_none None bounds h = absurd (false≢true h)
 lacks_none (Some node) None h = refl
 lacks_none (Some node) (Some b) h =
     absurd (false≢true (and_parts (is_sort node) (not (is_some (Some b))) h).1)
+
+-- it is a sort
+pub lacking_is : (node : Option NodeData) (bounds : Option (List KeyData))
+    → is_unbounded node bounds ≡ true
+    → (parent n : ℕ) × (node ≡ Some (shuffle_node sort_by_key parent n))
+lacking_is None bounds h = absurd (false≢true h)
+lacking_is (Some node) bounds h =
+    let sort = sort_is node (and_parts (is_sort node) (not (is_some bounds)) h).0 in
+    (sort.0, sort.1, ap Some sort.2)
 
 -- and it is there
 pub lacks_within : (nodes : List NodeData) (k : ℕ) (bounds : Option (List KeyData))

@@ -10,14 +10,15 @@ use Rattle.sc_core.specs.declared.answers.Abort.{Abort}
 use Rattle.sc_core.specs.declared.answers.Job.TheVariants.{Done}
 use Rattle.sc_core.specs.declared.journals.JobHistory.{JobHistory}
 use Rattle.sc_stagecut.specs.Carrying.{HasBounds}
-use Rattle.sc_jobs.specs.JobData.{IsGoal, goal_node}
+use Rattle.sc_jobs.specs.JobData.{IsGoal, goal_action, goal_node}
 use Rattle.sc_jobs.specs.declared.goals.Goal.{Goal}
 use Rattle.sc_jobs.specs.declared.goals.Goal.TheVariants as goals
 use Rattle.sc_jobs.proofs.SortLemmas.{first_bounds_can_be_found}
 use Rattle.sc_store.specs.StoreData.{StoreData}
 use Rattle.sc_desk.specs.DeskData.{PassedData}
 use Rattle.sc_context.specs.Bounding.{GoesOn}
-use Rattle.sc_context.specs.Contexts.{ContextData, IsEnded, Stops}
+use Rattle.sc_compute.specs.declared.evaluation.Evaluated.{Evaluated}
+use Rattle.sc_context.specs.Contexts.{ContextData, Evaluates, GivesNext, IsEnded, Stops}
 use Rattle.sc_context.specs.Histories.{HasCome, HasGone, IsCutShort, IsDone, IsHistory, last_end}
 use Rattle.sc_context.specs.Progress.{IsNext, Progress, behind_job, first_progress, next_node}
 
@@ -103,3 +104,16 @@ goes_on c d e h k =
 
 pub stays : (c : ContextData) → GoesOn c c
 stays c = record { actions = refl; more = []; all = sym (append-nil c.histories) }
+
+-- what the next action gave it gave behind fewer jobs too
+pub gives_behind : (work : WorkData) (c d after : ContextData) (value : Evaluated) → GoesOn c d
+    → GivesNext work d value after → GivesNext work c value after
+gives_behind work c d after value on gives =
+    record {
+      evaluates = subst (λ k. Evaluates work (goal_action work (goals.Action k)) value) on.actions
+          gives.evaluates;
+      one_more = gives.one_more ∙ ap (λ n. n + 1) on.actions;
+      more = on.more ++ gives.more;
+      all = gives.all ∙ ap (λ hs. hs ++ gives.more) on.all
+          ∙ append_assoc c.histories on.more gives.more;
+    }

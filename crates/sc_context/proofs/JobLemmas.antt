@@ -20,13 +20,14 @@ use Rattle.sc_store.specs.StoreData.{StoreData}
 use Rattle.sc_desk.specs.Begins.{FitsRun, IsPassedFor}
 use Rattle.sc_desk.specs.DeskData.{DeskData, PassedData}
 use Rattle.sc_desk.specs.Sound.{AreEvident}
+use Rattle.sc_task.specs.Attempts.{AttemptData}
 use Rattle.sc_world.specs.Serial.{IsResting}
 use Rattle.sc_world.specs.WorldData.{WorldData}
 use Rattle.sc_context.specs.Contexts.{ContextData, IsContext, IsEnded, IsReady, Stops, context_data}
 use Rattle.sc_context.specs.Histories.{HasCome, IsHistory, last_end}
 use Rattle.sc_context.specs.Jobs.{AreRowsFor, AreRowsOf, HasBegunFor, HasNoRows}
 use Rattle.sc_context.specs.Progress.{IsNext, Progress, actions_behind, behind_job, carried_behind, first_progress, progress}
-use Rattle.sc_context.proofs.AbortLemmas.{is_aborted}
+use Rattle.sc_context.proofs.AbortLemmas.{AreCauses, is_aborted}
 use Rattle.sc_context.proofs.ChainLemmas.{ended_come, ended_short, last_more}
 
 -- a job went somehow behind others, and this goes on
@@ -103,18 +104,18 @@ ended_is work c goal h passed stores histories rows went all done ready rows_are
     }
 
 -- one that has no rows
-pub stops_job : (work : WorkData) → IsSoundWork work → (p : Progress) (goal : Goal)
+pub stops_job : AreCauses → (work : WorkData) → IsSoundWork work → (p : Progress) (goal : Goal)
     (h : JobHistory) (before histories : List JobHistory) → IsHistory work p goal h
     → IsSoundCore h.end → FitsRun work h.end → HasCome work (first_progress work) before p
     → histories ≡ before ++ h ∷ [] → p.actions < length work.script.actions
     → IsCarriedFor work.script.nodes p.carried
     → IsGoal work goal → (why : OrMemory Abort) → HasNoRows h.end why
     → Stops work p.actions why histories
-stops_job work sound p goal h before histories is core fits come all within carried known
+stops_job causes work sound p goal h before histories is core fits come all within carried known
     (Fault abort) e =
-    is_aborted work sound p goal h is core fits histories before abort come all within carried
+    is_aborted causes work sound p goal h is core fits histories before abort come all within carried
     known e
-stops_job work sound p goal h before histories is core fits come all within carried known
+stops_job causes work sound p goal h before histories is core fits come all within carried known
     OutOfMemory e =
     ended_short work p before histories h goal come is all
 
@@ -159,7 +160,7 @@ context_behind work c goal passed after stores histories rows actions come ended
 
 -- ---- worlds that begin
 
-none_at : (n e : ℕ) → at_or (replicate n None) e None ≡ None
+none_at : (n e : ℕ) → at_or {A = Option AttemptData} (replicate n None) e None ≡ None
 none_at zero e = refl
 none_at (suc n) zero = refl
 none_at (suc n) (suc e) = none_at n e

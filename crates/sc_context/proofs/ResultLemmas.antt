@@ -1,20 +1,24 @@
 -- The rows of the results of a job that is done.
-use Rattle.std.proofs.Common.{◌≡◌, ◌≢◌, ◌∙◌, ℕ, zero, suc, ◌+◌, ◌-◌, ◌<◌, List, [], ◌∷◌, ◌++◌, Option, Some, None, length, map, get_or, slice_get, is_some, unwrap_or, true≢false, refl, ap, sym, subst, arith}
+use Rattle.std.proofs.Common.{◌≡◌, ◌≢◌, ◌∙◌, ℕ, zero, suc, ◌+◌, ◌-◌, ◌<◌, List, [], ◌∷◌, ◌++◌, Option, Some, None, length, map, take, get_or, slice_get, Result, Ok, Err, IfOk, is_some, unwrap_or, true≢false, refl, ap, sym, subst, arith}
 use Rattle.std.specs.List.{All}
 use Rattle.std.specs.Option.{option_map}
 use Rattle.std.proofs.lemmas.Option.{slice_get-map, slice_get_read}
-use Rattle.std.proofs.lemmas.List.{ext_get_or, get_or-map, length-map}
-use Rattle.std.proofs.lemmas.List.Elements.{All-from_get_or, All-head, All-tail}
+use Rattle.std.proofs.lemmas.List.{ext_get_or, get_or-map, length-map, map-append, take_more}
+use Rattle.std.proofs.lemmas.List.Elements.{All-from_get_or, All-get_or, All-head, All-tail}
 use Rattle.sc_base.specs.Lists.{at_or}
 use Rattle.sc_value.specs.Datum.{Datum}
 use Rattle.sc_ids.specs.Graphs.{StageData}
-use Rattle.sc_lineage.specs.Actions.{action_outcome, local_results, outcome_of_results, outcome_of_rows}
-use Rattle.sc_lineage.specs.ScriptData.{ActionData, WorkData, collect_action}
+use Rattle.sc_lineage.specs.Actions.{action_outcome, local_results, outcome_of_results, outcome_of_rows, result_of}
+use Rattle.sc_lineage.specs.ScriptData.{ActionData, WorkData, IsSoundScript, collect_action, node_of_action}
 use Rattle.sc_lineage.specs.Streams.{whole_stream}
 use Rattle.sc_lineage.specs.Targets.{own_value, result_target}
 use Rattle.sc_lineage.specs.declared.streams.Stream.{Stream}
 use Rattle.sc_lineage.proofs.PlaceLemmas.{at_or-found, at_or-get_or}
-use Rattle.sc_compute.specs.Stages.{local_count}
+use Rattle.sc_lineage.specs.Meaning.{local_streams}
+use Rattle.sc_lineage.specs.NodeData.{shuffle_node, sort_by_key}
+use Rattle.sc_compute.specs.Stages.{local_count, mapped_in, node_at}
+use Rattle.sc_jobs.specs.declared.goals.Goal.{Goal}
+use Rattle.sc_jobs.specs.declared.goals.Goal.TheVariants as goals
 use Rattle.sc_compute.specs.Evaluations.{Gives, Settles}
 use Rattle.sc_compute.specs.declared.evaluation.Evaluated.{Evaluated}
 use Rattle.sc_compute.specs.declared.evaluation.Evaluated.TheVariants as evaluated
@@ -72,7 +76,7 @@ places_are law work d sound job =
 
 -- ---- what they are
 
-some_inside : {A : Type 0} (x y : A) → Some x ≡ Some y → x ≡ y
+pub some_inside : {A : Type 0} (x y : A) → Some x ≡ Some y → x ≡ y
 some_inside x y e = ap (λ o. unwrap_or o x) e
 
 -- The rows of all partitions of a job.
@@ -111,6 +115,17 @@ module _ (work : WorkData) (job : JobData) (results : List (Option (List Datum))
       (length-results work (goal_action work job.goal) ∙ sym long
       ∙ sym (length-map rows whole_stream)) each
 
+-- the rows of a job whose desk has all its results
+pub rows_of_job : JobsGiveResults → (work : WorkData) (d : DeskData) (goal : Goal) (job : JobData)
+    (results : List (Option (List Datum))) (rows : List (List Datum)) → IsSoundDesk work d
+    → IsJobFor work d.job → results ≡ d.results → job ≡ d.job → d.job.goal ≡ goal
+    → AreAllResults work job results → results ≡ map Some rows → AreRowsFor work goal rows
+rows_of_job law work d goal job results rows sound is_job is same goal_is all are =
+    subst (λ g. AreRowsFor work g rows) goal_is
+    (rows_are work d.job results rows
+    (subst (λ (j : JobData). AreAllResults work j results) same all)
+    (ap length is ∙ places_are law work d sound is_job) are)
+
 -- ---- what they give
 
 -- an action gives what its rows settle, by the sequential meaning
@@ -122,11 +137,77 @@ evaluates work action rows (evaluated.Prints text) same settles gives = sym same
 evaluates work action rows (evaluated.Faults fault) same settles gives = sym same ∙ gives
 evaluates work action rows (evaluated.Never p) same settles gives = settles
 
--- an action that was read, as data
+-- ---- what was read
+
+-- an item of a list that was read, as data
+pub item_at : {A B : Type 0} (view : A → B) (read : List A) (xs : List B) (i : ℕ) (x : A)
+    → map view read ≡ xs → i < length read → x ≡ get_or read i x
+    → slice_get xs i ≡ Some (view x)
+item_at view read xs i x are within is =
+    ap (λ ys. slice_get ys i) (sym are) ∙ slice_get-map view read i
+    ∙ ap (option_map view) (slice_get_read read (length read) i x refl within is)
+
+-- it is within what was read
+pub within_read : {A B : Type 0} (view : A → B) (read : List A) (xs : List B) (i : ℕ)
+    → map view read ≡ xs → i < length xs → i < length read
+within_read view read xs i are within =
+    let same = ap length are in
+    let many = length-map read view in
+    omega (arith, same, many, within)
+
+-- an action that was read
 pub action_at : (read : List Action) (actions : List ActionData) (i : ℕ) (action : Action)
     → map action_data_of read ≡ actions → i < length read → action ≡ get_or read i action
     → at_or actions i (collect_action 0) ≡ action_data_of action
 action_at read actions i action are within is =
     at_or-found actions i (action_data_of action) (collect_action 0)
-    (ap (λ as_. slice_get as_ i) (sym are) ∙ slice_get-map action_data_of read i
-    ∙ ap (option_map action_data_of) (slice_get_read read (length read) i action refl within is))
+    (item_at action_data_of read actions i action are within is)
+
+-- the node of an action is there
+pub node_within : (work : WorkData) (read : List Action) (i : ℕ) (action : Action)
+    → IsSoundScript work.script → map action_data_of read ≡ work.script.actions
+    → i < length work.script.actions → action ≡ get_or read i action
+    → node_of_action (action_data_of action) < length work.script.nodes
+node_within work read i action sound are within is =
+    let actions = work.script.actions in
+    let inside = within_read action_data_of read actions i are within in
+    subst (λ a. node_of_action a < length work.script.nodes)
+    (sym (at_or-get_or actions i (collect_action 0))
+    ∙ action_at read actions i action are inside is)
+    (All-get_or (λ a. node_of_action a < length work.script.nodes) actions i (collect_action 0)
+    within sound.actions)
+
+-- ---- both of two facts
+
+pub both_ok : {A E : Type 0} (r : Result A E) (P Q R : A → Type 0)
+    → ((a : A) → P a → Q a → R a) → IfOk r P → IfOk r Q → IfOk r R
+both_ok (Ok a) P Q R f p q = f a p q
+both_ok (Err e) P Q R f p q = tt
+
+-- one result more
+pub some_more : {A : Type 0} (xs : List (Option A)) (ys zs : List A) (i : ℕ) (x : Option A)
+    (y : A) → take i xs ≡ map Some ys → i < length xs → x ≡ get_or xs i x → x ≡ Some y
+    → zs ≡ ys ++ y ∷ [] → take (i + 1) xs ≡ map Some zs
+some_more xs ys zs i x y so_far within is some pushed =
+    take_more xs i x within
+    ∙ ap (λ v. take i xs ++ v ∷ []) (sym is ∙ some)
+    ∙ ap (λ vs. vs ++ Some y ∷ []) so_far
+    ∙ sym (map-append Some ys (y ∷ []))
+    ∙ ap (map Some) (sym pushed)
+
+-- ---- the parent of a sort
+
+collected : (k : ℕ) (streams : List Stream) → map (result_of (collect_action k)) streams ≡ streams
+collected k [] = refl
+collected k (s ∷ streams) = ap (λ xs. s ∷ xs) (collected k streams)
+
+-- rows for the bounds of a sort are those of its parent
+pub parent_rows : (work : WorkData) (sort parent n : ℕ) (rows : List (List Datum))
+    → node_at work sort ≡ shuffle_node sort_by_key parent n
+    → AreRowsFor work (goals.Bounds sort) rows
+    → local_streams work parent ≡ map whole_stream rows
+parent_rows work sort parent n rows node are =
+    subst (λ k. local_streams work k ≡ map whole_stream rows)
+    (ap (λ x. mapped_in x 0) node)
+    (sym (collected (mapped_in (node_at work sort) 0)
+    (local_streams work (mapped_in (node_at work sort) 0))) ∙ are)

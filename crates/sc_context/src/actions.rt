@@ -14,6 +14,7 @@ use crate::jobs::Ended;
 use crate::stops::Stopped;
 use sc_compute::{Evaluated, settle};
 use sc_jobs::Goal;
+use sc_laws::outcome_law;
 use sc_work::Naming;
 use std::alloc::{AllocError, Global};
 
@@ -90,6 +91,7 @@ impl<W: Naming> Ended<W> {
         self.work.is_named();
         let work = self.work.get();
         work.is_sound();
+        outcome_law();
         let action = &work.script().actions()[self.actions as usize];
         settle(alloc, action, self.rows.as_slice())
     }

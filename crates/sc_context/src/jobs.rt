@@ -12,7 +12,8 @@ ghost use Rattle.sc_stagecut.specs.Carrying.{HasBounds};
 use crate::context::Context;
 use crate::lasts::last_end;
 use crate::stops::Stopped;
-use crate::went::run_world;
+use crate::went::{Went, run_world};
+use sc_causes::{planned_losses_alone, raises_leave_no_value};
 use sc_columns::Rows;
 use sc_core::{Core, JobHistory};
 use sc_desk::{Desk, Passed};
@@ -45,6 +46,8 @@ impl<W: Naming> Context<W> {
         ensures stops { IfErr result (λ s. Stops W.work self.progress.actions s.why
             s.histories.items) }
     {
+        raises_leave_no_value();
+        planned_losses_alone();
         self.is_sound();
         self.work.is_named();
         self.work.get().is_sound();
@@ -55,22 +58,27 @@ impl<W: Naming> Context<W> {
             mut histories,
             actions,
         } = self;
-        if histories.reserve(1).is_err() {
+        let Ok(()) = histories.reserve(1) else {
             return Err(Stopped::without_memory(histories));
-        }
+        };
         let last = last_end(histories.as_slice());
         let Ok(world) = begin_world(alloc, &work, passed, stores, last, goal) else {
             return Err(Stopped::without_memory(histories));
         };
-        let went = run_world(alloc, world);
-        went.history.opening.is_sound();
-        went.history.end.is_sound();
-        histories.push_reserved(went.history);
-        match went.rows {
+        let Went {
+            history,
+            passed,
+            stores,
+            rows,
+        } = run_world(alloc, world);
+        history.opening.is_sound();
+        history.end.is_sound();
+        histories.push_reserved(history);
+        match rows {
             Ok(rows) => Ok(Ended {
                 work,
-                passed: went.passed,
-                stores: went.stores,
+                passed,
+                stores,
                 histories,
                 actions,
                 rows,

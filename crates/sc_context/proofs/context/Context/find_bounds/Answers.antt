@@ -1,0 +1,73 @@
+use Rattle.std.proofs.Common.{◌≡◌, ◌∙◌, ◌≤◌, [], ◌∷◌, Some, None, length, arith, ap, subst, sym}
+use Rattle.sc_base.specs.Lists.{at_or}
+use Rattle.sc_ids.proofs.ChangeLemmas.{length_change_at}
+use Rattle.sc_compute.specs.Stages.{bounds_at}
+use Rattle.std.specs.List.{slice_get}
+use Rattle.sc_stagecut.specs.Carrying.{CarriedData, after_job, with_bounds}
+use Rattle.sc_jobs.specs.declared.goals.Goal.TheVariants as goals
+use Rattle.sc_desk.specs.Begins.{IsPassedFor}
+use Rattle.sc_desk.specs.DeskData.{PassedData, passed_data}
+use Rattle.sc_context.proofs.BoundLemmas.{found_passed, lacking_is}
+use Rattle.sc_context.proofs.ChainLemmas.{stops_ended}
+use Rattle.sc_context.proofs.JobLemmas.{context_behind}
+use Rattle.sc_context.proofs.context.Context.find_bounds.Goals as goal
+
+pub bounds-requires-clause-sort : goal.bounds-requires-clause-sort
+bounds-requires-clause-sort g c =
+    lacking_is (slice_get g.W.Naming.work.script.nodes c.args.sort)
+    (at_or c.args.self.progress.carried.bounds c.args.sort None) c.requires.next.0.unbounded
+
+pub returns-in_default-clause-stops : goal.returns-in_default-clause-stops
+returns-in_default-clause-stops g c =
+    let e = c.in_ok-ended.ended in
+    stops_ended g.W.Naming.work c.args.self (goals.Bounds c.args.sort) c.args.self.progress.actions
+    c.without_memory.result.why e.passed e.stores.items e.histories.items
+    c.without_memory.result.histories.items e.rows.items c.is_sound.ensures.come
+    c.in_ok-ended.ensures.ended c.without_memory.ensures.why c.without_memory.ensures.histories
+
+pub invariant_of-result : goal.invariant_of-result
+invariant_of-result g c =
+    let work = g.W.Naming.work in
+    let sort = c.args.sort in
+    let e = c.in_ok-ended.ended in
+    let ended = c.in_ok-ended.ensures.ended in
+    let inside = passed_data c.passed.inside.carried c.passed.inside.ordered in
+    let found = c.in-Ok.bounds in
+    let from = ap (λ (x : PassedData). x.carried) c.passed.view_is ∙ ended.carried in
+    let carried = c.set_bounds.ensures
+    ∙ ap (λ (k : CarriedData). with_bounds k sort found) from
+    ∙ ap (λ b. with_bounds (after_job c.args.self.progress.carried ended.is.graph) sort b)
+    c.in-Ok.ensures in
+    let serves = subst (λ (k : CarriedData). IsPassedFor work
+    (passed_data k c.passed.inside.ordered)) (sym c.set_bounds.ensures)
+    (found_passed work inside sort found c.in-Ok.ensures
+    (subst (λ (x : PassedData). IsPassedFor work x) (sym c.passed.view_is)
+    ended.ready.passed_on)) in
+    let places = ap (λ (k : CarriedData). length k.bounds) c.set_bounds.ensures
+    ∙ length_change_at c.passed.inside.carried.bounds sort (λ _. Some found)
+    ∙ ap (λ (k : CarriedData). length k.bounds) from
+    ∙ c.is_sound.ensures.places in
+    let many = c.in_ok-ended.ensures.actions in
+    let within : e.actions ≤ length work.script.actions =
+    omega (arith, many, c.requires.within) in
+    context_behind work c.args.self (goals.Bounds sort) e.passed
+    (passed_data c.set_bounds.new.self c.passed.inside.ordered) e.stores.items e.histories.items
+    e.rows.items e.actions c.is_sound.ensures.come ended carried many within serves places
+
+pub returns-clause-finds : goal.returns-clause-finds
+returns-clause-finds g c =
+    let work = g.W.Naming.work in
+    let sort = c.args.sort in
+    let ended = c.in_ok-ended.ensures.ended in
+    let from = ap (λ (x : PassedData). x.carried) c.passed.view_is ∙ ended.carried in
+    record {
+      on = record {
+        actions = c.in_ok-ended.ensures.actions;
+        more = ended.history ∷ [];
+        all = ended.all;
+      };
+      bounds = ap (λ (k : CarriedData). k.bounds) (c.set_bounds.ensures
+          ∙ ap (λ (k : CarriedData). with_bounds k sort c.in-Ok.bounds) from
+          ∙ ap (λ b. with_bounds (after_job c.args.self.progress.carried ended.is.graph) sort b)
+          c.in-Ok.ensures);
+    }

@@ -1,0 +1,14 @@
+use Rattle.std.proofs.lemmas.Result.{IfOk-weaker}
+use Rattle.sc_context.specs.Contexts.{GivesNext}
+use Rattle.sc_context.proofs.ChainLemmas.{gives_behind}
+use Rattle.sc_context.proofs.context.Context.run_action.Goals as goal
+
+pub returns-clause-given : goal.returns-clause-given
+returns-clause-given g c =
+    let work = g.W.Naming.work in
+    IfOk-weaker c.run_own_job.result
+    (λ x. GivesNext work c.in_ok-context.context x.value x.context)
+    (λ x. GivesNext work c.args.self x.value x.context)
+    (λ x h. gives_behind work c.args.self c.in_ok-context.context x.context x.value
+    c.in_ok-context.ensures.finds.on h)
+    c.run_own_job.ensures.given
