@@ -51,9 +51,10 @@ impl<W: Naming> Context<W> {
             (next_node W.work self.now.progress)) }
     {
         self.work.is_named();
+        let number = self.actions();
         let work = self.work.get();
         work.is_sound();
-        let node = node_of(&work.script().actions()[self.actions as usize]);
+        let node = node_of(&work.script().actions()[number as usize]);
         unbounded_sort(alloc, work, node, &self.passed.carried)
     }
 

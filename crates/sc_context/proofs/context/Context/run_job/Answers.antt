@@ -28,9 +28,9 @@ returns-in-Ok-rows-clause-ended g c =
     let last = c.last_end-last.ensures
     ∙ ap last_end (c.as_slice.ensures.value ∙ c.reserve.ensures.items)
     ∙ ap (λ (x : ContextData). x.progress.last) c.self.view_is in
-    let begun = subst (λ l. HasBegunFor work passed stores l c.args.goal c.in-Ok-world.world) last
-    c.in-Ok-world.ensures.begun in
-    let went = has_went work p c.args.goal passed stores c.in-Ok-world.world begun h
+    let begun = subst (λ l. HasBegunFor work passed stores l c.args.goal c.in-Ok-begin_world.world) last
+    c.in-Ok-begin_world.ensures.begun in
+    let went = has_went work p c.args.goal passed stores c.in-Ok-begin_world.world begun h
     c.run_world-history.result.passed c.requires.next
     (ap (λ (x : ContextData). x.progress.carried) c.self.view_is)
     c.run_world-history.ensures.opening c.is_sound-3.ensures c.run_world-history.ensures.replays
@@ -39,7 +39,7 @@ returns-in-Ok-rows-clause-ended g c =
     ∙ ap (λ hs. hs ++ h ∷ [])
     (c.reserve.ensures.items ∙ ap (λ (x : ContextData). x.histories) c.self.view_is) in
     let rows = c.in-Ok-rows.rows.items in
-    let are = subst (λ r. IfOk r (λ rs. AreRowsOf work c.in-Ok-world.world.desk.job.goal h.end
+    let are = subst (λ r. IfOk r (λ rs. AreRowsOf work c.in-Ok-begin_world.world.desk.job.goal h.end
     rs.items)) c.in-Ok-rows.is c.run_world-history.ensures.rows in
     ended_is work c.args.self c.args.goal h c.run_world-history.result.passed
     c.run_world-history.result.stores.items c.push_reserved.new.self.items rows went all are.done
@@ -48,8 +48,8 @@ returns-in-Ok-rows-clause-ended g c =
       fits = c.run_world-history.ensures.fits;
       stores_are = c.run_world-history.ensures.ready;
     })
-    (rows_for work c.in-Ok-world.world.desk.job.goal c.args.goal h.end rows
-    (goal_is work p c.args.goal passed stores c.in-Ok-world.world begun) are)
+    (rows_for work c.in-Ok-begin_world.world.desk.job.goal c.args.goal h.end rows
+    (goal_is work p c.args.goal passed stores c.in-Ok-begin_world.world begun) are)
 
 pub returns-in-Err-clause-stops : goal.returns-in-Err-clause-stops
 returns-in-Err-clause-stops g c =
@@ -61,9 +61,9 @@ returns-in-Err-clause-stops g c =
     let last = c.last_end-last.ensures
     ∙ ap last_end (c.as_slice.ensures.value ∙ c.reserve.ensures.items)
     ∙ ap (λ (x : ContextData). x.progress.last) c.self.view_is in
-    let begun = subst (λ l. HasBegunFor work passed stores l c.args.goal c.in-Ok-world.world) last
-    c.in-Ok-world.ensures.begun in
-    let went = has_went work p c.args.goal passed stores c.in-Ok-world.world begun h
+    let begun = subst (λ l. HasBegunFor work passed stores l c.args.goal c.in-Ok-begin_world.world) last
+    c.in-Ok-begin_world.ensures.begun in
+    let went = has_went work p c.args.goal passed stores c.in-Ok-begin_world.world begun h
     c.run_world-history.result.passed c.requires.next
     (ap (λ (x : ContextData). x.progress.carried) c.self.view_is)
     c.run_world-history.ensures.opening c.is_sound-3.ensures c.run_world-history.ensures.replays

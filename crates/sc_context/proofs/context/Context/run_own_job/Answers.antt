@@ -1,0 +1,31 @@
+use Rattle.std.proofs.Common.{◌≡◌, ◌∙◌, ◌+◌, ◌≤◌, length, arith, ap}
+use Rattle.sc_stagecut.specs.Carrying.{CarriedData}
+use Rattle.sc_jobs.specs.declared.goals.Goal.TheVariants as goals
+use Rattle.sc_context.specs.Contexts.{ContextData}
+use Rattle.sc_context.proofs.ChainLemmas.{stops_ended}
+use Rattle.sc_context.proofs.JobLemmas.{context_behind}
+use Rattle.sc_context.proofs.context.Context.run_own_job.Goals as goal
+
+pub returns-in_default-value-clause-stops : goal.returns-in_default-value-clause-stops
+returns-in_default-value-clause-stops g c =
+    let e = c.in_ok-ended.ended in
+    let left = c.without_memory-in_default-value in
+    stops_ended g.W.Naming.work c.args.self (goals.Action c.self.inside.actions)
+    c.args.self.progress.actions left.result.why e.passed e.stores.items e.histories.items
+    left.result.histories.items e.rows.items c.is_sound.ensures.come c.in_ok-ended.ensures.ended
+    left.ensures.why left.ensures.histories
+
+pub invariant_of-context : goal.invariant_of-context
+invariant_of-context g c =
+    let work = g.W.Naming.work in
+    let p = c.args.self.progress in
+    let e = c.in_ok-ended.ended in
+    let ended = c.in_ok-ended.ensures.ended in
+    let at = ap (λ (x : ContextData). x.progress.actions) c.self.view_is in
+    let many : c.in-Some.behind ≡ p.actions + 1 = omega (arith, c.in-Some.ensures, at) in
+    let within : c.in-Some.behind ≤ length work.script.actions =
+    omega (arith, many, c.requires.within) in
+    context_behind work c.args.self (goals.Action c.self.inside.actions) e.passed e.passed
+    e.stores.items e.histories.items e.rows.items c.in-Some.behind c.is_sound.ensures.come ended
+    ended.carried many within ended.ready.passed_on
+    (ap (λ (k : CarriedData). length k.bounds) ended.carried ∙ c.is_sound.ensures.places)
