@@ -1,5 +1,5 @@
 -- How a run ends behind its script and its plan, from how its parts did, or before them.
-use Rattle.std.proofs.Common.{append_assoc, ◌≡◌, ◌∙◌, ℕ, List, [], ◌∷◌, ◌++◌, map, subst, sym, ap, refl, Option, Some, None, inl, inr}
+use Rattle.std.proofs.Common.{append_assoc, ◌≡◌, ◌∙◌, ℕ, List, [], ◌∷◌, ◌++◌, length, map, subst, sym, ap, refl, Option, Some, None, inl, inr}
 use Rattle.std.specs.Prelude.{Err}
 use Rattle.std.specs.Option.{option_map}
 use Rattle.std.proofs.lemmas.List.{append-nil}

@@ -50,7 +50,7 @@ returns-in-Err-read_work-clause-run g c =
     c.read_work.new.reads.items c.in-Err-read_work.stop
     c.in-Err-read_work.ensures.work)
 
-pub returns-in-Ok-end-clause-run : goal.returns-in-Ok-print_work-clause-run
+pub returns-in-Ok-end-clause-run : goal.returns-in-Ok-end-clause-run
 returns-in-Ok-end-clause-run g c =
     let start = g.S.Source.state c.args.source.now in
     let mid = g.S.Source.state c.read_script.new.source in
