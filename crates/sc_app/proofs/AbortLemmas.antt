@@ -54,8 +54,8 @@ module _ (law : HaveOneReading) (plans : PlansHaveOneReading) (run : RunData) (w
 pub tells_no_failure : HaveOneReading → PlansHaveOneReading → (run : RunData) (status : Status)
     → Ends run status → TellsNoFailure run.words run.reads status
 tells_no_failure law plans run status ends = λ work read none_planned outcomes. (
-    (λ e. no_loss law plans run work read none_planned outcomes
-        (subst (λ (s : Status). Ends run s) e ends)),
-    (λ stage attempt partition e. no_failure law plans run work read none_planned outcomes stage
-        attempt partition (subst (λ (s : Status). Ends run s) e ends)),
+  (λ e. no_loss law plans run work read none_planned outcomes
+      (subst (λ (s : Status). Ends run s) e ends)),
+  (λ stage attempt partition e. no_failure law plans run work read none_planned outcomes stage
+      attempt partition (subst (λ (s : Status). Ends run s) e ends)),
 )
