@@ -8,7 +8,6 @@ use Rattle.sc_lineage.specs.ScriptData.{ActionData, WorkData, collect_action}
 use Rattle.sc_plan.specs.Plans.{PlansHaveOneReading}
 use Rattle.sc_script.specs.Parsing.{HaveOneReading}
 use Rattle.sc_app.specs.declared.ran.Status.{Status}
-use Rattle.sc_app.specs.declared.ran.Status.TheVariants as statuses
 use Rattle.sc_app.specs.Ends.{Ends, EndsForAbort}
 use Rattle.sc_app.specs.Exactly.{TellsNoFailure}
 use Rattle.sc_app.specs.Runs.{RunData, HasReadWork}
