@@ -1,5 +1,5 @@
 -- What the history of an aborted job shows.
-use Rattle.std.proofs.Common.{◌≡◌, ◌≢◌, ◌∙◌, ℕ, zero, suc, ◌+◌, ◌<◌, ◌≤◌, ◌==◌, ◌&&◌, Bool, true, false, List, [], ◌∷◌, ◌++◌, Option, Some, None, IfSome, length, refl, ap, sym, subst, arith, true≢false}
+use Rattle.std.proofs.Common.{◌≡◌, ◌≢◌, ◌∙◌, ℕ, ◌<◌, ◌≤◌, ◌&&◌, true, List, [], ◌∷◌, ◌++◌, Option, Some, None, IfSome, length, refl, ap, sym, subst, arith, true≢false}
 use Rattle.std.specs.List.{All, Contains}
 use Rattle.std.proofs.lemmas.Bool.{and_parts, false≢true}
 use Rattle.std.proofs.lemmas.List.Elements.{All-append, All-cons, All-contains, All-head, All-nil}
@@ -8,7 +8,7 @@ use Rattle.sc_ids.specs.declared.attempts.AttemptId.{AttemptId}
 use Rattle.sc_ids.specs.declared.failures.FailureCause.{FailureCause}
 use Rattle.sc_ids.specs.declared.failures.FailureCause.TheVariants as causes
 use Rattle.sc_lineage.specs.Actions.{action_outcome, never}
-use Rattle.sc_lineage.specs.ScriptData.{WorkData, IsSoundScript, IsSoundWork}
+use Rattle.sc_lineage.specs.ScriptData.{WorkData, IsSoundWork}
 use Rattle.sc_plan.specs.Attempts.{is_failed}
 use Rattle.sc_plan.specs.PlanLines.{place_of}
 use Rattle.sc_plan.specs.declared.lines.PlanLine.{PlanLine}
@@ -37,7 +37,7 @@ use Rattle.sc_history.proofs.BudgetLemmas.{budgets_are_shown}
 use Rattle.sc_history.proofs.LossLemmas.{no_executors_are_shown}
 use Rattle.sc_history.proofs.StageLimitLemmas.{stage_limits_are_shown}
 use Rattle.sc_history.proofs.TaskLimitLemmas.{task_limits_are_shown}
-use Rattle.sc_jobs.specs.JobData.{IsGoal, JobData, goal_action, goal_node, job_data}
+use Rattle.sc_jobs.specs.JobData.{IsGoal, JobData, goal_action, job_data}
 use Rattle.sc_jobs.specs.declared.goals.Goal.{Goal}
 use Rattle.sc_jobs.specs.declared.goals.Goal.TheVariants as goals
 use Rattle.sc_desk.specs.Begins.{FitsRun}

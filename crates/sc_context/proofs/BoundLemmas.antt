@@ -1,5 +1,5 @@
 -- How many sorts lack their bounds.
-use Rattle.std.proofs.Common.{◌≡◌, ◌≢◌, ◌∙◌, ◌⊎◌, inl, inr, ℕ, zero, suc, ◌+◌, ◌<◌, ◌≤◌, Bool, true, false, not, List, [], ◌∷◌, Option, Some, None, is_some, unwrap_or, true≢false, length, slice_get, refl, ap, sym, subst, arith}
+use Rattle.std.proofs.Common.{◌≡◌, ◌∙◌, ◌⊎◌, inl, inr, ℕ, zero, suc, ◌<◌, ◌≤◌, true, not, List, [], ◌∷◌, Option, Some, None, is_some, unwrap_or, true≢false, length, slice_get, refl, ap, sym, subst, arith}
 use Rattle.std.proofs.lemmas.Bool.{and_parts, cases_eq, cases_lt, false≢true}
 use Rattle.sc_base.specs.Lists.{at_or}
 use Rattle.sc_value.specs.Keys.{KeyData}
@@ -8,7 +8,7 @@ use Rattle.sc_ids.proofs.ChangeLemmas.{at_or_change_other, at_or_change_same, le
 use Rattle.sc_lineage.specs.NodeData.{NodeData, cache_node, shuffle_node, sort_by_key}
 use Rattle.sc_lineage.specs.ScriptData.{WorkData}
 use Rattle.sc_lineage.proofs.PlaceLemmas.{at_or-found, at_or-past}
-use Rattle.sc_compute.specs.Stages.{bounds_at, node_at}
+use Rattle.sc_compute.specs.Stages.{bounds_at}
 use Rattle.sc_jobs.proofs.NodeLemmas.{sort_is}
 use Rattle.sc_stagecut.specs.Carrying.{AreRightBounds, CarriedData, is_sort, is_unbounded, with_bounds}
 use Rattle.sc_lineage.specs.Meaning.{bounds_step, known_of, meanings_by}

@@ -1,5 +1,5 @@
 -- Jobs one behind the other.
-use Rattle.std.proofs.Common.{◌≡◌, ◌∙◌, ◌⊎◌, inl, inr, ℕ, zero, suc, ◌+◌, ◌-◌, ◌<◌, ◌≤◌, List, [], ◌∷◌, ◌++◌, Option, Some, None, length, slice_get, refl, ap, sym, subst, arith, append_assoc}
+use Rattle.std.proofs.Common.{◌≡◌, ◌∙◌, inl, inr, ℕ, ◌+◌, ◌-◌, ◌<◌, List, [], ◌∷◌, ◌++◌, Some, length, slice_get, refl, ap, sym, subst, arith, append_assoc}
 use Rattle.std.specs.Option.{option_map}
 use Rattle.std.proofs.lemmas.List.{append-nil, length-append}
 use Rattle.sc_base.specs.declared.refusals.OrMemory.{OrMemory}
@@ -19,7 +19,7 @@ use Rattle.sc_desk.specs.DeskData.{PassedData}
 use Rattle.sc_context.specs.Bounding.{GoesOn}
 use Rattle.sc_compute.specs.declared.evaluation.Evaluated.{Evaluated}
 use Rattle.sc_context.specs.Contexts.{ContextData, Evaluates, GivesNext, IsEnded, Stops}
-use Rattle.sc_context.specs.Histories.{HasCome, HasGone, IsCutShort, IsDone, IsHistory, last_end}
+use Rattle.sc_context.specs.Histories.{HasCome, IsCutShort, IsDone, IsHistory, last_end}
 use Rattle.sc_context.specs.Progress.{IsNext, Progress, behind_job, first_progress, next_node}
 
 -- one job more is done

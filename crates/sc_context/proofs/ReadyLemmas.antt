@@ -1,5 +1,5 @@
 -- Stores that are ready for the job behind another one.
-use Rattle.std.proofs.Common.{◌≡◌, ◌∙◌, ℕ, zero, suc, ◌≤◌, Bool, true, false, if◌then◌else◌, List, [], ◌∷◌, ◌++◌, Option, None, IfSome, replicate, refl, ap, sym, subst, arith}
+use Rattle.std.proofs.Common.{◌≡◌, ◌∙◌, ℕ, zero, suc, ◌≤◌, Bool, true, false, if◌then◌else◌, List, [], ◌∷◌, ◌++◌, Option, None, IfSome, replicate, refl, ap, sym, subst}
 use Rattle.sc_ids.specs.Graphs.{StageData}
 use Rattle.sc_ids.specs.declared.blocks.BlockId.{BlockId}
 use Rattle.sc_ids.specs.declared.blocks.Loc.{Loc}
@@ -10,7 +10,7 @@ use Rattle.sc_ids.specs.declared.limits.Limits.{Limits}
 use Rattle.sc_lineage.specs.ScriptData.{WorkData}
 use Rattle.sc_plan.specs.declared.lines.PlanLine.{PlanLine}
 use Rattle.sc_tracker.specs.Outputs.{never, output_in}
-use Rattle.sc_tracker.specs.TrackerData.{ShuffleData, TrackerData, is_of, output_of, output_under, outputs_under, shuffle_data, tracker_data, trust_of}
+use Rattle.sc_tracker.specs.TrackerData.{ShuffleData, TrackerData, is_of, output_of, output_under, shuffle_data, tracker_data}
 use Rattle.sc_tracker.specs.Tracking.{has_room}
 use Rattle.sc_tracker.specs.Trust.{trust_at}
 use Rattle.sc_tracker.proofs.BlockLemmas.{under_behind, under_here}
@@ -18,7 +18,7 @@ use Rattle.sc_dag.specs.DagData.{DagData}
 use Rattle.sc_dag.specs.Openings.{sized_by, sized_for_all}
 use Rattle.sc_dag.specs.Submission.{IsSubmitted}
 use Rattle.sc_core.specs.CoreData.{CoreData}
-use Rattle.sc_core.specs.Openings.{IsOpening, told_before, tracker_behind}
+use Rattle.sc_core.specs.Openings.{IsOpening, tracker_behind}
 use Rattle.sc_jobs.specs.declared.goals.Goal.{Goal}
 use Rattle.sc_store.specs.StoreData.{StoreData}
 use Rattle.sc_desk.specs.Begins.{Begins}

@@ -1,5 +1,5 @@
 -- The rows of the results of a job that is done.
-use Rattle.std.proofs.Common.{◌≡◌, ◌≢◌, ◌∙◌, ℕ, zero, suc, ◌+◌, ◌-◌, ◌<◌, List, [], ◌∷◌, ◌++◌, Option, Some, None, length, map, take, get_or, slice_get, Result, Ok, Err, IfOk, is_some, unwrap_or, true≢false, refl, ap, sym, subst, arith}
+use Rattle.std.proofs.Common.{◌≡◌, ◌≢◌, ◌∙◌, ℕ, ◌+◌, ◌-◌, ◌<◌, List, [], ◌∷◌, ◌++◌, Option, Some, None, length, map, take, get_or, slice_get, Result, Ok, Err, IfOk, is_some, unwrap_or, true≢false, refl, ap, sym, subst, arith}
 use Rattle.std.specs.List.{All}
 use Rattle.std.specs.Option.{option_map}
 use Rattle.std.proofs.lemmas.Option.{slice_get-map, slice_get_read}
@@ -11,7 +11,6 @@ use Rattle.sc_ids.specs.Graphs.{StageData}
 use Rattle.sc_lineage.specs.Actions.{action_outcome, local_results, outcome_of_results, outcome_of_rows, result_of}
 use Rattle.sc_lineage.specs.ScriptData.{ActionData, WorkData, IsSoundScript, collect_action, node_of_action}
 use Rattle.sc_lineage.specs.Streams.{whole_stream}
-use Rattle.sc_lineage.specs.Targets.{own_value, result_target}
 use Rattle.sc_lineage.specs.declared.streams.Stream.{Stream}
 use Rattle.sc_lineage.proofs.PlaceLemmas.{at_or-found, at_or-get_or}
 use Rattle.sc_lineage.specs.Meaning.{local_streams}
@@ -25,14 +24,12 @@ use Rattle.sc_compute.specs.declared.evaluation.Evaluated.TheVariants as evaluat
 use Rattle.sc_lineage.specs.Views.{action_data_of}
 use Rattle.sc_lineage.specs.declared.nodes.Action.{Action}
 use Rattle.sc_compute.proofs.OutcomeLemmas.{length-results, result_at as result_of_partition}
-use Rattle.sc_dag.specs.DagData.{DagData, no_stage, stage_at}
-use Rattle.sc_dag.specs.Openings.{AreNumbered, number_behind}
-use Rattle.sc_core.specs.CoreData.{result_stage}
+use Rattle.sc_dag.specs.DagData.{no_stage}
 use Rattle.sc_jobs.specs.JobData.{JobData, goal_action, goal_node}
 use Rattle.sc_jobs.specs.JobLaws.{JobsGiveResults}
-use Rattle.sc_jobs.specs.Plans.{GivesResults, IsJobFor}
+use Rattle.sc_jobs.specs.Plans.{IsJobFor}
 use Rattle.sc_desk.specs.DeskData.{DeskData, core_of}
-use Rattle.sc_desk.specs.Sound.{AreAllResults, IsResult, IsSoundDesk, result_at, result_count}
+use Rattle.sc_desk.specs.Sound.{AreAllResults, IsSoundDesk, result_at}
 use Rattle.sc_context.specs.Contexts.{Evaluates}
 use Rattle.sc_context.specs.Jobs.{AreRowsFor}
 use Rattle.sc_context.specs.Results.{AreThere}

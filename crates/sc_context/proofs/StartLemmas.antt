@@ -2,20 +2,18 @@
 use Rattle.std.proofs.Common.{◌≡◌, ◌∙◌, ℕ, zero, suc, ◌+◌, ◌≤◌, List, [], ◌∷◌, ◌++◌, Option, Some, None, IfSome, length, map, replicate, slice_get, refl, ap, sym, subst, arith}
 use Rattle.std.proofs.lemmas.List.{length-map, length-replicate}
 use Rattle.sc_base.specs.Lists.{numbers_below, numbers_from}
-use Rattle.sc_cache.specs.Caches.{cache_data}
 use Rattle.sc_lineage.specs.ScriptData.{WorkData}
 use Rattle.sc_lineage.proofs.PlaceLemmas.{length-numbers_below}
 use Rattle.sc_jobs.proofs.KnownLemmas.{known-more}
 use Rattle.sc_stagecut.specs.Carrying.{CarriedData, carried_data}
-use Rattle.sc_tracker.specs.TrackerData.{tracker_data}
 use Rattle.sc_tracker.specs.Trust.{trust_at, untold}
-use Rattle.sc_store.specs.StoreData.{StoreData, store_data}
+use Rattle.sc_store.specs.StoreData.{StoreData}
 use Rattle.sc_desk.specs.Begins.{IsPassedFor}
 use Rattle.sc_desk.specs.DeskData.{PassedData}
 use Rattle.sc_desk.specs.Dues.{wipes_due}
 use Rattle.sc_world.specs.Ties.{generation_at, generation_in}
-use Rattle.sc_context.specs.Contexts.{AreReadyBehind, ContextData, IsContext, context_data, new_context}
-use Rattle.sc_context.specs.Progress.{Progress, first_progress, progress}
+use Rattle.sc_context.specs.Contexts.{AreReadyBehind, IsContext, context_data, new_context}
+use Rattle.sc_context.specs.Progress.{first_progress, progress}
 use Rattle.sc_context.specs.Starts.{new_store, new_stores}
 
 -- the store of each executor has its number

@@ -1,8 +1,8 @@
 -- How the bounds of sorts are found by jobs.
-use Rattle.std.specs.Prelude.{ℕ, ◌≡◌, ◌++◌, List, Option, Some}
+use Rattle.std.specs.Prelude.{ℕ, ◌≡◌, ◌++◌, List, Some}
 use Rattle.sc_compute.specs.Stages.{bounds_at}
 use Rattle.sc_ids.specs.Changes.{change_at}
-use Rattle.sc_lineage.specs.NodeData.{NodeData, text_node, parallelize_node, each_node, union_node, coalesce_node, cache_node, shuffle_node, meet_node}
+use Rattle.sc_lineage.specs.NodeData.{NodeData, shuffle_node}
 use Rattle.sc_lineage.specs.ScriptData.{WorkData}
 use Rattle.sc_stagecut.specs.Carrying.{HasBounds}
 use Rattle.sc_core.specs.declared.journals.JobHistory.{JobHistory}

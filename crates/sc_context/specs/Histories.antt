@@ -3,7 +3,6 @@ use Rattle.std.specs.Prelude.{ℕ, ◌-◌, ◌≡◌, ◌⊎◌, List, [], ◌�
 use Rattle.std.specs.Option.{option_map}
 use Rattle.sc_ids.specs.Graphs.{StageData}
 use Rattle.sc_lineage.specs.ScriptData.{WorkData}
-use Rattle.sc_stagecut.specs.Carrying.{CarriedData}
 use Rattle.sc_stagecut.specs.Cuts.{IsCut}
 use Rattle.sc_core.specs.CoreData.{CoreData}
 use Rattle.sc_core.specs.Journals.{Replays}

@@ -1,4 +1,4 @@
-use Rattle.std.proofs.Common.{◌≡◌, ◌<◌, None, Some, length, arith, subst, sym}
+use Rattle.std.proofs.Common.{◌<◌, None, length, arith, subst, sym}
 use Rattle.std.specs.List.{slice_get}
 use Rattle.sc_base.specs.Lists.{at_or}
 use Rattle.sc_compute.specs.Stages.{bounds_at}

@@ -1,7 +1,6 @@
-use Rattle.std.proofs.Common.{◌≡◌, ◌∙◌, ◌≤◌, [], ◌∷◌, Some, None, length, arith, ap, subst, sym}
+use Rattle.std.proofs.Common.{◌∙◌, ◌≤◌, [], ◌∷◌, Some, None, length, arith, ap, subst, sym}
 use Rattle.sc_base.specs.Lists.{at_or}
 use Rattle.sc_ids.proofs.ChangeLemmas.{length_change_at}
-use Rattle.sc_compute.specs.Stages.{bounds_at}
 use Rattle.std.specs.List.{slice_get}
 use Rattle.sc_stagecut.specs.Carrying.{CarriedData, after_job, with_bounds}
 use Rattle.sc_jobs.specs.declared.goals.Goal.TheVariants as goals

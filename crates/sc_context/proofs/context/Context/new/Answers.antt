@@ -1,4 +1,4 @@
-use Rattle.std.proofs.Common.{◌≡◌, ◌∙◌, List, [], None, length, replicate, ap, subst, sym}
+use Rattle.std.proofs.Common.{◌∙◌, List, [], None, length, replicate, ap, subst, sym}
 use Rattle.sc_lineage.specs.ScriptData.{WorkData}
 use Rattle.sc_stagecut.specs.Carrying.{carried_data}
 use Rattle.sc_core.specs.declared.journals.JobHistory.{JobHistory}

@@ -1,4 +1,4 @@
-use Rattle.std.proofs.Common.{◌≡◌, ◌∙◌, ◌<◌, length, ap, subst, sym}
+use Rattle.std.proofs.Common.{◌∙◌, ◌<◌, length, ap, subst, sym}
 use Rattle.sc_lineage.specs.ScriptData.{ScriptData, WorkData}
 use Rattle.sc_context.proofs.ResultLemmas.{node_within}
 use Rattle.sc_context.proofs.context.Context.next_sort.Goals as goal

@@ -1,4 +1,4 @@
-use Rattle.std.proofs.Common.{◌≡◌, ◌∙◌, [], ◌∷◌, ◌++◌, IfErr, IfOk, ap, subst, sym}
+use Rattle.std.proofs.Common.{◌∙◌, [], ◌∷◌, ◌++◌, IfErr, IfOk, ap, subst, sym}
 use Rattle.sc_lineage.specs.ScriptData.{WorkData, IsSoundScript, IsSoundWork}
 use Rattle.sc_stagecut.specs.Carrying.{CarriedData, HasBounds}
 use Rattle.sc_jobs.specs.JobData.{goal_node}

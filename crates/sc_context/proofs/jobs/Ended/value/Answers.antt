@@ -1,4 +1,4 @@
-use Rattle.std.proofs.Common.{◌≡◌, ◌∙◌, IfOk, map, ap, subst, sym}
+use Rattle.std.proofs.Common.{◌∙◌, IfOk, map, ap, subst, sym}
 use Rattle.std.specs.List.{flat_map}
 use Rattle.sc_compute.specs.Evaluations.{Gives, Settles}
 use Rattle.sc_lineage.specs.Actions.{local_results, outcome_of_rows}
