@@ -1,3 +1,4 @@
 mod ReadLemmas
 mod RaiseLemmas
 mod LossLemmas
+mod InputLemmas

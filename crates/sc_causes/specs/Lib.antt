@@ -1,2 +1,3 @@
 pub mod Raises
 pub mod Losses
+pub mod Inputs

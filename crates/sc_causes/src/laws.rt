@@ -1,6 +1,7 @@
 //! The laws, on functions that do nothing.
 #![tactic(auto)]
 
+ghost use Rattle.sc_causes.specs.Inputs.{MissingInputsWereLost};
 ghost use Rattle.sc_causes.specs.Losses.{EmptyPlansLoseNone, PlannedLossesAlone};
 ghost use Rattle.sc_causes.specs.Raises.{RaisesLeaveNoValue};
 
@@ -15,4 +16,10 @@ pub fn raises_leave_no_value()
 pub fn planned_losses_alone()
     ensures planned { PlannedLossesAlone }
     ensures empty { EmptyPlansLoseNone }
+{}
+
+/// Where a task is handed out without a place for an input, the output was lost since it was
+/// registered there last, which is the evidence of a failure for a missing input.
+pub fn missing_inputs_were_lost()
+    ensures { MissingInputsWereLost }
 {}

@@ -4,12 +4,13 @@
 //! A task is one of many behind an action: where what it is to compute raises, the action has no
 //! outcome by the sequential meaning, in which there are no tasks. And where every executor was
 //! told lost, the plan loses each of them. So a job that ends without a value for one of these
-//! causes could not have had one, or was planned to end so.
+//! causes could not have had one, or was planned to end so. And where a task is handed out without
+//! a place for one of its inputs, the input was lost.
 //!
-//! `specs/Raises.antt` and `specs/Losses.antt` say what the laws are. Each law stands under a
-//! function that does nothing, for a caller to cite.
+//! `specs/Raises.antt`, `specs/Losses.antt` and `specs/Inputs.antt` say what the laws are. Each law
+//! stands under a function that does nothing, for a caller to cite.
 #![tactic(auto)]
 
 mod laws;
 
-pub use laws::{planned_losses_alone, raises_leave_no_value};
+pub use laws::{missing_inputs_were_lost, planned_losses_alone, raises_leave_no_value};

@@ -25,8 +25,9 @@ use Rattle.sc_core.specs.declared.running.Running.{Running}
 use Rattle.sc_history.specs.Tellings.{is_heard}
 use Rattle.sc_history.proofs.Events.{Comes, posts_come}
 
--- an answer neither puts a report off nor tells a loss
+-- an answer is to a report that is told to its attempt
 abbrev pub is_now : Answer → Bool
+is_now says.Ignored = false
 is_now says.Shelved = false
 is_now says.Told = false
 is_now answer = true
@@ -80,7 +81,7 @@ failure_now c after r cause answer tells =
         cause_now (after_failure c r.hand_out.attempt cause) after r.hand_out.attempt cause
         (is_zombie_in (set_of c.dag r.hand_out.attempt)) answer h
 
-tells_now :
+pub tells_now :
     (c after : CoreData) (r : Running) (outcome : Outcome) (answer : Answer)
     → Tells c r outcome answer after → is_now answer ≡ true
 tells_now c after r (outcomes.Map loc) answer (next, up, e, is) =
