@@ -29,6 +29,7 @@ use Rattle.sc_core.specs.declared.events.Outcome.{Outcome}
 use Rattle.sc_core.specs.declared.events.Outcome.TheVariants as outcomes
 use Rattle.sc_core.specs.declared.journals.JobHistory.{JobHistory}
 use Rattle.sc_core.specs.declared.running.Shelved.{Shelved}
+use Rattle.sc_causes.specs.Inputs.{MissingInputsWereLost}
 use Rattle.sc_causes.specs.Losses.{EmptyPlansLoseNone, PlannedLossesAlone}
 use Rattle.sc_causes.specs.Raises.{RaisesLeaveNoValue, Serves}
 use Rattle.sc_history.specs.Evidence.{ShowsTaskLimit, counts, is_failure_of, is_of_task}
@@ -40,11 +41,12 @@ use Rattle.sc_history.proofs.TaskLimitLemmas.{task_limits_are_shown}
 use Rattle.sc_jobs.specs.JobData.{IsGoal, JobData, goal_action, job_data}
 use Rattle.sc_jobs.specs.declared.goals.Goal.{Goal}
 use Rattle.sc_jobs.specs.declared.goals.Goal.TheVariants as goals
-use Rattle.sc_desk.specs.Begins.{FitsRun}
+use Rattle.sc_desk.specs.Begins.{FitsLast, FitsRun}
 use Rattle.sc_desk.specs.Sound.{AreEvident, EndedFor, IsEvident}
 use Rattle.sc_context.specs.Aborts.{IsAborted, IsUnplanned, ShowsAbort}
 use Rattle.sc_context.specs.Histories.{HasCome, IsHistory}
 use Rattle.sc_context.specs.Progress.{IsNext, Progress, first_progress}
+use Rattle.sc_context.proofs.CalmLemmas.{gives_none_up, opening_calm}
 
 -- ---- evidence of what is told
 
@@ -95,6 +97,7 @@ pub record AreCauses : Type 0 where
   pub raises : RaisesLeaveNoValue
   pub losses : PlannedLossesAlone
   pub empty : EmptyPlansLoseNone
+  pub missing : MissingInputsWereLost
 
 module _ (known_causes : AreCauses) (work : WorkData) (sound : IsSoundWork work) (p : Progress)
     (goal : Goal) (h : JobHistory) (is : IsHistory work p goal h) (core : IsSoundCore h.end)
@@ -123,7 +126,7 @@ module _ (known_causes : AreCauses) (work : WorkData) (sound : IsSoundWork work)
 
   -- Where the plan has no line.
   module _ (carried : IsCarriedFor work.script.nodes p.carried) (known : IsGoal work goal)
-      (empty : work.plan ≡ []) where
+      (before : FitsLast work p.last) (empty : work.plan ≡ []) where
     -- the job is for this action
     serves : (g : Goal) → IsNext work p g → Serves work g p.actions
     serves (goals.Action number) next = next.0
@@ -186,7 +189,13 @@ module _ (known_causes : AreCauses) (work : WorkData) (sound : IsSoundWork work)
         → IsUnplanned work p.actions abort
     unplanned_abort (TaskLimit stage number partition) e =
         limit_raises stage number partition (shows_abort (TaskLimit stage number partition) e)
-    unplanned_abort (StageLimit stage) e = tt
+    unplanned_abort (StageLimit stage) e =
+        gives_none_up work job empty known_causes.empty.none known_causes.missing h.opening h.end
+        h.entries.items stage
+        (opening_calm work job empty known_causes.empty.none known_causes.missing is.graph p.last
+        h.opening is.opening is.began before)
+        (is.replays, is.evidence) (omega (arith, sound.limits.stage_attempts.above))
+        (shows_abort (StageLimit stage) e)
     unplanned_abort NoExecutor e =
         let some : 0 < length h.end.dag.tracker.trust =
         subst (λ n. 0 < n) (sym fits.execs) (omega (arith, sound.limits.executors.above)) in
@@ -198,9 +207,9 @@ module _ (known_causes : AreCauses) (work : WorkData) (sound : IsSoundWork work)
   pub is_aborted : (histories before : List JobHistory) (abort : Abort)
       → HasCome work (first_progress work) before p → histories ≡ before ++ h ∷ []
       → p.actions < length work.script.actions
-      → IsCarriedFor work.script.nodes p.carried → IsGoal work goal
+      → IsCarriedFor work.script.nodes p.carried → IsGoal work goal → FitsLast work p.last
       → h.end.job ≡ jobs.Aborted abort → IsAborted work p.actions histories abort
-  is_aborted histories before abort come all within carried known e =
+  is_aborted histories before abort come all within carried known last e =
       record {
         known = within;
         progress = p;
@@ -210,5 +219,5 @@ module _ (known_causes : AreCauses) (work : WorkData) (sound : IsSoundWork work)
         at = refl;
         aborted = e;
         shows = shows_abort abort e;
-        unplanned = λ empty. unplanned_abort carried known empty abort e;
+        unplanned = λ empty. unplanned_abort carried known last empty abort e;
       }

@@ -1,13 +1,15 @@
 -- Jobs one behind the other.
-use Rattle.std.proofs.Common.{◌≡◌, ◌∙◌, inl, inr, ℕ, ◌+◌, ◌-◌, ◌<◌, List, [], ◌∷◌, ◌++◌, Some, length, slice_get, refl, ap, sym, subst, arith, append_assoc}
+use Rattle.std.proofs.Common.{true≢false, Bool, true, false, ◌≡◌, ◌∙◌, inl, inr, ℕ, ◌+◌, ◌-◌, ◌<◌, List, [], ◌∷◌, ◌++◌, Some, length, slice_get, refl, ap, sym, subst, arith, append_assoc}
 use Rattle.std.specs.Option.{option_map}
 use Rattle.std.proofs.lemmas.List.{append-nil, length-append}
 use Rattle.sc_base.specs.declared.refusals.OrMemory.{OrMemory}
-use Rattle.sc_base.specs.declared.refusals.OrMemory.TheVariants.{OutOfMemory}
+use Rattle.sc_base.specs.declared.refusals.OrMemory.TheVariants.{Fault, OutOfMemory}
 use Rattle.sc_value.specs.Datum.{Datum}
 use Rattle.sc_lineage.specs.ScriptData.{WorkData, IsSoundScript}
 use Rattle.sc_core.specs.declared.answers.Abort.{Abort}
-use Rattle.sc_core.specs.declared.answers.Job.TheVariants.{Done}
+use Rattle.sc_core.specs.CoreData.{CoreData}
+use Rattle.sc_core.specs.declared.answers.Job.{Job}
+use Rattle.sc_core.specs.declared.answers.Job.TheVariants as jobs
 use Rattle.sc_core.specs.declared.journals.JobHistory.{JobHistory}
 use Rattle.sc_stagecut.specs.Carrying.{HasBounds}
 use Rattle.sc_jobs.specs.JobData.{IsGoal, goal_action, goal_node}
@@ -16,10 +18,11 @@ use Rattle.sc_jobs.specs.declared.goals.Goal.TheVariants as goals
 use Rattle.sc_jobs.proofs.SortLemmas.{first_bounds_can_be_found}
 use Rattle.sc_store.specs.StoreData.{StoreData}
 use Rattle.sc_desk.specs.DeskData.{PassedData}
+use Rattle.sc_context.specs.Aborts.{IsAborted}
 use Rattle.sc_context.specs.Bounding.{GoesOn}
 use Rattle.sc_compute.specs.declared.evaluation.Evaluated.{Evaluated}
-use Rattle.sc_context.specs.Contexts.{ContextData, Evaluates, GivesNext, IsEnded, Stops}
-use Rattle.sc_context.specs.Histories.{HasCome, IsCutShort, IsDone, IsHistory, last_end}
+use Rattle.sc_context.specs.Contexts.{ContextData, Evaluates, GivesNext, IsEnded, StandBehind, Stops}
+use Rattle.sc_context.specs.Histories.{HasCome, IsCutShort, IsDone, IsHistory, IsUnaborted, last_end}
 use Rattle.sc_context.specs.Progress.{IsNext, Progress, behind_job, first_progress, next_node}
 
 -- one job more is done
@@ -59,38 +62,59 @@ next_known work p (goals.Bounds sort) sound within first =
 -- a job that is done, as the progress behind it has it
 pub ended_come : (work : WorkData) (p : Progress) (histories : List JobHistory) (h : JobHistory)
     (goal : Goal) → HasCome work (first_progress work) histories p
-    → (is : IsHistory work p goal h) → h.end.job ≡ Done
+    → (is : IsHistory work p goal h) → h.end.job ≡ jobs.Done
     → HasCome work (first_progress work) (histories ++ h ∷ [])
     (behind_job work p goal is.graph h.end)
 ended_come work p histories h goal come is done =
     come_more work (first_progress work) p (behind_job work p goal is.graph h.end) histories h come
     (record { goal = goal; is = is; done = done; behind = refl })
 
--- memory ran out behind a job
+-- memory ran out behind a job that was not aborted
 pub ended_short : (work : WorkData) (p : Progress) (before after : List JobHistory)
     (h : JobHistory) (goal : Goal) → HasCome work (first_progress work) before p
-    → IsHistory work p goal h → after ≡ before ++ h ∷ [] → IsCutShort work after
-ended_short work p before after h goal come is all =
-    (p, inr (goal, h, record { before = before; all = all; come = come; is = is }))
+    → IsHistory work p goal h → IsUnaborted h.end → after ≡ before ++ h ∷ []
+    → IsCutShort work p.actions after
+ended_short work p before after h goal come is unaborted all = (
+  p,
+  refl,
+  inr (goal, h, record { before = before; all = all; come = come; is = is }, unaborted),
+)
+
+-- a job that is done was not aborted
+is_done_job : Job → Bool
+is_done_job jobs.Done = true
+is_done_job job = false
+
+done_unaborted : (end : CoreData) → end.job ≡ jobs.Done → IsUnaborted end
+unfolding is_done_job
+done_unaborted end done abort aborted = true≢false (ap is_done_job (sym done ∙ aborted))
 
 -- memory ran out before a job
-pub stops_short : (work : WorkData) (p : Progress) (k : ℕ) (why : OrMemory Abort)
-    (before histories : List JobHistory) → HasCome work (first_progress work) before p
-    → why ≡ OutOfMemory → histories ≡ before → Stops work k why histories
-stops_short work p k why before histories come none all =
-    subst (λ w. Stops work k w histories) (sym none)
-    (p, inl (subst (λ hs. HasCome work (first_progress work) hs p) (sym all) come))
+pub stops_short : (work : WorkData) (c : ContextData) (why : OrMemory Abort)
+    (histories : List JobHistory) → HasCome work (first_progress work) c.histories c.progress
+    → why ≡ OutOfMemory → histories ≡ c.histories → Stops work c why histories
+stops_short work c why histories come none all =
+    subst (λ w. Stops work c w histories) (sym none) (
+      ([], all ∙ sym (append-nil c.histories)),
+      (
+        c.progress,
+        refl,
+        inl (subst (λ hs. HasCome work (first_progress work) hs c.progress) (sym all) come),
+      ),
+    )
 
 -- or behind one that is done
-pub stops_ended : (work : WorkData) (c : ContextData) (goal : Goal) (k : ℕ) (why : OrMemory Abort)
+pub stops_ended : (work : WorkData) (c : ContextData) (goal : Goal) (why : OrMemory Abort)
     (passed : PassedData) (stores : List StoreData) (histories left : List JobHistory)
     (rows : List (List Datum)) → HasCome work (first_progress work) c.histories c.progress
     → IsEnded work c goal passed stores histories rows → why ≡ OutOfMemory → left ≡ histories
-    → Stops work k why left
-stops_ended work c goal k why passed stores histories left rows come ended none all =
-    subst (λ w. Stops work k w left) (sym none)
-    (ended_short work c.progress c.histories left ended.history goal come ended.is
-    (all ∙ ended.all))
+    → Stops work c why left
+stops_ended work c goal why passed stores histories left rows come ended none all =
+    subst (λ w. Stops work c w left) (sym none) (
+      (ended.history ∷ [], all ∙ ended.all),
+      ended_short work c.progress c.histories left ended.history goal come ended.is
+          (done_unaborted ended.history.end ended.done) (all ∙ ended.all),
+    )
 
 -- ---- contexts that go on
 
@@ -104,6 +128,27 @@ goes_on c d e h k =
 
 pub stays : (c : ContextData) → GoesOn c c
 stays c = record { actions = refl; more = []; all = sym (append-nil c.histories) }
+
+-- what stands behind more jobs stands behind these too
+stand_behind : (c d : ContextData) (histories : List JobHistory) → GoesOn c d
+    → StandBehind d histories → StandBehind c histories
+stand_behind c d histories on (more, all) = (
+  on.more ++ more,
+  all ∙ ap (λ hs. hs ++ more) on.all ∙ append_assoc c.histories on.more more,
+)
+
+-- and what stops there stops here
+pub stops_behind : (work : WorkData) (c d : ContextData) (why : OrMemory Abort)
+    (histories : List JobHistory) → GoesOn c d → Stops work d why histories
+    → Stops work c why histories
+stops_behind work c d (Fault abort) histories on (stand, shows) = (
+  stand_behind c d histories on stand,
+  subst (λ k. IsAborted work k histories abort) on.actions shows,
+)
+stops_behind work c d OutOfMemory histories on (stand, shows) = (
+  stand_behind c d histories on stand,
+  subst (λ k. IsCutShort work k histories) on.actions shows,
+)
 
 -- what the next action gave it gave behind fewer jobs too
 pub gives_behind : (work : WorkData) (c d after : ContextData) (value : Evaluated) → GoesOn c d

@@ -17,7 +17,7 @@ use Rattle.sc_core.specs.declared.journals.JobHistory.{JobHistory}
 use Rattle.sc_jobs.specs.JobData.{IsGoal, JobData, goal_node, job_data}
 use Rattle.sc_jobs.specs.declared.goals.Goal.{Goal}
 use Rattle.sc_store.specs.StoreData.{StoreData}
-use Rattle.sc_desk.specs.Begins.{FitsRun, IsPassedFor}
+use Rattle.sc_desk.specs.Begins.{FitsLast, FitsRun, IsPassedFor}
 use Rattle.sc_desk.specs.DeskData.{DeskData, PassedData}
 use Rattle.sc_desk.specs.Sound.{AreEvident}
 use Rattle.sc_task.specs.Attempts.{AttemptData}
@@ -104,20 +104,23 @@ ended_is work c goal h passed stores histories rows went all done ready rows_are
     }
 
 -- one that has no rows
-pub stops_job : AreCauses → (work : WorkData) → IsSoundWork work → (p : Progress) (goal : Goal)
-    (h : JobHistory) (before histories : List JobHistory) → IsHistory work p goal h
-    → IsSoundCore h.end → FitsRun work h.end → HasCome work (first_progress work) before p
-    → histories ≡ before ++ h ∷ [] → p.actions < length work.script.actions
-    → IsCarriedFor work.script.nodes p.carried
-    → IsGoal work goal → (why : OrMemory Abort) → HasNoRows h.end why
-    → Stops work p.actions why histories
-stops_job causes work sound p goal h before histories is core fits come all within carried known
-    (Fault abort) e =
-    is_aborted causes work sound p goal h is core fits histories before abort come all within
-    carried known e
-stops_job causes work sound p goal h before histories is core fits come all within carried known
+pub stops_job : AreCauses → (work : WorkData) → IsSoundWork work → (c : ContextData) (goal : Goal)
+    (h : JobHistory) (histories : List JobHistory) → IsHistory work c.progress goal h
+    → IsSoundCore h.end → FitsRun work h.end
+    → HasCome work (first_progress work) c.histories c.progress
+    → histories ≡ c.histories ++ h ∷ [] → c.progress.actions < length work.script.actions
+    → IsCarriedFor work.script.nodes c.progress.carried → IsGoal work goal
+    → FitsLast work c.progress.last → (why : OrMemory Abort) → HasNoRows h.end why
+    → Stops work c why histories
+stops_job causes work sound c goal h histories is core fits come all within carried known last
+    (Fault abort) e = (
+      (h ∷ [], all),
+      is_aborted causes work sound c.progress goal h is core fits histories c.histories abort come
+          all within carried known last e,
+    )
+stops_job causes work sound c goal h histories is core fits come all within carried known last
     OutOfMemory e =
-    ended_short work p before histories h goal come is all
+    ((h ∷ [], all), ended_short work c.progress c.histories histories h goal come is e all)
 
 -- ---- the context behind a job
 

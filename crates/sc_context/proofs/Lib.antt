@@ -2,6 +2,8 @@ pub mod ReadyLemmas
 pub mod StartLemmas
 pub mod ChainLemmas
 pub mod ResultLemmas
+pub mod WholeLemmas
+pub mod CalmLemmas
 pub mod AbortLemmas
 pub mod BoundLemmas
 pub mod JobLemmas

@@ -103,7 +103,7 @@ sized_trust t stage = by stage.target
     by (targets.Map shuffle) = more shuffle (has_room t shuffle)
     by (targets.Result node) = refl
 
-sized_all_trust : (t : TrackerData) (graph : List StageData)
+pub sized_all_trust : (t : TrackerData) (graph : List StageData)
     → (sized_for_all t graph).trust ≡ t.trust
 sized_all_trust t [] = refl
 sized_all_trust t (stage ∷ graph) =
@@ -125,7 +125,7 @@ submitted_tracker : (d after : DagData) (submitted : ℕ → Bool) → IsSubmitt
     → after.tracker ≡ d.tracker
 submitted_tracker d after submitted (looked, are, is) = ap (λ (x : DagData). x.tracker) is
 
-opened_tracker : (graph : List StageData) (limits : Limits) (saved : ℕ) (plan : List PlanLine)
+pub opened_tracker : (graph : List StageData) (limits : Limits) (saved : ℕ) (plan : List PlanLine)
     (last : Option CoreData) (c : CoreData) → IsOpening graph limits saved plan last c
     → c.dag.tracker ≡ sized_for_all (tracker_behind last limits) graph
 opened_tracker graph limits saved plan last c opening =

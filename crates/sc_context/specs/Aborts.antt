@@ -32,11 +32,11 @@ ShowsAbort work h is NoExecutor =
 ShowsAbort work h is Budget = ShowsBudget work.limits h.entries.items
 
 -- What an abort for an action means where the plan has no line: failures of a task are raises, so
--- the action never has an outcome, and no executor is lost.
+-- the action never has an outcome, and no input is ever missed and no executor lost.
 abbrev pub IsUnplanned : WorkData → ℕ → Abort → Type 0
 IsUnplanned work k (TaskLimit stage number partition) =
     action_outcome work (goal_action work (goals.Action k)) ≡ never
-IsUnplanned work k (StageLimit stage) = Unit {0}
+IsUnplanned work k (StageLimit stage) = ⊥
 IsUnplanned work k NoExecutor = ⊥
 IsUnplanned work k Budget = Unit {0}
 

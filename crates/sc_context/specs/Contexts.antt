@@ -88,7 +88,14 @@ pub record GivesNext (work : WorkData) (c : ContextData) (value : Evaluated) (af
   pub more : List JobHistory
   pub all : after.histories ≡ c.histories ++ more
 
--- it gave none: a job for it was aborted, or memory ran out
-abbrev pub Stops : WorkData → ℕ → OrMemory Abort → List JobHistory → Type 0
-Stops work k (Fault abort) histories = IsAborted work k histories abort
-Stops work k OutOfMemory histories = IsCutShort work histories
+-- the histories so far stand, perhaps with more behind them
+abbrev pub StandBehind : ContextData → List JobHistory → Type 0
+StandBehind c histories = (more : List JobHistory) × (histories ≡ c.histories ++ more)
+
+-- The next action gave no value, and the histories show why: a job for it was aborted, or memory
+-- ran out.
+abbrev pub Stops : WorkData → ContextData → OrMemory Abort → List JobHistory → Type 0
+Stops work c (Fault abort) histories =
+    StandBehind c histories × IsAborted work c.progress.actions histories abort
+Stops work c OutOfMemory histories =
+    StandBehind c histories × IsCutShort work c.progress.actions histories

@@ -1,5 +1,5 @@
 -- How the jobs of a run went, one behind the other.
-use Rattle.std.specs.Prelude.{ℕ, ◌-◌, ◌≡◌, ◌⊎◌, List, [], ◌∷◌, ◌++◌, Option, length, slice_get}
+use Rattle.std.specs.Prelude.{ℕ, ◌-◌, ◌≡◌, ◌≢◌, ◌⊎◌, List, [], ◌∷◌, ◌++◌, Option, length, slice_get}
 use Rattle.std.specs.Option.{option_map}
 use Rattle.sc_ids.specs.Graphs.{StageData}
 use Rattle.sc_lineage.specs.ScriptData.{WorkData}
@@ -8,7 +8,8 @@ use Rattle.sc_core.specs.CoreData.{CoreData}
 use Rattle.sc_core.specs.Journals.{Replays}
 use Rattle.sc_core.specs.Openings.{IsOpening}
 use Rattle.sc_core.specs.Sound.{IsSoundCore}
-use Rattle.sc_core.specs.declared.answers.Job.TheVariants.{Done}
+use Rattle.sc_core.specs.declared.answers.Abort.{Abort}
+use Rattle.sc_core.specs.declared.answers.Job.TheVariants as jobs
 use Rattle.sc_core.specs.declared.journals.JobHistory.{JobHistory}
 use Rattle.sc_jobs.specs.JobData.{goal_node, job_data}
 use Rattle.sc_jobs.specs.declared.goals.Goal.{Goal}
@@ -32,7 +33,7 @@ pub record IsDone (work : WorkData) (p : Progress) (h : JobHistory) (after : Pro
     : Type 0 where
   pub goal : Goal
   pub is : IsHistory work p goal h
-  pub done : h.end.job ≡ Done
+  pub done : h.end.job ≡ jobs.Done
   pub behind : after ≡ behind_job work p goal is.graph h.end
 
 -- some jobs were done, one behind the other, and lead from here to there
@@ -54,11 +55,16 @@ pub record HasGone (work : WorkData) (histories : List JobHistory) (p : Progress
   pub come : HasCome work (first_progress work) before p
   pub is : IsHistory work p goal h
 
--- some jobs were done, and perhaps one more went somehow
-abbrev pub IsCutShort : WorkData → List JobHistory → Type 0
-IsCutShort work histories =
-    (p : Progress) × (HasCome work (first_progress work) histories p
-    ⊎ ((goal : Goal) × (h : JobHistory) × HasGone work histories p goal h))
+-- the job of a core was not aborted
+abbrev pub IsUnaborted : CoreData → Type 0
+IsUnaborted end = (abort : Abort) → end.job ≢ jobs.Aborted abort
+
+-- So many actions had their value when memory ran out: the jobs of these are done, and perhaps one
+-- more went somehow, which was not aborted.
+abbrev pub IsCutShort : WorkData → ℕ → List JobHistory → Type 0
+IsCutShort work k histories =
+    (p : Progress) × (p.actions ≡ k) × (HasCome work (first_progress work) histories p
+    ⊎ ((goal : Goal) × (h : JobHistory) × HasGone work histories p goal h × IsUnaborted h.end))
 
 -- the core that the last of some jobs left, where there is one
 abbrev pub last_end : List JobHistory → Option CoreData

@@ -16,6 +16,7 @@ use Rattle.sc_desk.specs.Begins.{Begins}
 use Rattle.sc_desk.specs.DeskData.{DeskData, PassedData}
 use Rattle.sc_world.specs.Runs.{idle_world}
 use Rattle.sc_world.specs.WorldData.{WorldData}
+use Rattle.sc_context.specs.Histories.{IsUnaborted}
 
 -- the world of a job that begins behind what goes on and another job or none, over these stores
 pub record HasBegunFor (work : WorkData) (passed : PassedData) (stores : List StoreData)
@@ -37,4 +38,4 @@ pub record AreRowsOf (work : WorkData) (goal : Goal) (end : CoreData) (rows : Li
 -- it has none, since it was aborted or memory ran out
 abbrev pub HasNoRows : CoreData → OrMemory Abort → Type 0
 HasNoRows end (Fault abort) = end.job ≡ jobs.Aborted abort
-HasNoRows end OutOfMemory = Unit {0}
+HasNoRows end OutOfMemory = IsUnaborted end

@@ -37,8 +37,7 @@ impl<W: Naming> Context<W> {
     pub fn run_action(self, alloc: Global) -> Result<Given<W>, Stopped>
         requires within { self.progress.actions < length W.work.script.actions }
         ensures given { IfOk result (λ g. GivesNext W.work self g.value g.context) }
-        ensures stops { IfErr result (λ s. Stops W.work self.progress.actions s.why
-            s.histories.items) }
+        ensures stops { IfErr result (λ s. Stops W.work self s.why s.histories.items) }
     {
         let context = self.find_all_bounds(alloc)?;
         context.run_own_job(alloc)
@@ -50,8 +49,7 @@ impl<W: Naming> Context<W> {
         requires found { HasBounds W.work.script.nodes self.progress.carried
             (next_node W.work self.progress) }
         ensures given { IfOk result (λ g. GivesNext W.work self g.value g.context) }
-        ensures stops { IfErr result (λ s. Stops W.work self.progress.actions s.why
-            s.histories.items) }
+        ensures stops { IfErr result (λ s. Stops W.work self s.why s.histories.items) }
     {
         self.is_sound();
         let number = self.actions;

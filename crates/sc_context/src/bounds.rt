@@ -29,8 +29,7 @@ impl<W: Naming> Context<W> {
     pub(crate) fn find_all_bounds(self, alloc: Global) -> Result<Context<W>, Stopped>
         requires within { self.progress.actions < length W.work.script.actions }
         ensures finds { IfOk result (FindsAll W.work self) }
-        ensures stops { IfErr result (λ s. Stops W.work self.progress.actions s.why
-            s.histories.items) }
+        ensures stops { IfErr result (λ s. Stops W.work self s.why s.histories.items) }
     {
         let mut context = self;
         loop {
@@ -64,8 +63,7 @@ impl<W: Naming> Context<W> {
         requires next { IsFirstLacking W.work.script.nodes self.progress.carried
             (next_node W.work self.progress) (Some sort) }
         ensures finds { IfOk result (Finds W.work self sort) }
-        ensures stops { IfErr result (λ s. Stops W.work self.progress.actions s.why
-            s.histories.items) }
+        ensures stops { IfErr result (λ s. Stops W.work self s.why s.histories.items) }
     {
         self.is_sound();
         let ended = self.run_job(alloc, Goal::Bounds { sort })?;

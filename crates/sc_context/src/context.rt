@@ -5,6 +5,7 @@ ghost use Rattle.std.specs.Prelude.{◌≡◌, ◌≤◌, IfOk, length};
 ghost use Rattle.sc_context.specs.Contexts.{new_context};
 ghost use Rattle.sc_context.specs.Histories.{HasCome};
 ghost use Rattle.sc_context.specs.Progress.{first_progress};
+ghost use Rattle.sc_desk.specs.Begins.{FitsLast};
 ghost use Rattle.sc_stagecut.specs.Carrying.{IsCarriedFor};
 
 use crate::starts::new_stores;
@@ -71,13 +72,14 @@ impl<W: Naming> Context<W> {
 
     /// What every context keeps: its jobs were done one behind the other, there are no more values
     /// than actions, and what is carried serves the next job, with a place for the bounds of each
-    /// node.
+    /// node; and so does what the last job left.
     pub fn is_sound(&self)
         ensures come { HasCome W.work (first_progress W.work) self.now.histories
             self.now.progress }
         ensures within { self.now.progress.actions ≤ length W.work.script.actions }
         ensures serves { IsCarriedFor W.work.script.nodes self.now.progress.carried }
         ensures places { length self.now.progress.carried.bounds ≡ length W.work.script.nodes }
+        ensures fits { FitsLast W.work self.now.progress.last }
     {
         let _ = &self.histories;
     }

@@ -13,7 +13,7 @@ use crate::context::Context;
 use crate::lasts::last_end;
 use crate::stops::Stopped;
 use crate::went::{Went, run_world};
-use sc_causes::{planned_losses_alone, raises_leave_no_value};
+use sc_causes::{missing_inputs_were_lost, planned_losses_alone, raises_leave_no_value};
 use sc_columns::Rows;
 use sc_core::{Core, JobHistory};
 use sc_desk::{Desk, Passed};
@@ -43,11 +43,11 @@ impl<W: Naming> Context<W> {
         ensures ended { IfOk result (λ e. IsEnded W.work self goal e.passed e.stores.items
             e.histories.items e.rows.items) }
         ensures actions { IfOk result (λ e. e.actions ≡ self.progress.actions) }
-        ensures stops { IfErr result (λ s. Stops W.work self.progress.actions s.why
-            s.histories.items) }
+        ensures stops { IfErr result (λ s. Stops W.work self s.why s.histories.items) }
     {
         raises_leave_no_value();
         planned_losses_alone();
+        missing_inputs_were_lost();
         self.is_sound();
         self.work.is_named();
         self.work.get().is_sound();

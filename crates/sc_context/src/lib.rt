@@ -26,4 +26,5 @@ mod went;
 
 pub use actions::Given;
 pub use context::Context;
+pub use starts::new_stores;
 pub use stops::Stopped;

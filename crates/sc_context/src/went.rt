@@ -1,11 +1,10 @@
 //! A job that goes to its end.
 #![tactic(auto)]
 
-ghost use Rattle.std.specs.Prelude.{◌≡◌, IfErr, IfOk, Some, false, map};
+ghost use Rattle.std.specs.Prelude.{◌≡◌, IfErr, IfOk, Some, map};
 ghost use Rattle.sc_context.specs.Contexts.{AreReadyBehind};
 ghost use Rattle.sc_context.specs.Jobs.{AreRowsOf, HasNoRows};
 ghost use Rattle.sc_context.specs.Results.{AreThere};
-ghost use Rattle.sc_core.specs.CoreData.{job_runs};
 ghost use Rattle.sc_core.specs.Journals.{Replays};
 ghost use Rattle.sc_core.specs.declared.answers.Job.TheVariants.{Done};
 ghost use Rattle.sc_desk.specs.Begins.{FitsLast, IsPassedFor};
@@ -51,7 +50,7 @@ pub(crate) fn run_world<W: Naming>(alloc: Global, world: World<W>) -> Went<W>
     ensures none { IfErr result.rows (HasNoRows result.history.end) }
 {
     let mut world = world;
-    let ran = world.serial(alloc);
+    let _ = world.serial(alloc);
     laws_of_jobs();
     world.desk().is_sound();
     world.desk().job().is_job();
@@ -62,10 +61,7 @@ pub(crate) fn run_world<W: Naming>(alloc: Global, world: World<W>) -> Went<W>
         passed,
         ..
     } = closed;
-    let rows = match ran {
-        Ok(()) => rows_of(alloc, &history.end, results.as_slice()),
-        Err(_) => Err(OrMemory::OutOfMemory),
-    };
+    let rows = rows_of(alloc, &history.end, results.as_slice());
     Went {
         history,
         passed,
@@ -74,13 +70,12 @@ pub(crate) fn run_world<W: Naming>(alloc: Global, world: World<W>) -> Went<W>
     }
 }
 
-/// The rows of the results of a job that has ended, or why there are none.
+/// The rows of the results of a job, or why there are none: where it runs on, memory ran out.
 fn rows_of(
     alloc: Global,
     end: &Core,
     results: &[Option<Rows>],
 ) -> Result<Vec<Rows>, OrMemory<Abort>>
-    requires ended { job_runs end.now ≡ false }
     requires whole { end.now.job ≡ Done → AreThere results.now }
     ensures rows { IfOk result (λ rows. results.now ≡ map Some rows.items) }
     ensures done { IfOk result (λ rows. end.now.job ≡ Done) }
@@ -89,6 +84,6 @@ fn rows_of(
     match end.job() {
         Job::Done => Ok(all_rows(alloc, results)?),
         Job::Aborted(abort) => Err(OrMemory::Fault(abort)),
-        Job::Running => unreachable!(),
+        Job::Running => Err(OrMemory::OutOfMemory),
     }
 }

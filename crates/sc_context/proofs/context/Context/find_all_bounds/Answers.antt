@@ -1,10 +1,12 @@
 use Rattle.std.proofs.Common.{◌<◌, None, length, arith, subst, sym}
 use Rattle.std.specs.List.{slice_get}
+use Rattle.std.proofs.lemmas.Result.{err_from_is_err_and}
 use Rattle.sc_base.specs.Lists.{at_or}
 use Rattle.sc_compute.specs.Stages.{bounds_at}
 use Rattle.sc_stagecut.specs.Carrying.{IsFirstLacking}
 use Rattle.sc_context.specs.Progress.{next_node}
 use Rattle.sc_context.proofs.BoundLemmas.{fewer_left, lacks_none, lacks_within, places_left}
+use Rattle.sc_context.proofs.ChainLemmas.{stops_behind, stops_short}
 use Rattle.sc_context.proofs.context.Context.find_all_bounds.Goals as goal
 
 pub loop-sort-smaller : goal.loop-sort-smaller
@@ -22,3 +24,20 @@ loop-sort-smaller g c =
     (fewer_left p.carried.bounds sort (bounds_at work sort) within
     (lacks_none (slice_get work.script.nodes sort) (at_or p.carried.bounds sort None)
     first.0.unbounded))
+
+pub returns-in_err-context-in-Ok-Some-clause-stops :
+    goal.returns-in_err-context-in-Ok-Some-clause-stops
+returns-in_err-context-in-Ok-Some-clause-stops g c =
+    let p = err_from_is_err_and c.from_residual.result c.from_residual.ensures.1 in
+    let stopped = c.in_err-context-in-Ok-Some.field-0.0 in
+    rw (p.1, p.2)
+    (stops_behind g.W.Naming.work c.args.self c.loop-sort.context stopped.why
+    stopped.histories.items c.loop-sort.invariant c.in_err-context-in-Ok-Some.ensures.stops)
+
+pub returns-in-Err-clause-stops : goal.returns-in-Err-clause-stops
+returns-in-Err-clause-stops g c =
+    let left = c.without_memory.result in
+    stops_behind g.W.Naming.work c.args.self c.loop-sort.context left.why left.histories.items
+    c.loop-sort.invariant
+    (stops_short g.W.Naming.work c.loop-sort.context left.why left.histories.items
+    c.is_sound.ensures.come c.without_memory.ensures.why c.without_memory.ensures.histories)

@@ -19,7 +19,7 @@ bounds-requires-clause-sort g c =
 pub returns-in_default-clause-stops : goal.returns-in_default-clause-stops
 returns-in_default-clause-stops g c =
     let e = c.in_ok-ended.ended in
-    stops_ended g.W.Naming.work c.args.self (goals.Bounds c.args.sort) c.args.self.progress.actions
+    stops_ended g.W.Naming.work c.args.self (goals.Bounds c.args.sort)
     c.without_memory.result.why e.passed e.stores.items e.histories.items
     c.without_memory.result.histories.items e.rows.items c.is_sound.ensures.come
     c.in_ok-ended.ensures.ended c.without_memory.ensures.why c.without_memory.ensures.histories

@@ -1,6 +1,6 @@
-use Rattle.std.proofs.lemmas.Result.{IfOk-weaker}
-use Rattle.sc_context.specs.Contexts.{GivesNext}
-use Rattle.sc_context.proofs.ChainLemmas.{gives_behind}
+use Rattle.std.proofs.lemmas.Result.{IfErr-weaker, IfOk-weaker}
+use Rattle.sc_context.specs.Contexts.{GivesNext, Stops}
+use Rattle.sc_context.proofs.ChainLemmas.{gives_behind, stops_behind}
 use Rattle.sc_context.proofs.context.Context.run_action.Goals as goal
 
 pub returns-clause-given : goal.returns-clause-given
@@ -12,3 +12,13 @@ returns-clause-given g c =
     (λ x h. gives_behind work c.args.self c.in_ok-context.context x.context x.value
     c.in_ok-context.ensures.finds.on h)
     c.run_own_job.ensures.given
+
+pub returns-clause-stops : goal.returns-clause-stops
+returns-clause-stops g c =
+    let work = g.W.Naming.work in
+    IfErr-weaker c.run_own_job.result
+    (λ x. Stops work c.in_ok-context.context x.why x.histories.items)
+    (λ x. Stops work c.args.self x.why x.histories.items)
+    (λ x h. stops_behind work c.args.self c.in_ok-context.context x.why x.histories.items
+    c.in_ok-context.ensures.finds.on h)
+    c.run_own_job.ensures.stops

@@ -80,9 +80,10 @@ returns-in-Err-clause-stops g c =
       raises = c.raises_leave_no_value.ensures;
       losses = c.planned_losses_alone.ensures.planned;
       empty = c.planned_losses_alone.ensures.empty;
-    }) work sound p c.args.goal h c.args.self.histories c.push_reserved.new.self.items went.is
+      missing = c.missing_inputs_were_lost.ensures;
+    }) work sound c.args.self c.args.goal h c.push_reserved.new.self.items went.is
     c.is_sound-4.ensures c.run_world-history.ensures.fits c.is_sound.ensures.come all
     c.requires.within c.is_sound.ensures.serves
     (next_known work p c.args.goal sound.script c.requires.within c.requires.next).0
-    c.in-Err.why
+    c.is_sound.ensures.fits c.in-Err.why
     (subst (λ r. IfErr r (HasNoRows h.end)) c.in-Err.is c.run_world-history.ensures.none)

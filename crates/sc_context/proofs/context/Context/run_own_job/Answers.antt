@@ -11,7 +11,7 @@ returns-in_default-value-clause-stops g c =
     let e = c.in_ok-ended.ended in
     let left = c.without_memory-in_default-value in
     stops_ended g.W.Naming.work c.args.self (goals.Action c.self.inside.actions)
-    c.args.self.progress.actions left.result.why e.passed e.stores.items e.histories.items
+    left.result.why e.passed e.stores.items e.histories.items
     left.result.histories.items e.rows.items c.is_sound.ensures.come c.in_ok-ended.ensures.ended
     left.ensures.why left.ensures.histories
 
