@@ -4,6 +4,7 @@ use Rattle.std.specs.Prelude.{Ok, Err}
 use Rattle.sc_base.specs.Outside.{Files, SourceState, SinkState, HasAsked, IsLaterSource, IsQuietSource, outside_of}
 use Rattle.sc_base.specs.declared.refusals.OrMemory.{OrMemory}
 use Rattle.sc_base.specs.declared.refusals.OrMemory.TheVariants as refusals
+use Rattle.sc_core.specs.declared.journals.JobHistory.{JobHistory}
 use Rattle.sc_lineage.specs.ScriptData.{ScriptData}
 use Rattle.sc_plan.specs.declared.lines.PlanLine.{PlanLine}
 use Rattle.sc_plan.specs.declared.plans.Plan.{Plan}
@@ -83,7 +84,8 @@ begun word (Some name) executors before mid after first reads bytes script plan 
     }
 
 module _ (words : List (List ℕ)) (command : Command)
-    (is_command : command_of words ≡ Some command) where
+    (is_command : command_of words ≡ Some command) (history : List JobHistory)
+    (none_ran : history ≡ []) where
   abbrev name : List ℕ
   name = command.script
 
@@ -93,10 +95,10 @@ module _ (words : List (List ℕ)) (command : Command)
   -- the reading of the script stops the run
   pub script-stops : (before after : SourceState) (sink : SinkState) (reads : List Read)
       (stop : OrMemory ScriptStop) → TakesAsScript before after name [] reads (Err stop)
-      → IsRun (run_of words reads (outside_of before sink) (outside_of after sink))
+      → IsRun (run_of words reads history (outside_of before sink) (outside_of after sink))
       (status_of_script name stop)
   script-stops before after sink reads (refusals.Fault (script_stops.Faulty fault)) x =
-      let run = run_of words reads (outside_of before sink) (outside_of after sink) in
+      let run = run_of words reads history (outside_of before sink) (outside_of after sink) in
       record {
         reads = inr (record {
           command = command;
@@ -116,12 +118,13 @@ module _ (words : List (List ℕ)) (command : Command)
           faults = x.2;
           quiet = x.1.file.quiet;
           nothing_written = refl;
+          nothing_ran = none_ran;
         };
         usage = usage-none (statuses.Script fault) words command is_command
             (λ e. cc);
       }
   script-stops before after sink reads (refusals.Fault (script_stops.Unreadable why)) x =
-      let run = run_of words reads (outside_of before sink) (outside_of after sink) in
+      let run = run_of words reads history (outside_of before sink) (outside_of after sink) in
       let status = statuses.Input name (is_missing why) in
       record {
         reads = inl x.0;
@@ -131,11 +134,12 @@ module _ (words : List (List ℕ)) (command : Command)
           is_next = inl (x.0, (command, is_command, refl));
           cause = told_cause before after name why x.1.cause;
           nothing_written = refl;
+          nothing_ran = none_ran;
         };
         usage = usage-none status words command is_command (λ e. cc);
       }
   script-stops before after sink reads refusals.OutOfMemory (inl x) =
-      let run = run_of words reads (outside_of before sink) (outside_of after sink) in
+      let run = run_of words reads history (outside_of before sink) (outside_of after sink) in
       record {
         reads = inl x.0;
         asked = asks words command is_command run statuses.OutOfMemory [] refl
@@ -144,13 +148,13 @@ module _ (words : List (List ℕ)) (command : Command)
         ends = record {
           quiet = subst (λ s. IsQuietSource before s) (sym x.1)
               (record { faults = refl; misses = refl });
-          stands = inl refl;
+          stands = inl (refl, none_ran);
         };
         usage = usage-none statuses.OutOfMemory words command is_command
             (λ e. cc);
       }
   script-stops before after sink reads refusals.OutOfMemory (inr x) =
-      let run = run_of words reads (outside_of before sink) (outside_of after sink) in
+      let run = run_of words reads history (outside_of before sink) (outside_of after sink) in
       record {
         reads = inr (record {
           command = command;
@@ -164,7 +168,7 @@ module _ (words : List (List ℕ)) (command : Command)
         asked = asks words command is_command run statuses.OutOfMemory (name ∷ []) refl
             x.1.file.asked
             (ap (λ rs. names_of_reads name plan_name rs ++ []) (sym x.1.kept));
-        ends = record { quiet = x.1.file.quiet; stands = inl refl };
+        ends = record { quiet = x.1.file.quiet; stands = inl (refl, none_ran) };
         usage = usage-none statuses.OutOfMemory words command is_command
             (λ e. cc);
       }

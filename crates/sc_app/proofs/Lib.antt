@@ -1,3 +1,4 @@
+pub mod AbortLemmas
 pub mod AskedLemmas
 pub mod BegunLemmas
 pub mod ExactlyLemmas

@@ -1,15 +1,19 @@
 -- How a run ends behind its script and its plan, from how its parts did, or before them.
-use Rattle.std.proofs.Common.{append_assoc, ◌≡◌, ◌∙◌, ℕ, List, [], ◌∷◌, ◌++◌, map, subst, sym, ap, refl, Option, Some, None, inl, inr}
+use Rattle.std.proofs.Common.{append_assoc, ◌≡◌, ◌∙◌, ℕ, List, [], ◌∷◌, ◌++◌, length, map, subst, sym, ap, refl, Option, Some, None, inl, inr}
 use Rattle.std.specs.Prelude.{Err}
 use Rattle.std.specs.Option.{option_map}
 use Rattle.std.proofs.lemmas.List.{append-nil}
 use Rattle.sc_base.specs.Outside.{Files, SourceState, SinkState, HasAsked, IsQuietSource, outside_of}
 use Rattle.sc_base.specs.declared.refusals.OrMemory.{OrMemory}
 use Rattle.sc_base.specs.declared.refusals.OrMemory.TheVariants as refusals
+use Rattle.sc_context.specs.Histories.{HasDone}
+use Rattle.sc_core.specs.declared.answers.Abort.{Abort}
+use Rattle.sc_core.specs.declared.answers.Abort.TheVariants as aborts
+use Rattle.sc_core.specs.declared.journals.JobHistory.{JobHistory}
 use Rattle.sc_lineage.specs.ScriptData.{ScriptData, WorkData, IsSoundWork, name_of_input}
 use Rattle.sc_plan.specs.declared.lines.PlanLine.{PlanLine}
-use Rattle.sc_print.specs.declared.printing.PrintFault.{PrintFault}
-use Rattle.sc_print.specs.declared.printing.PrintFault.TheVariants as print_faults
+use Rattle.sc_print.specs.declared.faults.PrintFault.{PrintFault}
+use Rattle.sc_print.specs.declared.faults.PrintFault.TheVariants as print_faults
 use Rattle.sc_print.specs.Printing.{Prints, PrintsAll}
 use Rattle.sc_read.specs.declared.reads.Read.{Read}
 use Rattle.sc_read.specs.declared.stops.InputStop.{InputStop}
@@ -19,9 +23,9 @@ use Rattle.sc_read.specs.Reads.{AreFirstInputs, input_read, names_of_reads, read
 use Rattle.sc_read.proofs.ReadLemmas.{asked-more, quiet-more, unreadable-since}
 use Rattle.sc_app.specs.declared.ran.Status.{Status}
 use Rattle.sc_app.specs.declared.ran.Status.TheVariants as statuses
-use Rattle.sc_app.specs.Ends.{Ends, IsRun}
+use Rattle.sc_app.specs.Ends.{Ends, EndsForAbort, IsRun}
 use Rattle.sc_app.specs.Runs.{RunData, AreReads, AsksOnce, HasRead, HasReadWork, name_missed, run_of}
-use Rattle.sc_app.specs.Statuses.{is_missing, status_of_input, status_of_print}
+use Rattle.sc_app.specs.Statuses.{is_missing, status_of_abort, status_of_input, status_of_print}
 use Rattle.sc_words.specs.Words.{AreTaken, command_of}
 use Rattle.sc_words.specs.declared.commands.Command.{Command}
 use Rattle.sc_app.proofs.PieceLemmas.{text-printed}
@@ -113,13 +117,14 @@ module _ (words : List (List ℕ)) (command : Command)
           (sym none)
 
       -- the reading of the inputs stops the run
-      pub inputs-stop : (after : SourceState) (sink : SinkState) (more : List Read)
-          (stop : OrMemory InputStop)
+      pub inputs-stop : (history : List JobHistory) → history ≡ [] → (after : SourceState)
+          (sink : SinkState) (more : List Read) (stop : OrMemory InputStop)
           → TakesAsWork script plan command.limits before after reads more (Err stop)
-          → IsRun (run_of words more (outside_of start sink) (outside_of after sink))
+          → IsRun (run_of words more history (outside_of start sink) (outside_of after sink))
           (status_of_input stop)
-      inputs-stop after sink more (refusals.Fault (inputs_stops.Unreadable n why)) x =
-          let run = run_of words more (outside_of start sink) (outside_of after sink) in
+      inputs-stop history none_ran after sink more
+          (refusals.Fault (inputs_stops.Unreadable n why)) x =
+          let run = run_of words more history (outside_of start sink) (outside_of after sink) in
           let status = statuses.Input n (is_missing why) in
           record {
             reads = in_order run x.inputs refl refl x.kept x.first;
@@ -136,11 +141,12 @@ module _ (words : List (List ℕ)) (command : Command)
                   (unreadable-since script start reads before after n why began.later began.quiet
                   x.cause);
               nothing_written = refl;
+              nothing_ran = none_ran;
             };
             usage = usage-none status words command is_command (λ e. cc);
           }
-      inputs-stop after sink more (refusals.Fault (inputs_stops.NotText n)) x =
-          let run = run_of words more (outside_of start sink) (outside_of after sink) in
+      inputs-stop history none_ran after sink more (refusals.Fault (inputs_stops.NotText n)) x =
+          let run = run_of words more history (outside_of start sink) (outside_of after sink) in
           let inputs = x.inputs ++ (n, x.bytes) ∷ [] in
           record {
             reads = in_order run inputs refl refl x.taken.kept x.taken.first;
@@ -156,18 +162,19 @@ module _ (words : List (List ℕ)) (command : Command)
               no_text = x.no_text;
               quiet = quiet-more start before after began.quiet x.taken.quiet;
               nothing_written = refl;
+              nothing_ran = none_ran;
             };
             usage = usage-none (statuses.NotText n) words command is_command
                 (λ e. cc);
           }
-      inputs-stop after sink more refusals.OutOfMemory x =
-          let run = run_of words more (outside_of start sink) (outside_of after sink) in
+      inputs-stop history none_ran after sink more refusals.OutOfMemory x =
+          let run = run_of words more history (outside_of start sink) (outside_of after sink) in
           record {
             reads = in_order run x.0 refl refl x.1.kept x.1.first;
             asked = asked-all run statuses.OutOfMemory x.0 refl refl x.1.kept x.1.asked refl;
             ends = record {
               quiet = quiet-more start before after began.quiet x.1.quiet;
-              stands = inl refl;
+              stands = inl (refl, none_ran);
             };
             usage = usage-none statuses.OutOfMemory words command is_command
                 (λ e. cc);
@@ -191,60 +198,86 @@ module _ (words : List (List ℕ)) (command : Command)
         quiet : IsQuietSource start after
         quiet = quiet-more start before after began.quiet inputs.quiet
 
-        -- a run that read all, with what its end says
-        all_read : (sink sink' : SinkState) (status : Status) → name_missed status ≡ []
-            → (status ≡ statuses.Usage → ⊥)
-            → Ends (run_of words more (outside_of start sink) (outside_of after sink')) status
-            → IsRun (run_of words more (outside_of start sink) (outside_of after sink')) status
-        all_read sink sink' status none other ends =
-            let run = run_of words more (outside_of start sink) (outside_of after sink') in
-            record {
-              reads = in_order run work.inputs refl refl inputs.kept inputs.first;
-              asked = asked-all run status work.inputs refl refl inputs.kept inputs.asked none;
-              ends = ends;
-              usage = usage-none status words command is_command other;
-            }
+        -- a run that read all, with how its jobs went and with what its end says
+        module _ (histories : List JobHistory) (sink sink' : SinkState) where
+          abbrev ran : RunData
+          ran = run_of words more histories (outside_of start sink) (outside_of after sink')
 
-        -- all actions were printed
-        pub run-done : (sink sink' : SinkState) → PrintsAll work sink sink'
-            → IsRun (run_of words more (outside_of start sink) (outside_of after sink'))
-            statuses.Done
-        run-done sink sink' prints =
-            all_read sink sink' statuses.Done refl (λ e. cc) (record {
-              work = work;
-              read = has_work;
-              quiet = quiet;
-              prints = prints;
-              text = text-printed work sink sink' prints;
-            })
+          all_read : (status : Status) → name_missed status ≡ [] → (status ≡ statuses.Usage → ⊥)
+              → Ends ran status → IsRun ran status
+          all_read status none other ends =
+              record {
+                reads = in_order ran work.inputs refl refl inputs.kept inputs.first;
+                asked = asked-all ran status work.inputs refl refl inputs.kept inputs.asked none;
+                ends = ends;
+                usage = usage-none status words command is_command other;
+              }
 
-        -- the printing stops the run
-        pub printing-stops : (sink sink' : SinkState) (stop : OrMemory PrintFault)
-            → Prints work sink sink' (Err stop)
-            → IsRun (run_of words more (outside_of start sink) (outside_of after sink'))
-            (status_of_print stop)
-        printing-stops sink sink' (refusals.Fault (print_faults.Never k p)) x =
-            all_read sink sink' (statuses.TaskLimit k 0 p) refl (λ e. cc) (record {
-              work = work;
-              read = has_work;
-              quiet = quiet;
-              first_attempt = refl;
-              stops = x;
-            })
-        printing-stops sink sink' (refusals.Fault (print_faults.Driver k fault)) x =
-            all_read sink sink' (statuses.DriverFault k fault) refl (λ e. cc)
-            (record { work = work; read = has_work; quiet = quiet; stops = x })
-        printing-stops sink sink' (refusals.Fault print_faults.Write) x =
-            all_read sink sink' statuses.WriteFault refl (λ e. cc)
-            (record { work = work; read = has_work; quiet = quiet; stops = x })
-        printing-stops sink sink' refusals.OutOfMemory x =
-            all_read sink sink' statuses.OutOfMemory refl (λ e. cc)
-            (record { quiet = quiet; stands = inr (work, has_work, x.0, x.1) })
+          -- all actions were printed
+          pub run-done : PrintsAll work sink sink'
+              → HasDone work histories (length work.script.actions) → IsRun ran statuses.Done
+          run-done prints jobs =
+              all_read statuses.Done refl (λ e. cc) (record {
+                work = work;
+                read = has_work;
+                quiet = quiet;
+                prints = prints;
+                jobs = jobs;
+                text = text-printed work sink sink' prints;
+              })
+
+          -- a job was aborted
+          abort-stops : (abort : Abort) → EndsForAbort ran abort
+              → IsRun ran (status_of_abort abort)
+          abort-stops (aborts.TaskLimit stage attempt partition) ends =
+              all_read (statuses.TaskLimit stage attempt partition) refl (λ e. cc) ends
+          abort-stops (aborts.StageLimit stage) ends =
+              all_read (statuses.StageLimit stage) refl (λ e. cc) ends
+          abort-stops aborts.NoExecutor ends = all_read statuses.NoExecutor refl (λ e. cc) ends
+          abort-stops aborts.Budget ends = all_read statuses.Budget refl (λ e. cc) ends
+
+          -- the printing stops the run
+          pub printing-stops : (stop : OrMemory PrintFault)
+              → Prints work sink sink' (Err stop) histories → IsRun ran (status_of_print stop)
+          printing-stops (refusals.Fault (print_faults.Aborted k abort)) x =
+              abort-stops abort (record {
+                work = work;
+                read = has_work;
+                quiet = quiet;
+                k = k;
+                printed = x.0;
+                aborted = x.1;
+              })
+          printing-stops (refusals.Fault (print_faults.Driver k fault)) x =
+              all_read (statuses.DriverFault k fault) refl (λ e. cc) (record {
+                work = work;
+                read = has_work;
+                quiet = quiet;
+                stops = x.0;
+                jobs = x.1;
+              })
+          printing-stops (refusals.Fault print_faults.Write) x =
+              all_read statuses.WriteFault refl (λ e. cc) (record {
+                work = work;
+                read = has_work;
+                quiet = quiet;
+                stops = x.0;
+                jobs = x.1;
+              })
+          printing-stops refusals.OutOfMemory x =
+              all_read statuses.OutOfMemory refl (λ e. cc) (record {
+                quiet = quiet;
+                stands = inr (record {
+                  work = work;
+                  read = has_work;
+                  stands = x;
+                });
+              })
 
 -- words that are refused
 pub no-command : (words : List (List ℕ)) (source : SourceState) (sink : SinkState)
     → (AreTaken words → ⊥) → command_of words ≡ None
-    → IsRun (run_of words [] (outside_of source sink) (outside_of source sink)) statuses.Usage
+    → IsRun (run_of words [] [] (outside_of source sink) (outside_of source sink)) statuses.Usage
 no-command words source sink refused none =
     record {
       reads = inl refl;
@@ -253,6 +286,7 @@ no-command words source sink refused none =
         refused = refused;
         no_command = none;
         nothing_read = refl;
+        nothing_ran = refl;
         untouched = refl;
       };
       usage = ((λ e. refused), (λ r. inl refl));
@@ -260,12 +294,15 @@ no-command words source sink refused none =
 
 -- memory ran out before anything was read
 pub no-memory : (words : List (List ℕ)) (source : SourceState) (sink : SinkState)
-    → IsRun (run_of words [] (outside_of source sink) (outside_of source sink))
+    → IsRun (run_of words [] [] (outside_of source sink) (outside_of source sink))
     statuses.OutOfMemory
 no-memory words source sink =
     record {
       reads = inl refl;
       asked = λ command e. asked-none source;
-      ends = record { quiet = record { faults = refl; misses = refl }; stands = inl refl };
+      ends = record {
+        quiet = record { faults = refl; misses = refl };
+        stands = inl (refl, refl);
+      };
       usage = ((λ e. absurd cc), (λ r. inr refl));
     }

@@ -6,6 +6,7 @@ use Rattle.std.specs.Str.{IsUtf8}
 use Rattle.std.proofs.lemmas.List.Elements.{All-get_or}
 use Rattle.std.proofs.lemmas.Option.{slice_get_within, get_or_from_slice_get}
 use Rattle.sc_base.specs.Outside.{Files}
+use Rattle.sc_core.specs.declared.answers.Abort.TheVariants as aborts
 use Rattle.sc_lineage.specs.Actions.{action_outcome, faults, never, HasText}
 use Rattle.sc_lineage.specs.ScriptData.{ActionData, ScriptData, WorkData}
 use Rattle.sc_lineage.specs.declared.nodes.DriverFault.{DriverFault}
@@ -20,7 +21,7 @@ use Rattle.sc_script.specs.declared.faults.ScriptFault.{ScriptFault}
 use Rattle.sc_app.specs.declared.ran.Status.{Status}
 use Rattle.sc_app.specs.declared.ran.Status.TheVariants as statuses
 use Rattle.sc_app.specs.Ends.{Ends, EndsForPlan}
-use Rattle.sc_app.specs.Exactly.{IsFirstWithout, IsUnlessEarlier, TellsDriverFault, TellsNever}
+use Rattle.sc_app.specs.Exactly.{IsFirstWithout, IsUnlessEarlier, TellsAbort, TellsDriverFault, TellsNever}
 use Rattle.sc_app.specs.Runs.{RunData, HasRead, HasReadWork, IsNextName}
 use Rattle.sc_app.proofs.ReadingLemmas.{no_bad_text, no_fault, no_next, no_next_plan, no_plan_fault, one_work}
 
@@ -144,7 +145,7 @@ module _ (law : HaveOneReading) (plans : PlansHaveOneReading) (run : RunData) (w
   no_text = never_without work action is
 
   tells_never_here : (status : Status) → Ends run status
-      → (partition : ℕ) × IsUnlessEarlier (statuses.TaskLimit k 0 partition) status
+      → TellsAbort status ⊎ ((status ≡ statuses.OutOfMemory) ⊎ (status ≡ statuses.WriteFault))
   tells_never_here statuses.Done ends =
       absurd (not_all law plans run work k action read first no_text ends.work ends.read
       ends.prints.texts)
@@ -157,14 +158,10 @@ module _ (law : HaveOneReading) (plans : PlansHaveOneReading) (run : RunData) (w
       absurd (not_planless law plans run work k action read first no_text f ends)
   tells_never_here (statuses.Input name missing) ends =
       absurd (not_next law plans run work k action read first no_text name ends.is_next)
-  tells_never_here (statuses.TaskLimit i a p) ends =
-      let x = stopped law plans run work k action read first no_text ends.work i ends.stops.action
-      ends.read ends.stops.printed.texts ends.stops.is_action
-      (never_without ends.work ends.stops.action ends.stops.is_never) in (
-        p,
-        inl (inl (ap (λ n. statuses.TaskLimit n a p) x.0
-            ∙ ap (λ n. statuses.TaskLimit k n p) ends.first_attempt)),
-      )
+  tells_never_here (statuses.TaskLimit stage attempt partition) ends =
+      inl (aborts.TaskLimit stage attempt partition, refl)
+  tells_never_here (statuses.StageLimit stage) ends = inl (aborts.StageLimit stage, refl)
+  tells_never_here statuses.NoExecutor ends = inl (aborts.NoExecutor, refl)
   tells_never_here (statuses.DriverFault i f) ends =
       let x = stopped law plans run work k action read first no_text ends.work i ends.stops.action
       ends.read ends.stops.printed.texts ends.stops.is_action
@@ -173,8 +170,9 @@ module _ (law : HaveOneReading) (plans : PlansHaveOneReading) (run : RunData) (w
       sym (ap (λ (w : WorkData). action_outcome w action) x.1)
       ∙ sym (ap (action_outcome ends.work) x.2) ∙ ends.stops.faults_so in
       absurd cc
-  tells_never_here statuses.WriteFault ends = (0, inr refl)
-  tells_never_here statuses.OutOfMemory ends = (0, inl (inr refl))
+  tells_never_here statuses.WriteFault ends = inr (inr refl)
+  tells_never_here statuses.OutOfMemory ends = inr (inl refl)
+  tells_never_here statuses.Budget ends = inl (aborts.Budget, refl)
   tells_never_here (statuses.NotText name) ends =
       absurd (not_bad law plans run work k action read first no_text ends.script ends.plan
       ends.inputs name ends.bytes ends.read ends.no_text)
@@ -193,7 +191,7 @@ module _ (law : HaveOneReading) (plans : PlansHaveOneReading) (run : RunData) (w
   no_text_either = faults_without work action fault is
 
   tells_driver_here : (status : Status) → Ends run status
-      → IsUnlessEarlier (statuses.DriverFault k fault) status
+      → TellsAbort status ⊎ IsUnlessEarlier (statuses.DriverFault k fault) status
   tells_driver_here statuses.Done ends =
       absurd (not_all law plans run work k action read first no_text_either ends.work ends.read
       ends.prints.texts)
@@ -206,14 +204,10 @@ module _ (law : HaveOneReading) (plans : PlansHaveOneReading) (run : RunData) (w
       absurd (not_planless law plans run work k action read first no_text_either f ends)
   tells_driver_here (statuses.Input name missing) ends =
       absurd (not_next law plans run work k action read first no_text_either name ends.is_next)
-  tells_driver_here (statuses.TaskLimit i a p) ends =
-      let x = stopped law plans run work k action read first no_text_either ends.work i
-      ends.stops.action ends.read ends.stops.printed.texts ends.stops.is_action
-      (never_without ends.work ends.stops.action ends.stops.is_never) in
-      let e : action_outcome work action ≡ never =
-      sym (ap (λ (w : WorkData). action_outcome w action) x.1)
-      ∙ sym (ap (action_outcome ends.work) x.2) ∙ ends.stops.is_never in
-      absurd cc
+  tells_driver_here (statuses.TaskLimit stage attempt partition) ends =
+      inl (aborts.TaskLimit stage attempt partition, refl)
+  tells_driver_here (statuses.StageLimit stage) ends = inl (aborts.StageLimit stage, refl)
+  tells_driver_here statuses.NoExecutor ends = inl (aborts.NoExecutor, refl)
   tells_driver_here (statuses.DriverFault i f) ends =
       let x = stopped law plans run work k action read first no_text_either ends.work i
       ends.stops.action ends.read ends.stops.printed.texts ends.stops.is_action
@@ -222,9 +216,11 @@ module _ (law : HaveOneReading) (plans : PlansHaveOneReading) (run : RunData) (w
       sym (ap (λ (w : WorkData). action_outcome w action) x.1)
       ∙ sym (ap (action_outcome ends.work) x.2) ∙ ends.stops.faults_so in
       let same : f ≡ fault = cc in
-      inl (inl (ap (λ n. statuses.DriverFault n f) x.0 ∙ ap (statuses.DriverFault k) same))
-  tells_driver_here statuses.WriteFault ends = inr refl
-  tells_driver_here statuses.OutOfMemory ends = inl (inr refl)
+      inr (inl (inl (ap (λ n. statuses.DriverFault n f) x.0
+      ∙ ap (statuses.DriverFault k) same)))
+  tells_driver_here statuses.WriteFault ends = inr (inr refl)
+  tells_driver_here statuses.OutOfMemory ends = inr (inl (inr refl))
+  tells_driver_here statuses.Budget ends = inl (aborts.Budget, refl)
   tells_driver_here (statuses.NotText name) ends =
       absurd (not_bad law plans run work k action read first no_text_either ends.script ends.plan
       ends.inputs name ends.bytes ends.read ends.no_text)

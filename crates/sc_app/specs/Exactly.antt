@@ -1,5 +1,5 @@
 -- What a run tells of what it read: nothing that refuses it is passed over.
-use Rattle.std.specs.Prelude.{ℕ, ◌≡◌, ◌⊎◌, List, take, Some, slice_get, Contains}
+use Rattle.std.specs.Prelude.{ℕ, ◌≡◌, ◌≢◌, ◌⊎◌, List, [], take, Some, slice_get, Contains}
 use Rattle.std.specs.List.{All}
 use Rattle.std.specs.Str.{IsUtf8}
 use Rattle.sc_lineage.specs.Actions.{action_outcome, faults, never, HasText}
@@ -7,6 +7,8 @@ use Rattle.sc_lineage.specs.ScriptData.{ActionData, WorkData}
 use Rattle.sc_lineage.specs.declared.nodes.DriverFault.{DriverFault}
 use Rattle.sc_plan.specs.Plans.{FaultsPlan}
 use Rattle.sc_plan.specs.declared.faults.PlanFault.{PlanFault}
+use Rattle.sc_core.specs.declared.answers.Abort.{Abort}
+use Rattle.sc_app.specs.Statuses.{status_of_abort}
 use Rattle.sc_read.specs.declared.reads.Read.{Read}
 use Rattle.sc_read.specs.Reads.{Taken, reads_of}
 use Rattle.sc_script.specs.declared.faults.ScriptFault.{ScriptFault}
@@ -55,17 +57,37 @@ pub record IsFirstWithout (work : WorkData) (k : ℕ) (action : ActionData) : Ty
   pub texts : All (HasText work) (take k work.script.actions)
   pub is_action : slice_get work.script.actions k ≡ Some action
 
--- if the first action without a text is never, the status says so
+-- a job was aborted
+abbrev pub TellsAbort : Status → Type 0
+TellsAbort status = (abort : Abort) × (status ≡ status_of_abort abort)
+
+-- if the first action without a text is never, a job was aborted
 abbrev pub TellsNever : List (List ℕ) → List Read → Status → Type 0
 TellsNever words reads status = (work : WorkData) (k : ℕ) (action : ActionData)
     → HasReadWork words reads work → IsFirstWithout work k action
     → action_outcome work action ≡ never
-    → (partition : ℕ) × IsUnlessEarlier (statuses.TaskLimit k 0 partition) status
+    → TellsAbort status ⊎ ((status ≡ statuses.OutOfMemory) ⊎ (status ≡ statuses.WriteFault))
 
--- if the first action without a text has a fault of the driver, the status says so
+-- if the first action without a text has a fault of the driver, the status says so, unless a job
+-- was aborted
 abbrev pub TellsDriverFault : List (List ℕ) → List Read → Status → Type 0
 TellsDriverFault words reads status =
     (work : WorkData) (k : ℕ) (action : ActionData) (fault : DriverFault)
     → HasReadWork words reads work → IsFirstWithout work k action
     → action_outcome work action ≡ faults fault
-    → IsUnlessEarlier (statuses.DriverFault k fault) status
+    → TellsAbort status ⊎ IsUnlessEarlier (statuses.DriverFault k fault) status
+
+-- no action of a work is never
+abbrev pub HasNoNever : WorkData → Type 0
+HasNoNever work = (action : ActionData) → Contains work.script.actions action
+    → action_outcome work action ≢ never
+
+-- if the plan has no line, no executor is lost and no stage is given up; and if moreover no action
+-- is never, no task fails
+abbrev pub TellsNoFailure : List (List ℕ) → List Read → Status → Type 0
+TellsNoFailure words reads status = (work : WorkData) → HasReadWork words reads work
+    → work.plan ≡ []
+    → (status ≢ statuses.NoExecutor)
+    × ((stage : ℕ) → status ≢ statuses.StageLimit stage)
+    × (HasNoNever work → (stage attempt partition : ℕ)
+    → status ≢ statuses.TaskLimit stage attempt partition)

@@ -11,7 +11,7 @@ use Rattle.sc_lineage.specs.declared.nodes.DriverFault.{DriverFault}
 use Rattle.sc_lineage.specs.declared.nodes.DriverFault.TheVariants as causes
 use Rattle.sc_app.specs.declared.ran.Status.{Status}
 use Rattle.sc_app.specs.declared.ran.Status.TheVariants as statuses
-use Rattle.sc_app.specs.declared.ran.Status.TheVariants.{Done, Usage, Script, Plan, Input, TaskLimit, WriteFault, OutOfMemory, NotText}
+use Rattle.sc_app.specs.declared.ran.Status.TheVariants.{Done, Usage, Script, Plan, Input, TaskLimit, StageLimit, NoExecutor, WriteFault, OutOfMemory, Budget, NotText}
 
 -- the name of a kind of fault
 abbrev pub kind_text : FaultKind → List ℕ
@@ -55,11 +55,14 @@ fault_text (Script fault) =
 fault_text (Plan fault) =
     codes "plan: line " ++ decimal fault.line ++ codes ": " ++ plan_kind_text fault.kind
 fault_text (Input name missing) = codes "input: " ++ name ++ codes ": " ++ missing_text missing
-fault_text (TaskLimit k attempt partition) =
-    codes "task limit: stage " ++ decimal k ++ codes " attempt " ++ decimal attempt
+fault_text (TaskLimit stage attempt partition) =
+    codes "task limit: stage " ++ decimal stage ++ codes " attempt " ++ decimal attempt
     ++ codes " partition " ++ decimal partition
+fault_text (StageLimit stage) = codes "stage limit: stage " ++ decimal stage
+fault_text NoExecutor = codes "no executor"
 fault_text (statuses.DriverFault k kind) =
     codes "driver: action " ++ decimal k ++ codes ": " ++ cause_text kind
 fault_text WriteFault = codes "write failed"
 fault_text OutOfMemory = codes "out of memory"
+fault_text Budget = codes "budget"
 fault_text (NotText name) = codes "not text: " ++ name

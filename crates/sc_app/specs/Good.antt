@@ -42,15 +42,19 @@ pub record IsGood (run : RunData) : Type 0 where
       → taken.plan ≡ Some bytes → FaultsPlan command.limits.executors bytes fault → ⊥
   pub texts : (taken : Taken) → run.reads ≡ reads_of taken → AreTexts taken.inputs
 
--- such a run is done, or memory ran out, or an action has no text, which its status tells
+-- such a run is done, or memory ran out, or a job was aborted, or the results of an action have no
+-- value together, which its status tells
 abbrev pub EndsWell : Status → Type 0
 EndsWell statuses.Done = Unit {0}
 EndsWell statuses.Usage = ⊥
 EndsWell (statuses.Script fault) = ⊥
 EndsWell (statuses.Plan fault) = ⊥
 EndsWell (statuses.Input name missing) = ⊥
-EndsWell (statuses.TaskLimit k attempt partition) = Unit {0}
+EndsWell (statuses.TaskLimit stage attempt partition) = Unit {0}
+EndsWell (statuses.StageLimit stage) = Unit {0}
+EndsWell statuses.NoExecutor = Unit {0}
 EndsWell (statuses.DriverFault k fault) = Unit {0}
 EndsWell statuses.WriteFault = ⊥
 EndsWell statuses.OutOfMemory = Unit {0}
+EndsWell statuses.Budget = Unit {0}
 EndsWell (statuses.NotText name) = ⊥

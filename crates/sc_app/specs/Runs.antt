@@ -2,6 +2,7 @@
 use Rattle.std.specs.Prelude.{ℕ, ◌≡◌, ◌⊎◌, List, [], ◌∷◌, ◌++◌, Option, Some, None}
 use Rattle.std.specs.Option.{option_map}
 use Rattle.sc_base.specs.Outside.{Files, Outside, HasAsked}
+use Rattle.sc_core.specs.declared.journals.JobHistory.{JobHistory}
 use Rattle.sc_ids.specs.declared.limits.Limits.{Limits}
 use Rattle.sc_lineage.specs.ScriptData.{ScriptData, WorkData, IsSoundWork}
 use Rattle.sc_plan.specs.declared.lines.PlanLine.{PlanLine}
@@ -21,14 +22,22 @@ pub record RunData : Type 0 where
   pub words : List (List ℕ)
   -- what was read, in order
   pub reads : List Read
+  -- how the jobs went, in order
+  pub history : List JobHistory
   -- the outside before and after
   pub before : Outside
   pub after : Outside
 
--- a run by its words, its reads and the outside
-abbrev pub run_of : List (List ℕ) → List Read → Outside → Outside → RunData
-run_of words reads before after =
-    record { words = words; reads = reads; before = before; after = after }
+-- a run by its words, its reads, how its jobs went and the outside
+abbrev pub run_of : List (List ℕ) → List Read → List JobHistory → Outside → Outside → RunData
+run_of words reads history before after =
+    record {
+      words = words;
+      reads = reads;
+      history = history;
+      before = before;
+      after = after;
+    }
 
 -- the reads are those of a script, of the plan where the words name one, and of these inputs behind
 -- them; with no plan named the plan is the empty one

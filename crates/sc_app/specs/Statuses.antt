@@ -2,8 +2,10 @@
 use Rattle.std.specs.Prelude.{ℕ, Bool, true, false, List}
 use Rattle.sc_base.specs.declared.refusals.OrMemory.{OrMemory}
 use Rattle.sc_base.specs.declared.refusals.OrMemory.TheVariants as refusals
-use Rattle.sc_print.specs.declared.printing.PrintFault.{PrintFault}
-use Rattle.sc_print.specs.declared.printing.PrintFault.TheVariants as prints
+use Rattle.sc_core.specs.declared.answers.Abort.{Abort}
+use Rattle.sc_core.specs.declared.answers.Abort.TheVariants as aborts
+use Rattle.sc_print.specs.declared.faults.PrintFault.{PrintFault}
+use Rattle.sc_print.specs.declared.faults.PrintFault.TheVariants as prints
 use Rattle.sc_read.specs.declared.stops.InputStop.{InputStop}
 use Rattle.sc_read.specs.declared.stops.InputStop.TheVariants as inputs
 use Rattle.sc_read.specs.declared.stops.PlanStop.{PlanStop}
@@ -13,7 +15,7 @@ use Rattle.sc_read.specs.declared.stops.ScriptStop.TheVariants as scripts
 use Rattle.sc_read.specs.declared.stops.Unreadable.{Unreadable}
 use Rattle.sc_read.specs.declared.stops.Unreadable.TheVariants.{Missing, Failed}
 use Rattle.sc_app.specs.declared.ran.Status.{Status}
-use Rattle.sc_app.specs.declared.ran.Status.TheVariants.{Done, Usage, Script, Plan, Input, TaskLimit, DriverFault, WriteFault, OutOfMemory, NotText}
+use Rattle.sc_app.specs.declared.ran.Status.TheVariants.{Done, Usage, Script, Plan, Input, TaskLimit, StageLimit, NoExecutor, DriverFault, WriteFault, OutOfMemory, Budget, NotText}
 
 -- the number of a status
 abbrev pub number_of : Status → ℕ
@@ -22,10 +24,13 @@ number_of Usage = 2
 number_of (Script fault) = 3
 number_of (Plan fault) = 4
 number_of (Input name missing) = 5
-number_of (TaskLimit k attempt partition) = 6
+number_of (TaskLimit stage attempt partition) = 6
+number_of (StageLimit stage) = 7
+number_of NoExecutor = 8
 number_of (DriverFault k fault) = 9
 number_of WriteFault = 12
 number_of OutOfMemory = 13
+number_of Budget = 14
 number_of (NotText name) = 15
 
 -- whether a name gave no bytes since it isn't there
@@ -51,9 +56,16 @@ status_of_input (refusals.Fault (inputs.Unreadable name why)) = Input name (is_m
 status_of_input (refusals.Fault (inputs.NotText name)) = NotText name
 status_of_input refusals.OutOfMemory = OutOfMemory
 
+-- the status where a job was aborted
+abbrev pub status_of_abort : Abort → Status
+status_of_abort (aborts.TaskLimit stage attempt partition) = TaskLimit stage attempt partition
+status_of_abort (aborts.StageLimit stage) = StageLimit stage
+status_of_abort aborts.NoExecutor = NoExecutor
+status_of_abort aborts.Budget = Budget
+
 -- the status where not all actions were printed
 abbrev pub status_of_print : OrMemory PrintFault → Status
-status_of_print (refusals.Fault (prints.Never k partition)) = TaskLimit k 0 partition
+status_of_print (refusals.Fault (prints.Aborted k abort)) = status_of_abort abort
 status_of_print (refusals.Fault (prints.Driver k fault)) = DriverFault k fault
 status_of_print (refusals.Fault prints.Write) = WriteFault
 status_of_print refusals.OutOfMemory = OutOfMemory

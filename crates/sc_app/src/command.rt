@@ -5,13 +5,14 @@ ghost use Rattle.std.specs.Prelude.{◌≡◌, ◌≤◌, [], map};
 ghost use Rattle.std.specs.String.{string_bytes};
 ghost use Rattle.sc_base.specs.Outside.{IsLaterSource, outside_of};
 ghost use Rattle.sc_app.specs.Ends.{Ends, IsRun, PrintsMeaning};
-ghost use Rattle.sc_app.specs.Exactly.{TellsDriverFault, TellsFault, TellsNever, TellsNotText, TellsPlanFault, TellsUsage};
+ghost use Rattle.sc_app.specs.Exactly.{TellsDriverFault, TellsFault, TellsNever, TellsNoFailure, TellsNotText, TellsPlanFault, TellsUsage};
 ghost use Rattle.sc_app.specs.Good.{EndsWell, IsGood};
 ghost use Rattle.sc_app.specs.Runs.{AreReads, AsksOnce, run_of};
 
 use crate::ran::{Ran, Status};
 use crate::scripts::run_script;
 use sc_base::OrMemory;
+use sc_core::JobHistory;
 use sc_input::Source;
 use sc_plan::plans_have_one_reading;
 use sc_read::Read;
@@ -30,10 +31,10 @@ use std::alloc::Global;
 /// > from one attempt authorised alone; an abort is answered only where the returned history shows
 /// > its limit, loss, script fault or device fault.
 ///
-/// Today one thread evaluates the actions, a fault plan may be named and is read, and nothing comes
-/// of it, there is no clock, and nothing is saved. `read` of the answer is the script, the plan
-/// where one is named, and then the inputs, as they were read, which shows a script's fault and a
-/// plan's.
+/// Today one thread runs the actions, each by its jobs: the executors take turns, and what the
+/// fault plan says is done to them. There is no clock, and nothing is saved. `read` of the answer
+/// is the script, the plan where one is named, and then the inputs, as they were read, which shows
+/// a script's fault and a plan's; `history` has the jobs, of which the last shows an abort.
 pub fn run<R, S: Source, K: Sink>(
     _rt: &R,
     alloc: Global,
@@ -48,23 +49,23 @@ pub fn run<R, S: Source, K: Sink>(
     // The script was read under its word, then the plan, where one is named, and then each input
     // that the script names, once and in order.
     ensures reads { AreReads (run_of (map string_bytes words.now) result.read.items
-        (outside_of (S.state source.old) (K.state sink.old))
+        result.history.items (outside_of (S.state source.old) (K.state sink.old))
         (outside_of (S.state source.new) (K.state sink.new))) }
 
     // The source was asked for that, and for the name that it didn't give, and for nothing else.
     ensures asked { AsksOnce (run_of (map string_bytes words.now) result.read.items
-        (outside_of (S.state source.old) (K.state sink.old))
+        result.history.items (outside_of (S.state source.old) (K.state sink.old))
         (outside_of (S.state source.new) (K.state sink.new))) result.status }
 
     // Done: the sink got exactly the text of the meaning of the script and inputs that were read.
     ensures headline { result.status ≡ Status.Done
         → PrintsMeaning (run_of (map string_bytes words.now) result.read.items
-        (outside_of (S.state source.old) (K.state sink.old))
+        result.history.items (outside_of (S.state source.old) (K.state sink.old))
         (outside_of (S.state source.new) (K.state sink.new))) }
 
     // Each status has its cause, and this is what stands.
     ensures ends { Ends (run_of (map string_bytes words.now) result.read.items
-        (outside_of (S.state source.old) (K.state sink.old))
+        result.history.items (outside_of (S.state source.old) (K.state sink.old))
         (outside_of (S.state source.new) (K.state sink.new))) result.status }
 
     // Usage comes only where `clap` refuses the words, and there unless memory runs out.
@@ -80,23 +81,34 @@ pub fn run<R, S: Source, K: Sink>(
     // An input that was read and isn't text is told by its name, unless memory runs out.
     ensures text_exactly { TellsNotText result.read.items result.status }
 
-    // An action that is never, and one whose results have no value, are told, unless memory runs
-    // out or the sink failed before.
+    // Where an action is never, a job is aborted; and one whose results have no value is told,
+    // unless a job is aborted. Memory may run out, or the sink fail before.
     ensures never_exactly { TellsNever (map string_bytes words.now) result.read.items
         result.status }
     ensures driver_exactly { TellsDriverFault (map string_bytes words.now) result.read.items
         result.status }
 
-    // With nothing to refuse the run is done, unless memory runs out or an action has no text.
+    // Without a line in the fault plan no executor is lost, no stage is given up, and a task that
+    // fails too often is one of an action that is never.
+    ensures no_failure { TellsNoFailure (map string_bytes words.now) result.read.items
+        result.status }
+
+    // With nothing to refuse the run is done, unless memory runs out, a job is aborted, or the
+    // results of an action have no value together.
     ensures good { IsGood (run_of (map string_bytes words.now) result.read.items
-        (outside_of (S.state source.old) (K.state sink.old))
+        result.history.items (outside_of (S.state source.old) (K.state sink.old))
         (outside_of (S.state source.new) (K.state sink.new))) → EndsWell result.status }
 {
     scripts_have_one_reading();
     plans_have_one_reading();
     let mut read = Vec::new(alloc);
-    let status = run_words(alloc, words, source, sink, &mut read);
-    Ran { status, read }
+    let mut history = Vec::new(alloc);
+    let status = run_words(alloc, words, source, sink, &mut read, &mut history);
+    Ran {
+        status,
+        read,
+        history,
+    }
 }
 
 /// Runs the script that the words name, if they name one.
@@ -106,16 +118,18 @@ fn run_words<S: Source, K: Sink>(
     source: &mut S,
     sink: &mut K,
     reads: &mut Vec<Read>,
+    history: &mut Vec<JobHistory>,
 ) -> Status
-    requires { reads.old.items ≡ [] }
+    requires empty { reads.old.items ≡ [] }
+    requires none { history.old.items ≡ [] }
     ensures later { IsLaterSource (S.state source.old) (S.state source.new) }
     ensures sink_later { (K.state sink.old).faults ≤ (K.state sink.new).faults }
-    ensures run { IsRun (run_of (map string_bytes words.now) reads.new.items
+    ensures run { IsRun (run_of (map string_bytes words.now) reads.new.items history.new.items
         (outside_of (S.state source.old) (K.state sink.old))
         (outside_of (S.state source.new) (K.state sink.new))) result }
 {
     match read_words(alloc, words) {
-        Ok(command) => run_script(alloc, command, source, sink, reads),
+        Ok(command) => run_script(alloc, command, source, sink, reads, history),
         Err(refusal) => match refusal {
             OrMemory::Fault(_) => Status::Usage,
             OrMemory::OutOfMemory => Status::OutOfMemory,

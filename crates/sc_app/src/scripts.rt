@@ -8,12 +8,14 @@ ghost use Rattle.sc_app.specs.Ends.{IsRunOf};
 
 use crate::ran::Status;
 use crate::stops::{status_of_input, status_of_plan, status_of_print, status_of_script};
+use sc_core::JobHistory;
 use sc_input::Source;
 use sc_print::print_work;
 use sc_read::{Read, read_plan, read_script, read_work};
 use sc_sink::Sink;
 use sc_words::Command;
 use std::alloc::Global;
+use std::marker::Brand;
 
 /// Reads the script that a command names, its plan and its inputs, and prints its actions.
 pub(crate) fn run_script<S: Source, K: Sink>(
@@ -22,12 +24,14 @@ pub(crate) fn run_script<S: Source, K: Sink>(
     source: &mut S,
     sink: &mut K,
     reads: &mut Vec<Read>,
+    history: &mut Vec<JobHistory>,
 ) -> Status
     requires empty { reads.old.items ≡ [] }
+    requires none { history.old.items ≡ [] }
     requires limits { AreLimits command.limits }
     ensures later { IsLaterSource (S.state source.old) (S.state source.new) }
     ensures sink_later { (K.state sink.old).faults ≤ (K.state sink.new).faults }
-    ensures run { IsRunOf command reads.new.items
+    ensures run { IsRunOf command reads.new.items history.new.items
         (outside_of (S.state source.old) (K.state sink.old))
         (outside_of (S.state source.new) (K.state sink.new)) result }
 {
@@ -45,7 +49,9 @@ pub(crate) fn run_script<S: Source, K: Sink>(
         Err(stop) => return status_of_input(stop),
     };
     work.is_sound();
-    match print_work(alloc, &work, sink) {
+    let printed = print_work::<Brand, K>(alloc, work, sink);
+    *history = printed.histories;
+    match printed.end {
         Ok(()) => Status::Done,
         Err(stop) => status_of_print(stop),
     }

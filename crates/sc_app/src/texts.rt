@@ -28,9 +28,12 @@ pub fn fault_text(alloc: Global, status: &Status) -> Result<String, AllocError>
             stage_attempt,
             partition,
         } => limit_text(alloc, *stage, *stage_attempt, *partition),
+        Status::StageLimit { stage } => stage_text(alloc, *stage),
+        Status::NoExecutor => String::from_str(alloc, "no executor"),
         Status::DriverFault { action, kind } => driver_text(alloc, *action, *kind),
         Status::WriteFault => String::from_str(alloc, "write failed"),
         Status::OutOfMemory => String::from_str(alloc, "out of memory"),
+        Status::Budget => String::from_str(alloc, "budget"),
         Status::NotText { name } => {
             let name = name.as_str();
             format!(in alloc; "not text: {name}")
@@ -65,12 +68,19 @@ fn input_text(alloc: Global, name: &Name, missing: bool) -> Result<String, Alloc
     format!(in alloc; "input: {name}: {cause}")
 }
 
-/// The text of an action with no value.
-fn limit_text(alloc: Global, stage: u32, attempt: u32, partition: u32) -> Result<String, AllocError>
+/// The text of a partition that failed too often.
+fn limit_text(alloc: Global, stage: u32, attempt: u64, partition: u32) -> Result<String, AllocError>
     ensures { IfOk result (λ t. string_bytes t
         ≡ text_of (Status.TaskLimit stage attempt partition)) }
 {
     format!(in alloc; "task limit: stage {stage} attempt {attempt} partition {partition}")
+}
+
+/// The text of a stage that failed too often.
+fn stage_text(alloc: Global, stage: u32) -> Result<String, AllocError>
+    ensures { IfOk result (λ t. string_bytes t ≡ text_of (Status.StageLimit stage)) }
+{
+    format!(in alloc; "stage limit: stage {stage}")
 }
 
 /// The text of an action whose results have no value together.

@@ -1,26 +1,17 @@
 -- The texts of a work's actions, one after another.
-use Rattle.std.proofs.Common.{◌≡◌, ◌∙◌, ℕ, zero, suc, ◌+◌, ◌<◌, ◌≤◌, List, [], ◌∷◌, ◌++◌, length, map, take, get_or, subst, sym, ap, refl, arith, Option, Some, None, append_assoc}
-use Rattle.std.specs.Prelude.{slice_get, Result, Ok, Err}
+use Rattle.std.proofs.Common.{◌≡◌, ◌∙◌, ℕ, zero, suc, ◌+◌, ◌<◌, ◌≤◌, List, [], ◌∷◌, ◌++◌, length, take, subst, sym, ap, refl, arith, Option, Some, None, append_assoc}
+use Rattle.std.specs.Prelude.{slice_get}
 use Rattle.std.specs.List.{All, cons_option, filter_map}
 use Rattle.std.specs.Option.{option_to_list}
-use Rattle.std.proofs.lemmas.List.{append-nil, take_more, take_all}
-use Rattle.std.proofs.lemmas.List.Elements.{All-nil, All-cons, All-append, All-get_or}
-use Rattle.std.proofs.lemmas.Option.{slice_get-map, slice_get_read, slice_get_within, get_or_from_slice_get}
-use Rattle.std.specs.Option.{option_map}
-use Rattle.sc_base.specs.Counts.{Rose}
+use Rattle.std.proofs.lemmas.List.{append-nil, take_more}
+use Rattle.std.proofs.lemmas.List.Elements.{All-nil, All-cons, All-append}
+use Rattle.std.proofs.lemmas.Option.{slice_get_within, get_or_from_slice_get}
+use Rattle.sc_base.specs.Lists.{at_or}
 use Rattle.sc_base.specs.Outside.{SinkState, with_more}
-use Rattle.sc_base.specs.declared.refusals.OrMemory.{OrMemory}
-use Rattle.sc_base.specs.declared.refusals.OrMemory.TheVariants.{Fault, OutOfMemory}
-use Rattle.sc_lineage.specs.Actions.{action_outcome, action_text, local_results, outcome_of_results, prints, some_text, text_of_outcome, texts_by, HasText}
-use Rattle.sc_lineage.specs.ScriptData.{ActionData, WorkData, node_of_action}
-use Rattle.sc_lineage.specs.Views.{action_data_of}
-use Rattle.sc_lineage.specs.declared.nodes.Action.{Action}
-use Rattle.sc_compute.specs.Evaluations.{Gives}
-use Rattle.sc_compute.specs.declared.evaluation.Evaluated.{Evaluated}
-use Rattle.sc_compute.specs.declared.evaluation.Evaluated.TheVariants as evaluated
-use Rattle.sc_print.specs.declared.printing.PrintFault.{PrintFault}
-use Rattle.sc_print.specs.declared.printing.PrintFault.TheVariants.{Never, Driver, Write}
-use Rattle.sc_print.specs.Printing.{GivesMeaning, HasPrinted, PrintsAll, PrintsAction, PrintsText, Prints, StopsAtRaise, StopsAtDriver}
+use Rattle.sc_lineage.specs.Actions.{action_outcome, action_text, prints, some_text, text_of_outcome, texts_by, HasText}
+use Rattle.sc_lineage.specs.ScriptData.{ActionData, WorkData}
+use Rattle.sc_context.specs.Contexts.{ContextData}
+use Rattle.sc_print.specs.Printing.{HasPrinted, PrintsAll, PrintsNext, PrintsText}
 
 -- one more item at the end of a part
 take-next : {X : Type 0} (xs : List X) (k : ℕ) (x : X) → slice_get xs k ≡ Some x
@@ -30,7 +21,7 @@ take-next {X} xs k x e =
     ∙ ap (λ (y : X). take k xs ++ y ∷ []) (get_or_from_slice_get xs k x x e)
 
 -- more behind more
-with_more-append : {A : Type 0} (shown : Option (List A)) (xs ys : List A)
+pub with_more-append : {A : Type 0} (shown : Option (List A)) (xs ys : List A)
     → with_more (with_more shown xs) ys ≡ with_more shown (xs ++ ys)
 with_more-append None xs ys = refl
 with_more-append (Some before) xs ys = ap Some (append_assoc before xs ys)
@@ -62,6 +53,13 @@ text_of_action : (work : WorkData) (action : ActionData) (text : List ℕ)
     → action_outcome work action ≡ prints text → action_text work action ≡ Some text
 text_of_action work action text is = ap text_of_outcome is
 
+-- an item that there is
+pub slice_get-at : {X : Type 0} (xs : List X) (k : ℕ) (other : X) → k < length xs
+    → slice_get xs k ≡ Some (at_or xs k other)
+slice_get-at [] k other below = absurd (omega (arith, below))
+slice_get-at (x ∷ xs) zero other below = refl
+slice_get-at (x ∷ xs) (suc k) other below = slice_get-at xs k other (omega (arith, below))
+
 module _ (work : WorkData) (start now after : SinkState) (k : ℕ) (action : ActionData)
     (is : slice_get work.script.actions k ≡ Some action) (so_far : HasPrinted work start now k)
   where
@@ -76,7 +74,7 @@ module _ (work : WorkData) (start now after : SinkState) (k : ℕ) (action : Act
         (text_of_action work action text printed)
 
     -- one action more is printed
-    pub printed-next : (text : List ℕ) → action_outcome work action ≡ prints text
+    printed-next : (text : List ℕ) → action_outcome work action ≡ prints text
         → PrintsText text now after → HasPrinted work start after (k + 1)
     printed-next text printed one =
         record {
@@ -93,42 +91,14 @@ module _ (work : WorkData) (start now after : SinkState) (k : ℕ) (action : Act
           quiet = one.quiet ∙ so_far.quiet;
         }
 
-    -- the printing stops at this action
-    pub printing-stops : (number : ℕ) (error : OrMemory PrintFault) → number ≡ k
-        → PrintsAction work action number now after (Err error)
-        → Prints work start after (Err error)
-    printing-stops number (Fault (Never n partition)) same x =
-        subst (λ m. StopsAtRaise work start after m partition) (sym (x.0 ∙ same)) (record {
-          action = action;
-          is_action = is;
-          is_never = x.1;
-          first = x.2;
-          printed = subst (λ s. HasPrinted work start s k) (sym x.3) so_far;
-        })
-    printing-stops number (Fault (Driver n fault)) same x =
-        subst (λ m. StopsAtDriver work start after m fault) (sym (x.0 ∙ same)) (record {
-          action = action;
-          is_action = is;
-          faults_so = x.1;
-          printed = subst (λ s. HasPrinted work start s k) (sym x.2) so_far;
-        })
-    printing-stops number (Fault Write) same x =
-        record {
-          k = k;
-          action = action;
-          is_action = is;
-          texts = so_far.texts;
-          printed = x.0;
-          prints_so = x.1;
-          not_empty = x.2.not_empty;
-          n = x.2.n;
-          pieces = x.2.pieces
-              ∙ ap (λ s. with_more s (take x.2.n x.0 ∷ [])) so_far.pieces
-              ∙ with_more-append start.pieces (texts_by work k) (take x.2.n x.0 ∷ []);
-          rose = subst (λ n. Rose n after.faults) so_far.quiet x.2.rose;
-        }
-    printing-stops number OutOfMemory same x =
-        (k, subst (λ s. HasPrinted work start s k) (sym x) so_far)
+-- the next action is printed
+pub printed-more : (work : WorkData) (start now after : SinkState) (c next : ContextData)
+    → HasPrinted work start now c.progress.actions → PrintsNext work now after c next
+    → HasPrinted work start after next.progress.actions
+printed-more work start now after c next so_far one =
+    subst (λ k. HasPrinted work start after k) (sym one.one_more)
+    (printed-next work start now after c.progress.actions one.action one.is_action so_far one.text
+    one.prints_so one.printed)
 
 -- nothing is printed yet
 pub printed-none : (work : WorkData) (state : SinkState) → HasPrinted work state state 0
@@ -146,28 +116,3 @@ pub printed-all : (work : WorkData) (before after : SinkState) (k : ℕ)
 printed-all work before after k past printed =
     let e : k ≡ length work.script.actions = omega (arith, printed.within) in
     subst (λ n. HasPrinted work before after n) e printed
-
--- an action that was read, as data
-pub action_at : (read : List Action) (actions : List ActionData) (i : ℕ) (action : Action)
-    → map action_data_of read ≡ actions → i < length read → action ≡ get_or read i action
-    → slice_get actions i ≡ Some (action_data_of action)
-action_at read actions i action are within is =
-    ap (λ as_. slice_get as_ i) (sym are) ∙ slice_get-map action_data_of read i
-    ∙ ap (option_map action_data_of) (slice_get_read read (length read) i action refl within is)
-
--- an action that there is names a node that there is
-pub named-node : (count : ℕ) (actions : List ActionData) (i : ℕ) (action : ActionData)
-    → All (λ a. node_of_action a < count) actions → slice_get actions i ≡ Some action
-    → node_of_action action < count
-named-node count actions i action all is =
-    subst (λ a. node_of_action a < count) (get_or_from_slice_get actions i action action is)
-    (All-get_or (λ a. node_of_action a < count) actions i action
-    (slice_get_within actions i action is) all)
-
--- what was computed for an action gives what the sequential meaning does, where both agree
-pub gives_meaning : (work : WorkData) (action : ActionData)
-    → outcome_of_results action (local_results work action) ≡ action_outcome work action
-    → (e : Evaluated) → Gives work action e → GivesMeaning work action e
-gives_meaning work action same (evaluated.Prints text) gives = sym same ∙ gives
-gives_meaning work action same (evaluated.Faults fault) gives = sym same ∙ gives
-gives_meaning work action same (evaluated.Never p) gives = (sym same ∙ gives.0, gives.1)

@@ -1,127 +1,129 @@
 //! The actions of a work, printed.
 #![tactic(auto)]
 
-ghost use Rattle.std.specs.Prelude.{◌<◌, ◌≤◌, IfOk, length};
-ghost use Rattle.sc_compute.specs.Stages.{AreRight};
-ghost use Rattle.sc_lineage.specs.ScriptData.{node_of_action};
-ghost use Rattle.sc_lineage.specs.Views.{action_data_of};
-ghost use Rattle.sc_print.specs.Printing.{GivesMeaning, Prints, PrintsAction, Writes};
+ghost use Rattle.std.specs.Prelude.{◌≡◌, ◌<◌, ◌≤◌, IfErr, IfOk, length};
+ghost use Rattle.sc_context.specs.Contexts.{new_context};
+ghost use Rattle.sc_print.specs.Printing.{Prints, PrintsNext, StopsNext, fault_of};
 
+use crate::faults::PrintFault;
+use crate::writing::write_value;
 use sc_base::OrMemory;
-use sc_compute::{Evaluated, Stages, evaluate};
-use sc_laws::outcome_law;
-use sc_lineage::{Action, DriverFault, Work};
-use sc_sink::{Sink, SinkAnswer};
-use sc_value::Octets;
+use sc_context::{Context, Given, Stopped};
+use sc_core::{Abort, JobHistory};
+use sc_lineage::Work;
+use sc_sink::Sink;
+use sc_work::{Naming, SharedWork};
 use std::alloc::{AllocError, Global};
 
-/// Why not all actions were printed.
-#[derive(Clone, Copy, Debug, PartialEq, Eq)]
-pub enum PrintFault {
-    /// An action has no text, since a partition raises.
-    Never {
-        /// The number of the action, from 0.
-        action: u32,
-        /// The first partition that raises.
-        partition: u32,
-    },
-    /// An action has no text, since its results have no value together.
-    Driver {
-        /// The number of the action, from 0.
-        action: u32,
-        /// The fault.
-        fault: DriverFault,
-    },
-    /// The sink failed.
-    Write,
+/// How the printing of a work's actions went.
+#[derive(Drop)]
+pub struct Printed {
+    /// Whether all were printed, or what ended it.
+    pub end: Result<(), OrMemory<PrintFault>>,
+    /// How the jobs went, in order.
+    pub histories: Vec<JobHistory>,
 }
 
-/// Writes the texts of a work's actions to the sink, in order, each by one write where it isn't
-/// empty.
+/// Runs a work's actions in order, and writes their texts to the sink, each by one write where it
+/// isn't empty.
 ///
-/// # Errors
-///
-/// The first action that has no text, a failure of the sink, or want of memory; the texts of the
-/// actions before it stand.
-pub fn print_work<K: Sink>(
+/// It ends with the first action of which a job is aborted or whose results have no value, a
+/// failure of the sink, or want of memory; the texts of the actions before it stand.
+pub fn print_work<W: Naming, K: Sink>(alloc: Global, work: Work, sink: &mut K) -> Printed
+    requires named { work ≡ W.work }
+    ensures later { (K.state sink.old).faults ≤ (K.state sink.new).faults }
+    ensures prints { Prints W.work (K.state sink.old) (K.state sink.new) result.end
+        result.histories.items }
+{
+    match new_context::<W>(alloc, work) {
+        Ok(context) => print_actions(alloc, context, sink),
+        Err(_) => Printed {
+            end: Err(OrMemory::OutOfMemory),
+            histories: Vec::new(alloc),
+        },
+    }
+}
+
+/// A context of a work in which no job has run.
+fn new_context<W: Naming>(alloc: Global, work: Work) -> Result<Context<W>, AllocError>
+    requires named { work ≡ W.work }
+    ensures { IfOk result (λ c. c ≡ new_context W.work) }
+{
+    Context::new(alloc, SharedWork::of(alloc, work)?)
+}
+
+/// Prints the actions of a work from the first on.
+fn print_actions<W: Naming, K: Sink>(alloc: Global, first: Context<W>, sink: &mut K) -> Printed
+    requires { first ≡ new_context W.work }
+    ensures later { (K.state sink.old).faults ≤ (K.state sink.new).faults }
+    ensures prints { Prints W.work (K.state sink.old) (K.state sink.new) result.end
+        result.histories.items }
+{
+    let actions = first.work().get().script().actions().len();
+    let mut context = first;
+    while (context.actions() as usize) < actions {
+        match print_action(alloc, context, sink) {
+            Ok(next) => context = next,
+            Err(stop) => {
+                return Printed {
+                    end: Err(stop.why),
+                    histories: stop.histories,
+                };
+            }
+        }
+    }
+    context.is_sound();
+    Printed {
+        end: Ok(()),
+        histories: context.into_histories(),
+    }
+}
+
+/// Why no more actions are printed, and how the jobs went.
+#[derive(Drop)]
+struct Stop {
+    why: OrMemory<PrintFault>,
+    histories: Vec<JobHistory>,
+}
+
+/// Runs the next action, and writes its text.
+fn print_action<W: Naming, K: Sink>(
     alloc: Global,
-    work: &Work,
+    context: Context<W>,
     sink: &mut K,
-) -> Result<(), OrMemory<PrintFault>>
+) -> Result<Context<W>, Stop>
+    requires within { context.progress.actions < length W.work.script.actions }
     ensures later { (K.state sink.old).faults ≤ (K.state sink.new).faults }
-    ensures prints { Prints work.now (K.state sink.old) (K.state sink.new) result }
+    ensures prints { IfOk result
+        (PrintsNext W.work (K.state sink.old) (K.state sink.new) context) }
+    ensures stops { IfErr result (λ s. StopsNext W.work (K.state sink.old) (K.state sink.new)
+        context.progress.actions s.why s.histories.items) }
 {
-    work.is_sound();
-    let mut stages = Stages::new(alloc, work)?;
-    let actions = work.script().actions();
-    for i in 0..actions.len() {
-        let Ok(number) = u32::try_from(i) else {
-            return Err(OrMemory::OutOfMemory);
-        };
-        print_action(alloc, work, &mut stages, &actions[i], number, sink)?;
-    }
-    Ok(())
-}
-
-/// Writes the text of the action of this number.
-fn print_action<K: Sink>(
-    alloc: Global,
-    work: &Work,
-    stages: &mut Stages,
-    action: &Action,
-    number: u32,
-    sink: &mut K,
-) -> Result<(), OrMemory<PrintFault>>
-    requires known_node { node_of_action (action_data_of action.now)
-        < length work.now.script.nodes }
-    requires right { AreRight work.now stages.old }
-    ensures right { AreRight work.now stages.new }
-    ensures later { (K.state sink.old).faults ≤ (K.state sink.new).faults }
-    ensures action { PrintsAction work.now (action_data_of action.now) number
-        (K.state sink.old) (K.state sink.new) result }
-{
-    match outcome(alloc, work, stages, action)? {
-        Evaluated::Prints(text) => write(&text, sink),
-        Evaluated::Faults(fault) => Err(OrMemory::Fault(PrintFault::Driver {
-            action: number,
-            fault,
-        })),
-        Evaluated::Never { partition } => Err(OrMemory::Fault(PrintFault::Never {
-            action: number,
-            partition,
-        })),
+    let action = context.actions();
+    match context.run_action(alloc) {
+        Ok(Given { context, value }) => match write_value(action, &value, sink) {
+            Ok(()) => Ok(context),
+            Err(why) => {
+                context.is_sound();
+                Err(Stop {
+                    why,
+                    histories: context.into_histories(),
+                })
+            }
+        },
+        Err(Stopped { why, histories }) => Err(Stop {
+            why: fault_of(action, why),
+            histories,
+        }),
     }
 }
 
-/// What an action gives, by the sequential meaning.
-fn outcome(
-    alloc: Global,
-    work: &Work,
-    stages: &mut Stages,
-    action: &Action,
-) -> Result<Evaluated, AllocError>
-    requires known_node { node_of_action (action_data_of action.now)
-        < length work.now.script.nodes }
-    requires right { AreRight work.now stages.old }
-    ensures right { AreRight work.now stages.new }
-    ensures gives { IfOk result (GivesMeaning work.now (action_data_of action.now)) }
+/// What is told where a context ran no further.
+fn fault_of(action: u32, why: OrMemory<Abort>) -> OrMemory<PrintFault>
+    ensures { result ≡ fault_of action why }
 {
-    work.is_sound();
-    outcome_law();
-    evaluate(alloc, work, stages, action)
-}
-
-/// Writes a text by one write, unless it is empty.
-fn write<K: Sink>(text: &Octets, sink: &mut K) -> Result<(), OrMemory<PrintFault>>
-    ensures later { (K.state sink.old).faults ≤ (K.state sink.new).faults }
-    ensures text { Writes text.now (K.state sink.old) (K.state sink.new) result }
-{
-    if text.len() == 0 {
-        return Ok(());
-    }
-    match sink.write(text.as_slice()) {
-        SinkAnswer::Written => Ok(()),
-        SinkAnswer::Failed => Err(OrMemory::Fault(PrintFault::Write)),
-        SinkAnswer::OutOfMemory => Err(OrMemory::OutOfMemory),
+    match why {
+        OrMemory::Fault(abort) => OrMemory::Fault(PrintFault::Aborted { action, abort }),
+        OrMemory::OutOfMemory => OrMemory::OutOfMemory,
     }
 }

@@ -1,3 +1,4 @@
+use Rattle.sc_app.proofs.AbortLemmas.{tells_no_failure}
 use Rattle.sc_app.proofs.ExactlyLemmas.{tells_fault, tells_not_text, tells_plan_fault}
 use Rattle.sc_app.proofs.WithoutTextLemmas.{tells_driver_fault, tells_never}
 use Rattle.sc_app.proofs.GoodLemmas.{ends_well}
@@ -26,3 +27,8 @@ returns-clause-driver_exactly g c =
 pub returns-clause-plan_exactly : goal.returns-clause-plan_exactly
 returns-clause-plan_exactly g c =
     tells_plan_fault c.plans_have_one_reading.ensures _ _ c.run_words-status.ensures.run.ends
+
+pub returns-clause-no_failure : goal.returns-clause-no_failure
+returns-clause-no_failure g c =
+    tells_no_failure c.scripts_have_one_reading.ensures c.plans_have_one_reading.ensures _ _
+    c.run_words-status.ensures.run.ends

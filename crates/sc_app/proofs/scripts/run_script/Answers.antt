@@ -1,4 +1,7 @@
-use Rattle.std.proofs.Common.{List, Err, Ok, subst}
+use Rattle.std.proofs.Common.{List, Result, Err, Ok, subst}
+use Rattle.sc_base.specs.declared.refusals.OrMemory.{OrMemory}
+use Rattle.sc_print.specs.declared.faults.PrintFault.{PrintFault}
+use Rattle.sc_print.specs.Printing.{Prints}
 use Rattle.sc_read.specs.declared.reads.Read.{Read}
 use Rattle.sc_read.specs.Scripts.{TakesAsScript}
 use Rattle.sc_app.proofs.BegunLemmas.{begun, script-stops}
@@ -12,8 +15,9 @@ returns-in-Err-clause-run g c =
     let after = g.S.Source.state c.read_script.new.source in
     let taken = subst (λ (rs : List Read). TakesAsScript before after c.args.command.script rs
     c.read_script.new.reads.items (Err c.in-Err.stop)) c.requires.empty c.in-Err.ensures.script in
-    rw c.status_of_script.ensures (λ words is. script-stops words c.args.command is before after
-    (g.K.Sink.state c.args.sink.now) c.read_script.new.reads.items c.in-Err.stop taken)
+    rw c.status_of_script.ensures (λ words is. script-stops words c.args.command is
+    c.args.history.now.items c.requires.none before after (g.K.Sink.state c.args.sink.now)
+    c.read_script.new.reads.items c.in-Err.stop taken)
 
 pub returns-in-Err-read_plan-clause-run : goal.returns-in-Err-read_plan-clause-run
 returns-in-Err-read_plan-clause-run g c =
@@ -22,8 +26,9 @@ returns-in-Err-read_plan-clause-run g c =
     let after = g.S.Source.state c.read_plan.new.source in
     let taken = subst (λ (rs : List Read). TakesAsScript start mid c.args.command.script rs
     c.read_script.new.reads.items (Ok c.in-Ok.script)) c.requires.empty c.in-Ok.ensures.script in
-    rw c.status_of_plan.ensures (λ words is. plan-stops words c.args.command is start mid
-    c.in-Ok.ensures.later c.read_script.new.reads.items taken.0 taken.1 c.in-Ok.script taken.2 after
+    rw c.status_of_plan.ensures (λ words is. plan-stops words c.args.command is
+    c.args.history.now.items c.requires.none start mid c.in-Ok.ensures.later
+    c.read_script.new.reads.items taken.0 taken.1 c.in-Ok.script taken.2 after
     (g.K.Sink.state c.args.sink.now) c.read_plan.new.reads.items c.in-Err-read_plan.stop
     c.in-Err-read_plan.ensures.plan)
 
@@ -40,12 +45,13 @@ returns-in-Err-read_work-clause-run g c =
     c.in-Ok-read_plan.ensures.later taken.1 taken.2 c.in-Ok-read_plan.ensures.plan in
     let after = g.S.Source.state c.read_work.new.source in
     rw c.status_of_input.ensures (λ words is. inputs-stop words c.args.command is start before
-    c.read_plan.new.reads.items c.in-Ok.script c.in-Ok-read_plan.plan began after
-    (g.K.Sink.state c.args.sink.now) c.read_work.new.reads.items c.in-Err-read_work.stop
+    c.read_plan.new.reads.items c.in-Ok.script c.in-Ok-read_plan.plan began
+    c.args.history.now.items c.requires.none after (g.K.Sink.state c.args.sink.now)
+    c.read_work.new.reads.items c.in-Err-read_work.stop
     c.in-Err-read_work.ensures.work)
 
-pub returns-in-Ok-print_work-clause-run : goal.returns-in-Ok-print_work-clause-run
-returns-in-Ok-print_work-clause-run g c =
+pub returns-in-Ok-end-clause-run : goal.returns-in-Ok-end-clause-run
+returns-in-Ok-end-clause-run g c =
     let start = g.S.Source.state c.args.source.now in
     let mid = g.S.Source.state c.read_script.new.source in
     let taken = subst (λ (rs : List Read). TakesAsScript start mid c.args.command.script rs
@@ -56,12 +62,17 @@ returns-in-Ok-print_work-clause-run g c =
     c.read_plan.new.reads.items taken.0 c.in-Ok.script c.in-Ok-read_plan.plan c.in-Ok.ensures.later
     c.in-Ok-read_plan.ensures.later taken.1 taken.2 c.in-Ok-read_plan.ensures.plan in
     let after = g.S.Source.state c.read_work.new.source in
+    let sink = g.K.Sink.state c.args.sink.now in
+    let sink' = g.K.Sink.state c.print_work-printed.new.sink in
+    let work = c.in-Ok-read_work.work in
+    let histories = c.print_work-printed.result.histories.items in
+    let prints = subst (λ (r : Result (Unit {0}) (OrMemory PrintFault)). Prints work sink sink' r
+    histories) c.in-Ok-end.is c.print_work-printed.ensures.prints in
     λ words is. run-done words c.args.command is start before c.read_plan.new.reads.items
-    c.in-Ok.script c.in-Ok-read_plan.plan began after c.read_work.new.reads.items
-    c.in-Ok-read_work.work c.in-Ok-read_work.ensures.work.0 c.in-Ok-read_work.ensures.work.1
-    c.in-Ok-read_work.ensures.work.2 c.in-Ok-read_work.ensures.work.3 c.is_sound.ensures
-    (g.K.Sink.state c.args.sink.now) (g.K.Sink.state c.print_work.new.sink)
-    c.in-Ok-print_work.ensures.prints
+    c.in-Ok.script c.in-Ok-read_plan.plan began after c.read_work.new.reads.items work
+    c.in-Ok-read_work.ensures.work.0 c.in-Ok-read_work.ensures.work.1
+    c.in-Ok-read_work.ensures.work.2 c.in-Ok-read_work.ensures.work.3 c.is_sound.ensures histories
+    sink sink' prints.0 prints.1
 
 pub returns-clause-run : goal.returns-clause-run
 returns-clause-run g c =
@@ -75,10 +86,15 @@ returns-clause-run g c =
     c.read_plan.new.reads.items taken.0 c.in-Ok.script c.in-Ok-read_plan.plan c.in-Ok.ensures.later
     c.in-Ok-read_plan.ensures.later taken.1 taken.2 c.in-Ok-read_plan.ensures.plan in
     let after = g.S.Source.state c.read_work.new.source in
+    let sink = g.K.Sink.state c.args.sink.now in
+    let sink' = g.K.Sink.state c.print_work-printed.new.sink in
+    let work = c.in-Ok-read_work.work in
+    let histories = c.print_work-printed.result.histories.items in
+    let prints = subst (λ (r : Result (Unit {0}) (OrMemory PrintFault)). Prints work sink sink' r
+    histories) c.in-Err-end.is c.print_work-printed.ensures.prints in
     rw c.status_of_print.ensures (λ words is. printing-stops words c.args.command is start before
     c.read_plan.new.reads.items c.in-Ok.script c.in-Ok-read_plan.plan began after
-    c.read_work.new.reads.items c.in-Ok-read_work.work c.in-Ok-read_work.ensures.work.0
+    c.read_work.new.reads.items work c.in-Ok-read_work.ensures.work.0
     c.in-Ok-read_work.ensures.work.1 c.in-Ok-read_work.ensures.work.2
-    c.in-Ok-read_work.ensures.work.3 c.is_sound.ensures (g.K.Sink.state c.args.sink.now)
-    (g.K.Sink.state c.print_work.new.sink) c.in-Err-print_work.stop
-    c.in-Err-print_work.ensures.prints)
+    c.in-Ok-read_work.ensures.work.3 c.is_sound.ensures histories sink sink' c.in-Err-end.stop
+    prints)
