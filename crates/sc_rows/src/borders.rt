@@ -5,6 +5,7 @@
 #![tactic(auto)]
 
 use crate::claims::{assert_seen, assert_text};
+use crate::given::Row;
 use crate::streams::{kind_of, last_stream};
 use std::alloc::{AllocError, Global};
 use std::process::Abort;
@@ -35,8 +36,16 @@ fn assert_stops<R: Abort + AllocGlobal>(
     let stream = last_stream(rt, script.as_str(), lines.as_str());
     assert!(rt; stream.rows.len() == place.0, "{nodes}");
     assert_text(rt, kind_of(stream.raise), kind, nodes);
+    assert_limit(rt, script.as_str(), lines.as_str());
+}
+
+/// Sees that a run of a script over this text ends by the first failure of its first task.
+fn assert_limit<R: Abort + AllocGlobal>(rt: &R, script: &str, lines: &str) {
+    let row = Row::of(rt, script).file(rt, "in.txt", lines.as_bytes());
+    let seen = row.words(rt, &["--task-failures=1"]).run(rt);
+    let all = seen.all().expect(rt, "memory");
     let want = "task limit: stage 0 attempt 0 partition 0\n";
-    assert_seen(rt, script.as_str(), lines.as_str(), want);
+    assert_text(rt, all.as_str(), want, script);
 }
 
 /// The nodes over lines of 1, the line for which they raise, and the raise.

@@ -2,6 +2,7 @@
 #![tactic(auto)]
 
 use sc_app::{Ran, Status, fault_text, run};
+use sc_core::JobHistory;
 use sc_input::MemSource;
 use sc_sink::MemSink;
 use sc_value::{Name, Octets};
@@ -53,6 +54,15 @@ impl Row {
         let name = Name::new(self.alloc, name).expect(rt, "memory");
         let bytes = Octets::copy_of(self.alloc, bytes).expect(rt, "memory");
         self.source.add(name, bytes).expect(rt, "memory");
+        self
+    }
+
+    /// Adds more words.
+    pub fn words<R: Abort>(mut self, rt: &R, words: &[&str]) -> Row {
+        for word in words {
+            let word = String::from_str(self.alloc, *word).expect(rt, "memory");
+            self.words.push(word).expect(rt, "memory");
+        }
         self
     }
 
@@ -113,6 +123,11 @@ impl Seen {
     /// The number of how the run ended.
     pub fn number(&self) -> u8 {
         self.ran.status.number()
+    }
+
+    /// How its jobs went, in order.
+    pub fn histories(&self) -> &[JobHistory] {
+        self.ran.history.as_slice()
     }
 
     /// Whether the run ended for a fault of its script.

@@ -5,7 +5,8 @@
 //! are tables of text, which cost the check next to nothing: `claims` has a function that runs each
 //! kind of table, `given` makes a run of a script over files and tells what was seen of it, and
 //! `streams` shows the raise that a run doesn't tell. `jobs` begins jobs without a script, and
-//! `transcripts` lets their events happen. The other modules have a subject each.
+//! `transcripts` lets their events happen. `histories` runs a script under a fault plan and counts
+//! what its history shows. The other modules have a subject each.
 //!
 //! A test is code, so it is proved too. It is cheap where it is one call with a table, and where
 //! want of memory ends it by `expect`: a `?` is one more way out, on which all that is held has to
@@ -38,6 +39,8 @@ mod comparisons;
 #[cfg(test)]
 mod cutting;
 #[cfg(test)]
+mod failing_tasks;
+#[cfg(test)]
 mod faults;
 #[cfg(test)]
 mod forms;
@@ -48,19 +51,29 @@ mod hashes;
 #[cfg(test)]
 mod held;
 #[cfg(test)]
+mod histories;
+#[cfg(test)]
 mod job_faults;
 #[cfg(test)]
 mod job_reports;
 #[cfg(test)]
 mod job_runs;
 #[cfg(test)]
+mod job_sequences;
+#[cfg(test)]
 mod jobs;
 #[cfg(test)]
+mod kept_blocks;
+#[cfg(test)]
 mod key_columns;
+#[cfg(test)]
+mod late_reports;
 #[cfg(test)]
 mod layouts;
 #[cfg(test)]
 mod limits;
+#[cfg(test)]
+mod lost_executors;
 #[cfg(test)]
 mod map_outputs;
 #[cfg(test)]
@@ -111,6 +124,8 @@ mod transcripts;
 mod typing;
 #[cfg(test)]
 mod values;
+#[cfg(test)]
+mod wiped_stores;
 #[cfg(test)]
 mod words;
 #[cfg(test)]

@@ -177,7 +177,7 @@ m = map l (pair x (/ 10 x))
 g = groupByKey m 2
 collect g
 ----
-task limit: stage 0 attempt 0 partition 0
+task limit: stage 0 attempt 0 partition 1
 ====
 l = parallelize 1 1 0
 p = map l (pair "k" x)
@@ -191,7 +191,7 @@ p = map l (pair "k" x)
 r = reduceByKey p 1 (/ a b)
 collect r
 ----
-task limit: stage 0 attempt 0 partition 0
+task limit: stage 1 attempt 0 partition 0
 ====
 l = parallelize 1 1 2
 p = map l (pair x x)
@@ -200,7 +200,7 @@ m = mapValues r (/ 10 (- x 1))
 g = groupByKey m 2
 collect g
 ----
-task limit: stage 0 attempt 0 partition 1
+task limit: stage 1 attempt 0 partition 1
 ====
 l = parallelize 1 1 2
 p = map l (pair x x)
@@ -209,12 +209,12 @@ m = mapValues r (/ 10 (- x 1))
 g = groupByKey m 3
 collect g
 ----
-task limit: stage 0 attempt 0 partition 0
+task limit: stage 1 attempt 0 partition 1
 ====
 "#;
 
 #[test]
-fn a_raise_reaches_all_partitions_of_a_shuffle(rt: HostRuntime) {
+fn a_raise_ends_the_stage_that_computes_it(rt: HostRuntime) {
     assert_cases(&rt, "", RAISED);
 }
 

@@ -28,6 +28,22 @@ fn each_status_has_its_text_and_its_number(rt: HostRuntime) {
         partition: 1,
     };
     assert_told(&rt, limit, 6, "task limit: stage 0 attempt 0 partition 1");
+    assert_told(&rt, Status::NoExecutor, 8, "no executor");
+    assert_told(&rt, Status::Budget, 14, "budget");
+}
+
+#[test]
+fn each_limit_tells_its_stage(rt: HostRuntime) {
+    for (stage, text) in [(0, "stage limit: stage 0"), (12, "stage limit: stage 12")] {
+        assert_told(&rt, Status::StageLimit { stage }, 7, text);
+    }
+    let limit = Status::TaskLimit {
+        stage: 7,
+        stage_attempt: 4_294_967_296,
+        partition: 1023,
+    };
+    let text = "task limit: stage 7 attempt 4294967296 partition 1023";
+    assert_told(&rt, limit, 6, text);
 }
 
 #[test]
