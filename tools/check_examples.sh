@@ -4,19 +4,21 @@
 #
 #   tools/check_examples.sh
 #
-# An example is a folder of examples/. Each of its scripts NAME.spark is run in that folder with the
-# words 'run NAME.spark'; job.spark with those of args.txt, one a line, where that file is there. A
-# line of args.txt may hold any bytes. Compared are
+# An example is a folder of examples/, with one case or more. A case NAME is a script NAME.spark,
+# which is run in that folder with the words 'run NAME.spark', or with those of NAME_args.txt, one a
+# line, where that file is there. A case may be NAME_args.txt alone, which then names the script of
+# another case; that of the case job is args.txt. A line of these files may hold any bytes. Compared
+# are
 #
-#   the standard output   with expect.txt, or with nothing
-#   the standard error    with expect_err.txt, or with nothing
-#   the exit status       with expect_status.txt, or with 0
+#   the standard output   with NAME_expect.txt, or with nothing
+#   the standard error    with NAME_expect_err.txt, or with nothing
+#   the exit status       with NAME_expect_status.txt, or with 0
 #
-# and for a script other than job.spark with NAME_expect.txt and so on. Where there is output.txt,
-# the standard output of job.spark goes to the file that it names, such as /dev/full, and isn't
-# compared; an example is skipped where the system has no such file.
+# and for the case job with expect.txt and so on. Where there is output.txt, the standard output of
+# the case job goes to the file that it names, such as /dev/full, and isn't compared; the case is
+# skipped where the system has no such file.
 #
-# Prints a line a script, and ends with 1 where one differs. The program is
+# Prints a line a case, and ends with 1 where one differs. The program is
 # crates/spark_run/out/spark_run, or the file that SPARK_RUN names. Where it isn't built this says
 # so and ends with 0.
 set -u
@@ -37,15 +39,24 @@ or_nothing() {
   if [ -f "$1" ]; then echo "$1"; else echo /dev/null; fi
 }
 
-# The name of what differs where a script of the current folder is run, or nothing.
+# The names of the cases of the current folder: those of its scripts and of its files of words.
+cases() {
+  local file
+  for file in *.spark *_args.txt; do
+    file=${file%.spark}
+    case $file in '*'*) ;; *) echo "${file%_args.txt}" ;; esac
+  done | sort -u
+}
+
+# The name of what differs where a case of the current folder is run, or nothing.
 difference() {
   local name=$1 prefix="" words=(run "$1.spark") output=$scratch/out status want_status=0
   if [ "$name" != job ]; then
     prefix=${name}_
-  else
-    [ -f args.txt ] && mapfile -t words <args.txt
-    [ -f output.txt ] && output=$(cat output.txt)
+  elif [ -f output.txt ]; then
+    output=$(cat output.txt)
   fi
+  [ -f "${prefix}args.txt" ] && mapfile -t words <"${prefix}args.txt"
   if [ "$output" != "$scratch/out" ] && [ ! -e "$output" ]; then
     echo "skipped, since there is no $output"
     return
@@ -66,11 +77,13 @@ difference() {
 }
 
 result=0
-for script in "$top"/examples/*/*.spark; do
-  cd "$(dirname "$script")" || exit 1
-  found=$(difference "$(basename "$script" .spark)")
-  echo "${script#"$top"/}: ${found:-as expected}"
-  case $found in differs*) result=1 ;; esac
+for folder in "$top"/examples/*/; do
+  cd "$folder" || exit 1
+  for name in $(cases); do
+    found=$(difference "$name")
+    echo "examples/$(basename "$folder") $name: ${found:-as expected}"
+    case $found in differs*) result=1 ;; esac
+  done
 done
 
 if command -v python3 >/dev/null 2>&1; then

@@ -1,0 +1,173 @@
+#!/usr/bin/env python3
+"""Runs random scripts under random fault plans, and compares with the plain meaning.
+
+    tools/fuzz.py PROGRAM [--seed SEED] [--count COUNT] [--keep FOLDER] [--show]
+
+PROGRAM is a built one, such as crates/spark_run/out/spark_run. A case is made of each of the seeds
+SEED, SEED + 1 and so on: a script with inputs, a plan, and words that set executors and limits, the
+same ones whenever the seed is the same. tools/fuzzing/ makes it, and says without the program what
+it means. Must hold:
+
+- status 0: the standard output is exactly the text of all actions;
+- status 9: exactly the driver's fault that the meaning has, behind the texts before it;
+- an abort: the texts of some actions, whole, and a cause. Of status 6 that is a raise, or as many
+  'fail' lines of the partition as failures are allowed; of 7 as many wipes and losses as attempts
+  of a stage are; of 8 a 'lose' line of each executor;
+- where the plan leaves the first action no way to its text at all: that abort;
+- words, a script, a plan or an input that was spoiled: exactly its refusal, and nothing printed;
+- no other status, no signal, and no run of more than LIMIT seconds.
+
+Prints a paragraph for each case that differs, with its seed, and at the end how many cases ended
+with which status. Ends with 1 where one differs. With --keep the files of such a case are left in
+FOLDER/SEED, and with --show each case is printed, whatever comes.
+"""
+import argparse
+import collections
+import pathlib
+import re
+import shlex
+import subprocess
+import sys
+import tempfile
+from dataclasses import dataclass
+
+from fuzzing.cases import Case, random_case
+
+LIMIT = 60
+NO_END = 124
+SHOWN = 600
+ABORTS = {
+    6: re.compile(r"task limit: stage (\d+) attempt (\d+) partition (\d+)\n"),
+    7: re.compile(r"stage limit: stage (\d+)\n"),
+    8: re.compile(r"no executor\n"),
+}
+
+
+@dataclass(frozen=True)
+class Ran:
+    """How a run ended, and what it printed."""
+
+    status: int
+    out: str
+    err: str
+
+
+def put_files(case: Case, folder: pathlib.Path) -> None:
+    folder.mkdir(parents=True, exist_ok=True)
+    for name, content in case.files.items():
+        (folder / name).write_bytes(content)
+
+
+def run(program: pathlib.Path, case: Case) -> Ran:
+    """Runs a case in a folder of its own."""
+    with tempfile.TemporaryDirectory() as scratch:
+        put_files(case, pathlib.Path(scratch))
+        command = [str(program), "run", *case.words]
+        try:
+            ran = subprocess.run(
+                command,
+                cwd=scratch,
+                stdin=subprocess.DEVNULL,
+                capture_output=True,
+                timeout=LIMIT,
+                check=False,
+            )
+        except subprocess.TimeoutExpired:
+            return Ran(NO_END, "", f"no end within {LIMIT} seconds")
+    out, err = (text.decode(errors="replace") for text in (ran.stdout, ran.stderr))
+    return Ran(ran.returncode, out, err)
+
+
+def texts_of(case: Case) -> list[str]:
+    """The texts of the actions before the first that has none."""
+    texts = []
+    for outcome in case.script.outcomes:
+        if outcome.text is None:
+            break
+        texts.append(outcome.text)
+    return texts
+
+
+def wrong_abort(case: Case, ran: Ran, texts: list[str], raises: bool) -> str:
+    """What is wrong with an abort."""
+    told = ABORTS[ran.status].fullmatch(ran.err)
+    if told is None:
+        return "the error isn't that of the status"
+    done = range(min(len(texts) + 1, len(case.script.outcomes)))
+    if ran.out not in ("".join(texts[:number]) for number in done):
+        return "the text isn't that of some actions"
+    if ran.status == 6 and not (raises and ran.out == "".join(texts)):
+        stage, _, partition = map(int, told.groups())
+        if case.fails_at(stage, partition) < case.limits["task-failures"]:
+            return "neither a raise nor the plan explains that the task's limit was reached"
+    if ran.status == 7 and case.losses() < case.limits["stage-attempts"]:
+        return "the plan doesn't explain that the stage's limit was reached"
+    if ran.status == 8 and not case.loses_all():
+        return "the plan leaves an executor"
+    return ""
+
+
+def wrong(case: Case, ran: Ran) -> str:
+    """What is wrong with a run, in words, or nothing."""
+    if case.refusal is not None:
+        is_told = (ran.status, ran.err, ran.out) == (*case.refusal, "")
+        return "" if is_told else f"the refusal isn't {case.refusal}"
+    texts, outcomes = texts_of(case), case.script.outcomes
+    last = outcomes[len(texts)] if len(texts) < len(outcomes) else None
+    doom = case.doom() if outcomes else None
+    if doom not in (None, (ran.status, ran.err)):
+        return f"it isn't aborted with {doom}"
+    if ran.status in ABORTS:
+        return wrong_abort(case, ran, texts, last is not None and last.fault is None)
+    status, err = 0, ""
+    if last is not None:
+        if last.fault is None:
+            return "the status isn't 6, and an action raises"
+        status, err = 9, f"driver: action {len(texts)}: {last.fault}\n"
+    if (ran.status, ran.err) != (status, err):
+        return f"the status isn't {status} with the error {err!r}"
+    return "" if ran.out == "".join(texts) else f"the text isn't {''.join(texts)!r}"
+
+
+def shown(case: Case) -> str:
+    """A case as it can be read, and typed again."""
+    parts = [f"$ spark_run run {shlex.join(case.words)}"]
+    for name in sorted(case.files):
+        content = case.files[name]
+        is_plain = name in ("job.spark", "plan.txt") and b"\r" not in content
+        parts.append(f"-- {name}\n{content.decode() if is_plain else content}")
+    return "\n".join(parts)
+
+
+def main() -> int:
+    parser = argparse.ArgumentParser(
+        description=__doc__, formatter_class=argparse.RawDescriptionHelpFormatter
+    )
+    parser.add_argument("program", type=pathlib.Path)
+    parser.add_argument("--seed", type=int, default=0)
+    parser.add_argument("--count", type=int, default=100)
+    parser.add_argument("--keep", type=pathlib.Path)
+    parser.add_argument("--show", action="store_true")
+    words = parser.parse_args()
+    counts: collections.Counter[int] = collections.Counter()
+    differ = 0
+    for seed in range(words.seed, words.seed + words.count):
+        case = random_case(seed)
+        ran = run(words.program.resolve(), case)
+        counts[ran.status] += 1
+        found = wrong(case, ran)
+        if found or words.show:
+            print(f"seed {seed}: status {ran.status}: {found or 'as it should be'}\n{shown(case)}")
+            print(f"-- standard output\n{ran.out[:SHOWN]}\n-- standard error\n{ran.err[:SHOWN]}")
+        if found:
+            differ += 1
+            if words.keep:
+                put_files(case, words.keep / str(seed))
+    by_status = ", ".join(f"{status}: {counts[status]}" for status in sorted(counts))
+    print(f"seeds {words.seed} to {words.seed + words.count - 1}, by status {by_status}")
+    print(f"{words.count} cases, {differ} differ")
+    return 1 if differ else 0
+
+
+if __name__ == "__main__":
+    sys.exit(main())
