@@ -1,5 +1,5 @@
 -- What the history of an aborted job shows.
-use Rattle.std.proofs.Common.{◌≡◌, ◌≢◌, ◌∙◌, ℕ, ◌<◌, ◌≤◌, ◌&&◌, true, List, [], ◌∷◌, ◌++◌, Option, Some, None, IfSome, length, refl, ap, sym, subst, arith, true≢false}
+use Rattle.std.proofs.Common.{◌≡◌, ◌∙◌, ℕ, ◌<◌, ◌≤◌, ◌&&◌, true, List, [], ◌∷◌, ◌++◌, Option, Some, None, IfSome, length, refl, sym, subst, arith, true≢false}
 use Rattle.std.specs.List.{All, Contains}
 use Rattle.std.proofs.lemmas.Bool.{and_parts, false≢true}
 use Rattle.std.proofs.lemmas.List.Elements.{All-append, All-cons, All-contains, All-head, All-nil}
@@ -20,7 +20,6 @@ use Rattle.sc_core.specs.Sound.{IsSoundCore}
 use Rattle.sc_core.specs.declared.answers.Abort.{Abort}
 use Rattle.sc_core.specs.declared.answers.Abort.TheVariants.{Budget, NoExecutor, StageLimit, TaskLimit}
 use Rattle.sc_core.specs.declared.answers.Answer.{Answer}
-use Rattle.sc_core.specs.declared.answers.Answer.TheVariants as says
 use Rattle.sc_core.specs.declared.answers.Job.TheVariants as jobs
 use Rattle.sc_core.specs.declared.entries.Entry.{Entry}
 use Rattle.sc_core.specs.declared.events.Event.{Event}
@@ -46,7 +45,7 @@ use Rattle.sc_desk.specs.Sound.{AreEvident, EndedFor, IsEvident}
 use Rattle.sc_context.specs.Aborts.{IsAborted, IsUnplanned, ShowsAbort}
 use Rattle.sc_context.specs.Histories.{HasCome, IsHistory}
 use Rattle.sc_context.specs.Progress.{IsNext, Progress, first_progress}
-use Rattle.sc_context.proofs.CalmLemmas.{gives_none_up, opening_calm}
+use Rattle.sc_context.proofs.CalmLemmas.{gives_none_up, not_ignored, opening_calm}
 
 -- ---- evidence of what is told
 
@@ -57,9 +56,6 @@ HasEvidence work job t = (told : ℕ) × EndedFor work job told t.attempt t.outc
 abbrev IsHeardFor : WorkData → JobData → Telling → Type 0
 IsHeardFor work job t = is_heard t.answer ≡ true → HasEvidence work job t
 
-heard : (answer : Answer) → is_heard answer ≡ true → answer ≢ says.Ignored
-heard answer h e = absurd (true≢false (sym h ∙ ap is_heard e))
-
 one : {A : Type 0} (P : A → Type 0) (x : A) → P x → All P (x ∷ [])
 one P x h = All-cons P x [] h (All-nil P)
 
@@ -68,7 +64,7 @@ told_event : (work : WorkData) (job : JobData) (c : CoreData) (event : Event) (a
     → All (IsHeardFor work job) (tellings_in c event answer)
 told_event work job c (Take exec) answer h = All-nil (IsHeardFor work job)
 told_event work job c (Post a outcome) answer h =
-    one (IsHeardFor work job) (telling a outcome answer) (λ is. (c.told, h (heard answer is)))
+    one (IsHeardFor work job) (telling a outcome answer) (λ is. (c.told, h (not_ignored answer is)))
 told_event work job c (Release key) answer h = by (shelved_of c key) h
   where
     by : (o : Option Shelved)

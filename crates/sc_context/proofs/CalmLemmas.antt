@@ -1,7 +1,7 @@
 -- Where the plan has no line, no report misses an input, and no stage is given up.
-use Rattle.std.proofs.Common.{◌≡◌, ◌≢◌, ◌⊎◌, inl, inr, ℕ, zero, suc, ◌<◌, ◌≤◌, ◌==◌, ◌&&◌, ◌||◌, All, Bool, true, false, if◌then◌else◌, List, [], ◌∷◌, ◌++◌, Contains, Option, Some, None, IfSome, length, map, nat_lt, not, replicate, refl, ap, sym, subst, ◌∙◌, arith, rules, true≢false}
+use Rattle.std.proofs.Common.{◌≡◌, ◌≢◌, inl, inr, ℕ, zero, suc, ◌<◌, ◌≤◌, ◌==◌, ◌&&◌, All, Bool, true, false, if◌then◌else◌, List, [], ◌∷◌, ◌++◌, Contains, Option, Some, None, IfSome, length, nat_lt, not, replicate, refl, ap, sym, subst, ◌∙◌, arith, rules, true≢false}
 use Rattle.std.specs.List.{filter, list_any}
-use Rattle.std.proofs.lemmas.Bool.{and_parts, false≢true}
+use Rattle.std.proofs.lemmas.Bool.{and_parts}
 use Rattle.std.proofs.lemmas.Bool.Decides.{nat_tests}
 use Rattle.std.proofs.lemmas.List.Elements.{All-append, All-cons, All-contains, All-filter, All-head, All-map, All-nil, All-tail, All-weaker}
 use Rattle.sc_ids.specs.Graphs.{StageData}
@@ -22,7 +22,7 @@ use Rattle.sc_core.specs.CoreData.{CoreData, as_in, has_key, is_of, job_runs, ru
 use Rattle.sc_core.specs.HandOuts.{HandOutData}
 use Rattle.sc_core.specs.Journals.{Replays}
 use Rattle.sc_core.specs.Openings.{IsOpening, plan_behind, tracker_behind}
-use Rattle.sc_core.specs.Losses.{Loses, LosesOrAborts, is_due_after, may_be_lost, runs_on, without_executor}
+use Rattle.sc_core.specs.Losses.{Loses, LosesOrAborts, is_due_after, runs_on, without_executor}
 use Rattle.sc_core.specs.Posts.{Posts, PostsBy, PostsIf, PostsOf, comes_twice, delay_for, fits, fits_failure, is_here, was_last}
 use Rattle.sc_core.specs.Releases.{Releases, ReleasesIf, ReleasesOf}
 use Rattle.sc_core.specs.Sound.{IsShelvedWell, IsSoundCore}
@@ -55,6 +55,10 @@ use Rattle.sc_desk.proofs.PassLemmas.{Passes, ReleaseShows, losses_pass, posts_p
 use Rattle.sc_desk.proofs.TrackLemmas.{SeenWithin, ShowsWithin}
 use Rattle.sc_context.proofs.ReadyLemmas.{opened_tracker, sized_all_trust}
 use Rattle.sc_context.proofs.WholeLemmas.{IsThere, IsWhole, all_there}
+
+-- what is heard is not ignored
+pub not_ignored : (answer : Answer) → is_heard answer ≡ true → answer ≢ says.Ignored
+not_ignored answer h e = absurd (true≢false (sym h ∙ ap is_heard e))
 
 -- every input of an attempt has its place
 abbrev HasInputs : Running → Type 0
@@ -307,9 +311,6 @@ module _ (work : WorkData) (job : JobData) (empty : work.plan ≡ [])
   within_greatest (outcomes.Failed (causes.Metadata last)) = tt
   within_greatest (outcomes.Failed causes.Denied) = tt
 
-  unheard_ignored : (answer : Answer) → is_heard answer ≡ true → answer ≢ says.Ignored
-  unheard_ignored answer h e = absurd (true≢false (sym h ∙ ap is_heard e))
-
   posts_calm : (c after : CoreData) (a : AttemptId) (outcome : Outcome) (answer : Answer)
       → IsCalm c → IsEvident work job c (Post a outcome) answer → Posts c a outcome answer after
       → IsCalm after
@@ -421,7 +422,7 @@ module _ (work : WorkData) (job : JobData) (empty : work.plan ≡ [])
   step_tells c after (Post a outcome) answer calm evident step =
       All-cons IsCalmTelling (telling a outcome answer) []
       (λ heard. misses_none outcome (post_newer c after a outcome answer calm heard step)
-      (ended_within c.told a outcome (evident (unheard_ignored answer heard))))
+      (ended_within c.told a outcome (evident (not_ignored answer heard))))
       (All-nil IsCalmTelling)
   step_tells c after (Release key) answer calm evident step = by (shelved_of c key) refl evident
     where

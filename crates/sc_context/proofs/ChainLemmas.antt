@@ -1,5 +1,5 @@
 -- Jobs one behind the other.
-use Rattle.std.proofs.Common.{true≢false, Bool, true, false, ◌≡◌, ◌∙◌, inl, inr, ℕ, ◌+◌, ◌-◌, ◌<◌, List, [], ◌∷◌, ◌++◌, Some, length, slice_get, refl, ap, sym, subst, arith, append_assoc}
+use Rattle.std.proofs.Common.{true≢false, Bool, true, false, ◌≡◌, ◌∙◌, inl, inr, ◌+◌, ◌-◌, ◌<◌, List, [], ◌∷◌, ◌++◌, Some, length, slice_get, refl, ap, sym, subst, arith, append_assoc}
 use Rattle.std.specs.Option.{option_map}
 use Rattle.std.proofs.lemmas.List.{append-nil, length-append}
 use Rattle.sc_base.specs.declared.refusals.OrMemory.{OrMemory}

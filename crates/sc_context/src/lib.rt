@@ -26,5 +26,4 @@ mod went;
 
 pub use actions::Given;
 pub use context::Context;
-pub use starts::new_stores;
 pub use stops::Stopped;

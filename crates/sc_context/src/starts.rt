@@ -9,7 +9,7 @@ use sc_work::{Naming, SharedWork};
 use std::alloc::{AllocError, Global};
 
 /// An empty store for each executor, in the order of their numbers.
-pub fn new_stores<W: Naming>(
+pub(crate) fn new_stores<W: Naming>(
     alloc: Global,
     work: &SharedWork<W>,
 ) -> Result<Vec<Store<W>>, AllocError>

@@ -50,6 +50,7 @@ pub(crate) fn run_world<W: Naming>(alloc: Global, world: World<W>) -> Went<W>
     ensures none { IfErr result.rows (HasNoRows result.history.end) }
 {
     let mut world = world;
+    // Where memory runs out the job runs on, which is what its end tells.
     let _ = world.serial(alloc);
     laws_of_jobs();
     world.desk().is_sound();

@@ -1,4 +1,4 @@
-use Rattle.std.proofs.Common.{◌≡◌, ◌∙◌, IfOk, List, Option, Some, map, ap, subst, sym}
+use Rattle.std.proofs.Common.{◌≡◌, ◌∙◌, List, Option, Some, map, ap, subst, sym}
 use Rattle.sc_value.specs.Datum.{Datum}
 use Rattle.sc_core.specs.CoreData.{CoreData}
 use Rattle.sc_core.specs.declared.answers.Job.TheVariants.{Done}
