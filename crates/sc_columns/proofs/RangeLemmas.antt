@@ -1,7 +1,7 @@
 -- Ranges of lists.
 use Rattle.std.proofs.Common.{◌≡◌, ◌∙◌, ◌⊎◌, inl, inr, ℕ, zero, suc, ◌+◌, ◌-◌, ◌<◌, ◌≤◌, ◌^◌, List, [], ◌∷◌, ◌++◌, Some, length, map, min, take, drop, replicate, ap, refl, sym, arith}
 use Rattle.std.proofs.Math.Nat.{eq-or-lt_of_le}
-use Rattle.std.proofs.lemmas.List.{append-nil, drop-map, drop-replicate, length-drop, map_push, take-map, take_more}
+use Rattle.std.proofs.lemmas.List.{append-nil, drop-map, drop-replicate, length-drop, map-append, map_push, take-map, take_more}
 use Rattle.std.proofs.lemmas.Option.{get_or_from_slice_get, slice_get_within}
 use Rattle.std.specs.List.{slice_get, slice_range}
 use Rattle.sc_columns.specs.Columns.{zip_with}
@@ -56,6 +56,14 @@ pub part-map : {X Y : Type 0} (f : X → Y) (xs part : List X) (rows : List Y) (
 part-map f xs part rows a b are is =
     ap (map f) is ∙ sym (take-map f (b - a) (drop a xs))
     ∙ ap (take (b - a)) (sym (drop-map f a xs)) ∙ ap (λ r. slice_range r a b) (sym are)
+
+-- a part of rows of a form behind others of that form
+pub part_behind : {X Y : Type 0} (f : X → Y) (xs part before after : List X) (rows : List Y)
+    (a b : ℕ) → rows ≡ map f xs → part ≡ slice_range xs a b → after ≡ before ++ part
+    → map f after ≡ map f before ++ slice_range rows a b
+part_behind f xs part before after rows a b are is behind =
+    ap (map f) behind ∙ map-append f before part
+    ∙ ap (λ r. map f before ++ r) (part-map f xs part rows a b are is)
 
 take-zip_with : {X Y Z : Type 0} (f : X → Y → Z) (n : ℕ) (xs : List X) (ys : List Y)
     → take n (zip_with f xs ys) ≡ zip_with f (take n xs) (take n ys)

@@ -3,7 +3,7 @@
 
 ghost use Rattle.std.specs.Arc.{arc_value};
 ghost use Rattle.std.specs.List.{flat_map};
-ghost use Rattle.std.specs.Prelude.{◌≡◌, ◌++◌, [], ◌∷◌, if◌then◌else◌, IfOk, is_ok};
+ghost use Rattle.std.specs.Prelude.{◌≡◌, ◌++◌, [], ◌∷◌, if◌then◌else◌, IfOk, is_ok, slice_range};
 ghost use Rattle.sc_value.specs.Views.{datum_of};
 ghost use Rattle.sc_columns.specs.Columns.{rows_in, shared_rows};
 ghost use Rattle.sc_columns.specs.Runs.{run_rows};
@@ -11,7 +11,9 @@ ghost use Rattle.sc_columns.specs.Runs.{run_rows};
 use crate::chains::{chain_of, joined};
 use crate::columns::Shared;
 use crate::joins::{extend, extend_short};
+use crate::parts::part;
 use crate::pushes::{one_row, push};
+use crate::ranges::extend_range;
 use crate::rows::Rows;
 use crate::runs::{Run, closed as closed_run, closed_all};
 use sc_value::Value;
@@ -77,6 +79,24 @@ impl RowsBuilder {
             return Ok(());
         }
         self.add_or_share(alloc, rows.column())
+    }
+
+    /// Adds the rows from one place up to, not including, another, as far as there are rows. It is
+    /// [`RowsBuilder::append`] of [`Rows::part`], and makes no rows of their own of a few.
+    pub fn append_part(
+        &mut self,
+        alloc: Global,
+        rows: &Rows,
+        from: usize,
+        to: usize,
+    ) -> Result<(), AllocError>
+        ensures { self.new
+            ≡ (if is_ok result then self.old ++ slice_range rows.now from to else self.old) }
+    {
+        if to <= from || extend_range(rows.column(), from, to, &mut self.last)? {
+            return Ok(());
+        }
+        self.add_or_share(alloc, &part(alloc, rows.column(), from, to)?)
     }
 
     /// The rows, to be shared.

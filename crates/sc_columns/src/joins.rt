@@ -15,7 +15,7 @@ use std::alloc::{AllocError, Global};
 use std::sync::Arc;
 
 /// From how many rows on a column is long: to hold it by itself costs less than to copy it.
-const LONG_LEN: usize = 1024;
+pub const LONG_LEN: usize = 1024;
 
 /// Adds the rows of a column behind a run, unless one of them is long and would be copied for that,
 /// or answers that they don't go together.

@@ -27,6 +27,7 @@ mod picks;
 mod printing;
 mod prints;
 mod pushes;
+mod ranges;
 mod rows;
 mod runs;
 mod selections;

@@ -8,7 +8,8 @@ ghost use Rattle.sc_columns.specs.Columns.{rows_in};
 use crate::columns::{
     Column, Shared, bools, chained, ints, len, lists, pairs, same, texts, values,
 };
-use sc_value::{Held, Texts};
+use crate::ranges::texts_of;
+use sc_value::Held;
 use std::alloc::{AllocError, Global};
 use std::sync::Arc;
 
@@ -19,7 +20,7 @@ pub fn part(alloc: Global, column: &Column, from: usize, to: usize) -> Result<Sh
     match column {
         Column::Ints(v) => ints(alloc, held_part(v, from, to)?),
         Column::Bools(v) => bools(alloc, held_part(v, from, to)?),
-        Column::Texts(t) => texts(alloc, texts_part(t, from, to)?),
+        Column::Texts(t) => texts(alloc, texts_of(t, from, to)?),
         Column::Pairs(a, b) => {
             let first = part(alloc, a, from, to)?;
             let second = part(alloc, b, from, to)?;
@@ -54,11 +55,4 @@ fn held_part<T: Drop>(held: &Held<T>, from: usize, to: usize) -> Result<Held<T>,
 {
     let end = to.min(held.len());
     held.part(from.min(end), end)
-}
-
-fn texts_part(texts: &Texts, from: usize, to: usize) -> Result<Texts, AllocError>
-    ensures { IfOk result (λ t. t ≡ slice_range texts.now from to) }
-{
-    let end = to.min(texts.len());
-    texts.part(from.min(end), end)
 }

@@ -21,12 +21,12 @@ returns-in_ok-held_part-in-Bools t c =
     c.args.from c.args.to (at-Bools c.args.column.now c.in-Bools.v c.in-Bools.is)
     c.in_ok-held_part-in-Bools.ensures) c.bools.ensures
 
-pub returns-in_ok-texts_part-in-Texts : goal.returns-in_ok-texts_part-in-Texts
-returns-in_ok-texts_part-in-Texts t c =
+pub returns-in_ok-texts_of-in-Texts : goal.returns-in_ok-texts_of-in-Texts
+returns-in_ok-texts_of-in-Texts t c =
     IfOk-weaker c.texts.result _ _ (λ r is. is
-    ∙ part-map text c.in-Texts.t c.in_ok-texts_part-in-Texts.field-0 (rows_in c.args.column.now)
+    ∙ part-map text c.in-Texts.t c.in_ok-texts_of-in-Texts.field-0 (rows_in c.args.column.now)
     c.args.from c.args.to (at-Texts c.args.column.now c.in-Texts.t c.in-Texts.is)
-    c.in_ok-texts_part-in-Texts.ensures) c.texts.ensures
+    c.in_ok-texts_of-in-Texts.ensures) c.texts.ensures
 
 pub returns-in_ok-held_part-in-Values : goal.returns-in_ok-held_part-in-Values
 returns-in_ok-held_part-in-Values t c =
