@@ -1,17 +1,15 @@
 -- What stands at the places of a group, a bucket or a number.
-use Rattle.std.proofs.Common.{◌≡◌, ◌∙◌, ℕ, zero, suc, ◌+◌, ◌-◌, ◌<◌, Bool, true, false, cond, List, [], ◌∷◌, ◌++◌, Option, Some, length, map, take, drop, refl, ap, ap₂, sym, subst, arith, ◌==◌, ◌||◌, if◌then◌else◌, filter, filter_map, ne_eqb, not, get_or, IfSome, slice_get, slice_range, true≢false}
-use Rattle.std.proofs.lemmas.List.{map-append, take_more}
-use Rattle.std.proofs.lemmas.Option.{slice_get-get_or}
+use Rattle.std.proofs.Common.{◌≡◌, ◌∙◌, ℕ, zero, suc, ◌+◌, ◌<◌, Bool, true, false, cond, List, [], ◌∷◌, Option, Some, length, map, refl, ap, ap₂, sym, subst, arith, ◌==◌, ◌||◌, if◌then◌else◌, filter, filter_map, ne_eqb, not, slice_get, true≢false}
 use Rattle.std.proofs.lemmas.List.Elements.{All-append, All-cons, All-head, All-nil, All-tail}
 use Rattle.std.specs.Cmp.{IsEquivalence}
 use Rattle.std.specs.List.{All, AllByRecursion, IsDistinct, concat, cons_option, list_any}
 use Rattle.sc_base.specs.Lists.{numbers_from}
 use Rattle.sc_keys.specs.Groups.{distinct, groups, place_in}
 use Rattle.sc_keys.specs.Laws.{IsSplit}
-use Rattle.sc_keys.specs.Splits.{IsRangeOf, places_from, places_of}
+use Rattle.sc_keys.specs.Splits.{places_from, places_of}
 use Rattle.sc_keys.proofs.GroupLemmas.{are_distinct}
 use Rattle.sc_keys.proofs.SplitLemmas.{length-numbers}
-use Rattle.sc_value.specs.Picked.{ArePlaces, picked}
+use Rattle.sc_value.specs.Picked.{picked}
 
 -- the rows of a bucket
 place_by : {X : Type 0} (b : Bool) (get : ℕ → Option X) (i : ℕ) (x : X) (ps : List ℕ)
@@ -145,62 +143,3 @@ is_split n ns = record {
       number_get (λ j. places_of j ns) 0 n j below ∙ ap (λ k. Some (places_of k ns)) e;
   within = all_inside ns 0 n;
 }
-
--- ranges of picked rows
-some_at : {X : Type 0} (xs : List X) (i : ℕ) → i < length xs → (x : X) × (slice_get xs i ≡ Some x)
-some_at [] i within = absurd (omega arith)
-some_at (x ∷ xs) zero within = (x, refl)
-some_at (x ∷ xs) (suc i) within = some_at xs i (omega arith)
-
-picked-drop : {X : Type 0} (rows : List X) (n : ℕ) (ps : List ℕ) → ArePlaces rows ps
-    → drop n (picked rows ps) ≡ picked rows (drop n ps)
-picked-drop rows zero ps all = refl
-picked-drop rows (suc n) [] all = refl
-picked-drop rows (suc n) (p ∷ ps) all =
-    let here = some_at rows p (All-head (λ i. i < length rows) p ps all) in
-    ap (λ o. drop (suc n) (cons_option o (picked rows ps))) here.1
-    ∙ picked-drop rows n ps (All-tail (λ i. i < length rows) p ps all)
-
-picked-take : {X : Type 0} (rows : List X) (n : ℕ) (ps : List ℕ) → ArePlaces rows ps
-    → take n (picked rows ps) ≡ picked rows (take n ps)
-picked-take rows zero ps all = refl
-picked-take rows (suc n) [] all = refl
-picked-take rows (suc n) (p ∷ ps) all =
-    let here = some_at rows p (All-head (λ i. i < length rows) p ps all) in
-    ap (λ o. take (suc n) (cons_option o (picked rows ps))) here.1
-    ∙ ap (λ r. here.0 ∷ r) (picked-take rows n ps (All-tail (λ i. i < length rows) p ps all))
-    ∙ ap (λ o. cons_option o (picked rows (take n ps))) (sym here.1)
-
-places-drop : {X : Type 0} (rows : List X) (n : ℕ) (ps : List ℕ) → ArePlaces rows ps
-    → ArePlaces rows (drop n ps)
-places-drop rows zero ps all = all
-places-drop rows (suc n) [] all = all
-places-drop rows (suc n) (p ∷ ps) all =
-    places-drop rows n ps (All-tail (λ i. i < length rows) p ps all)
-
-pub picked-range : {X : Type 0} (rows : List X) (ps : List ℕ) (from to : ℕ) → ArePlaces rows ps
-    → slice_range (picked rows ps) from to ≡ picked rows (slice_range ps from to)
-picked-range rows ps from to all =
-    ap (take (to - from)) (picked-drop rows from ps all)
-    ∙ picked-take rows (to - from) (drop from ps) (places-drop rows from ps all)
-
--- the rows of one more number
-pub rows_next : {X : Type 0} (rows all part : List X) (lists : List (List ℕ)) (order : List ℕ)
-    (j : ℕ) (range : ℕ × ℕ) (out more : List (List X)) → j < length lists
-    → ArePlaces rows (concat lists)
-    → IfSome (slice_get lists j) (λ places. IsRangeOf (concat lists) places range)
-    → order ≡ concat lists → all ≡ picked rows order → part ≡ slice_range all range.0 range.1
-    → out ≡ map (picked rows) (take j lists) → more ≡ out ++ part ∷ []
-    → more ≡ map (picked rows) (take (j + 1) lists)
-rows_next rows all part lists order j range out more within inside found whole picks is are pushed =
-    let own = get_or lists j [] in
-    let range_is : IsRangeOf (concat lists) own range =
-    subst (λ o. IfSome o (λ places. IsRangeOf (concat lists) places range))
-    (slice_get-get_or lists j [] within) found in
-    let here : part ≡ picked rows own =
-    is ∙ ap (λ rs. slice_range rs range.0 range.1) (picks ∙ ap (picked rows) whole)
-    ∙ picked-range rows (concat lists) range.0 range.1 inside
-    ∙ ap (picked rows) range_is.are in
-    pushed ∙ ap₂ (λ xs x. xs ++ x ∷ []) are here
-    ∙ sym (map-append (picked rows) (take j lists) (own ∷ []))
-    ∙ ap (map (picked rows)) (sym (take_more lists j [] within))

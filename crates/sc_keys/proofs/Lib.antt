@@ -1,6 +1,7 @@
 pub mod PlaceLemmas
 pub mod SplitLemmas
 pub mod CutLemmas
+pub mod PickLemmas
 pub mod ViewLemmas
 pub mod LentLemmas
 pub mod LawLemmas

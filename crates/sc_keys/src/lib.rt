@@ -5,7 +5,7 @@
 //! number of each row: its bucket, its range, its group in order of first appearance.
 //! [`Keys::order`] gives the places of a stable sort, [`Keys::bounds`] the bounds of ranges. A
 //! [`Split`] holds the places of rows by such numbers in one array, so that [`Split::rows`] picks
-//! all rows once, and shares ranges of them.
+//! all rows once, and [`CutRows`] has ranges of them.
 //!
 //! To sort or group the rows of several partitions, put these behind one another first:
 //! [`Rows::concat`](sc_columns::Rows::concat) and `RowsBuilder::append` copy no row, and
@@ -18,6 +18,7 @@
 #![tactic(auto)]
 
 mod buckets;
+mod cuts;
 mod grouping;
 mod keyed;
 mod laws;
@@ -26,6 +27,7 @@ mod orders;
 mod ranges;
 mod splitting;
 
+pub use cuts::CutRows;
 pub use grouping::Groups;
 pub use keyed::Keys;
 pub use laws::{bucket_law, distinct_law, group_law, range_law, split_law};

@@ -1,4 +1,4 @@
-use Rattle.sc_keys.proofs.LawLemmas.{picked-range}
+use Rattle.sc_keys.proofs.PickLemmas.{picked-range}
 use Rattle.sc_keys.proofs.laws.range_law.Goals as goal
 
 pub returns : goal.returns
