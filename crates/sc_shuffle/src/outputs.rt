@@ -1,24 +1,25 @@
 //! Map outputs.
 #![tactic(auto)]
 
-ghost use Rattle.std.specs.Prelude.{◌≡◌, ◌<◌, [], IfOk, length};
-ghost use Rattle.std.specs.List.{All};
+ghost use Rattle.std.specs.Prelude.{◌≡◌, ◌<◌, ◌++◌, [], IfOk, if◌then◌else◌, is_ok, length};
+ghost use Rattle.std.specs.List.{All, flat_map};
 ghost use Rattle.sc_base.specs.Lists.{at_or};
 ghost use Rattle.sc_shuffle.specs.Buckets.{by_bucket};
 
 use sc_columns::{Rows, RowsBuilder};
-use sc_keys::Split;
-use sc_value::Held;
+use sc_keys::{CutRows, Split};
 use std::alloc::{AllocError, Global};
 use std::marker::Model;
+use std::sync::Arc;
 
 /// The rows of a map partition by bucket, which many may hold at once.
 #[derive(Drop)]
 pub struct MapOutput {
-    buckets: Held<Rows>,
+    buckets: Arc<CutRows>,
 }
 
 impl Model for MapOutput {
+    ghost use Rattle.std.specs.Arc.{arc_value};
     ghost use Rattle.std.specs.Prelude.{List};
     ghost use Rattle.std.specs.Coded.{coded_list};
     ghost use Rattle.sc_value.specs.Datum.{Datum};
@@ -28,7 +29,7 @@ impl Model for MapOutput {
 
     ghost coded = { coded_list (coded_list datum_code) };
 
-    ghost view = { λ m. m.buckets };
+    ghost view = { λ m. arc_value m.buckets };
 }
 
 impl MapOutput {
@@ -46,16 +47,8 @@ impl MapOutput {
     {
         let places = Split::of(alloc, buckets, n)?;
         let buckets = places.rows(alloc, rows)?;
-        let output = MapOutput::of(alloc, buckets)?;
-        Ok(output)
-    }
-
-    /// The rows of each bucket, as they stand.
-    pub fn of(alloc: Global, buckets: Vec<Rows>) -> Result<MapOutput, AllocError>
-        ensures { IfOk result (λ m. m ≡ buckets.items) }
-    {
         Ok(MapOutput {
-            buckets: Held::new(alloc, buckets)?,
+            buckets: Arc::new(alloc, buckets)?,
         })
     }
 
@@ -70,10 +63,15 @@ impl MapOutput {
     pub fn rows(&self, alloc: Global, bucket: usize) -> Result<Rows, AllocError>
         ensures { IfOk result (λ r. r ≡ at_or self.now bucket []) }
     {
-        match self.buckets.as_slice().get(bucket) {
-            Some(rows) => rows.share(),
-            None => RowsBuilder::new(alloc).finish(alloc),
-        }
+        self.buckets.rows(alloc, bucket)
+    }
+
+    /// Adds the rows of a bucket behind others; past the last bucket there are none.
+    fn add_to(&self, alloc: Global, bucket: usize, out: &mut RowsBuilder) -> Result<(), AllocError>
+        ensures { out.new
+            ≡ (if is_ok result then out.old ++ at_or self.now bucket [] else out.old) }
+    {
+        self.buckets.add_to(alloc, bucket, out)
     }
 
     /// The same output again, which copies nothing of it.
@@ -81,7 +79,26 @@ impl MapOutput {
         ensures { IfOk result (λ m. m ≡ self.now) }
     {
         Ok(MapOutput {
-            buckets: self.buckets.share()?,
+            buckets: Arc::try_clone(&self.buckets)?,
         })
     }
+}
+
+/// The rows of a bucket, which some outputs have, behind one another in the order of the outputs.
+/// It takes time by the outputs and by the rows of this bucket alone.
+pub fn rows_of_bucket(
+    alloc: Global,
+    outputs: &[MapOutput],
+    bucket: usize,
+) -> Result<Rows, AllocError>
+    ensures { IfOk result (λ r. r ≡ flat_map (λ m. at_or m bucket []) outputs.now) }
+{
+    if let [only] = outputs {
+        return only.rows(alloc, bucket);
+    }
+    let mut out = RowsBuilder::new(alloc);
+    for output in outputs {
+        output.add_to(alloc, bucket, &mut out)?;
+    }
+    out.finish(alloc)
 }
