@@ -2,13 +2,11 @@
 #![tactic(auto)]
 
 ghost use Rattle.std.specs.Prelude.{◌≡◌, IfOk, List};
-ghost use Rattle.std.specs.List.{flat_map};
 ghost use Rattle.sc_lineage.specs.Keyed.{met};
 ghost use Rattle.sc_lineage.specs.declared.nodes.Meeting.TheVariants.{Cogroup};
 ghost use Rattle.sc_value.specs.Datum.{Datum};
 ghost use Rattle.sc_combine.specs.Groupings.{AreSides};
 
-use crate::columns::joined;
 use crate::crossing::crossed;
 use crate::grouping::group;
 use crate::sides::Side;
@@ -28,15 +26,11 @@ pub struct Sides {
     pub right: Side,
 }
 
-/// What the rows of two sides give that have the same keys. The rows of each side stand by map
-/// partition, in order.
-pub fn meet(alloc: Global, kind: Meeting, left: &[Rows], right: &[Rows]) -> Result<Rows, AllocError>
-    ensures { IfOk result (λ r. r ≡ met kind (flat_map (λ rows. rows) left.now)
-        (flat_map (λ rows. rows) right.now)) }
+/// What the rows of two sides give that have the same keys.
+pub fn meet(alloc: Global, kind: Meeting, left: &Rows, right: &Rows) -> Result<Rows, AllocError>
+    ensures { IfOk result (λ r. r ≡ met kind left.now right.now) }
 {
-    let left = joined(alloc, left)?;
-    let right = joined(alloc, right)?;
-    let sides = sides_of(alloc, &left, &right)?;
+    let sides = sides_of(alloc, left, right)?;
     match kind {
         Meeting::Cogroup => {
             let rows = gathered(alloc, sides)?;

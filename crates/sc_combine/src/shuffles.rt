@@ -1,12 +1,10 @@
 //! The map side and the reduce side of a shuffle.
 #![tactic(auto)]
 
-ghost use Rattle.std.specs.List.{flat_map};
 ghost use Rattle.sc_base.specs.Answers.{Answers};
 ghost use Rattle.sc_lineage.specs.Shuffles.{map_side as map_side_of, reduce_side as reduce_side_of};
 ghost use Rattle.sc_lineage.specs.Views.{shuffling_data_of};
 
-use crate::columns::joined;
 use crate::combining::combined;
 use crate::grouping::grouped;
 use crate::sorting::in_key_order;
@@ -38,20 +36,19 @@ pub fn map_side(alloc: Global, kind: &Shuffling, input: &Stream) -> Result<Rows,
     }
 }
 
-/// What a partition makes of the rows of its bucket, which stand by map partition, in order.
+/// What a partition makes of the rows of its bucket, in the order of the map partitions.
 ///
 /// # Errors
 ///
 /// The first raise of an expression over two values, unless memory runs out.
-pub fn reduce_side(alloc: Global, kind: &Shuffling, maps: &[Rows]) -> Result<Rows, OrMemory<Raise>>
+pub fn reduce_side(alloc: Global, kind: &Shuffling, rows: &Rows) -> Result<Rows, OrMemory<Raise>>
     ensures { Answers (λ rows. rows) (λ r. r) result
-        (reduce_side_of (shuffling_data_of kind.now) (flat_map (λ rows. rows) maps.now)) }
+        (reduce_side_of (shuffling_data_of kind.now) rows.now) }
 {
-    let rows = joined(alloc, maps)?;
     match kind {
-        Shuffling::ReduceByKey { expr } => combined(alloc, expr, &rows),
-        Shuffling::GroupByKey => Ok(grouped(alloc, &rows)?),
-        Shuffling::SortByKey => Ok(in_key_order(alloc, &rows)?),
-        Shuffling::Repartition => Ok(rows),
+        Shuffling::ReduceByKey { expr } => combined(alloc, expr, rows),
+        Shuffling::GroupByKey => Ok(grouped(alloc, rows)?),
+        Shuffling::SortByKey => Ok(in_key_order(alloc, rows)?),
+        Shuffling::Repartition => Ok(rows.share()?),
     }
 }

@@ -1,5 +1,6 @@
 -- What goes into a shuffle, and what is read of it.
 use Rattle.std.proofs.Common.{◌≡◌, ◌∙◌, ℕ, suc, List, [], ◌∷◌, ◌++◌, Ok, Err, Result, map, refl, ap, ap₂, sym, subst, Bor}
+use Rattle.std.proofs.lemmas.List.{append-nil}
 use Rattle.std.specs.List.{flat_map}
 use Rattle.sc_base.specs.Lists.{at_or}
 use Rattle.sc_base.specs.Answers.{Answers}
@@ -39,7 +40,7 @@ first_raises (rows ∷ maps) rest r f = first_raises maps rest r (λ more. f (ro
 -- the rows of a bucket of each map partition are those that are read
 pub dealt_read : (dealing : Dealing) (p m : ℕ) (maps : List (List Datum))
     (ds : List (List (List Datum))) → AreDealt dealing m maps ds
-    → flat_map (λ rows. rows) (map (λ d. at_or d p []) ds) ≡ bucket_read dealing p m maps
+    → flat_map (λ d. at_or d p []) ds ≡ bucket_read dealing p m maps
 dealt_read dealing p m [] [] are = refl
 dealt_read dealing p m [] (d ∷ ds) are = absurd are
 dealt_read dealing p m (rows ∷ maps) [] are = absurd are
@@ -47,13 +48,11 @@ dealt_read dealing p m (rows ∷ maps) (d ∷ ds) are =
     ap₂ (λ xs ys. xs ++ ys) (are.0.each p) (dealt_read dealing p (suc m) maps ds are.1)
 
 -- the rows of a bucket of one map partition
-pub own_read : (before parts : List (List Datum)) (part rows : List Datum)
-    (dealt : List (List Datum)) (n p : ℕ) → before ≡ [] → parts ≡ before ++ part ∷ []
+pub own_read : (part rows : List Datum) (dealt : List (List Datum)) (n p : ℕ)
     → part ≡ at_or dealt p [] → IsDealt (by_hash n) 0 rows dealt
-    → flat_map (λ xs. xs) parts ≡ bucket_read (by_hash n) p 0 (rows ∷ [])
-own_read before parts part rows dealt n p none are is deals =
-    ap (flat_map (λ xs. xs)) (are ∙ ap (λ xss. xss ++ part ∷ []) none)
-    ∙ ap (λ xs. xs ++ []) (is ∙ deals.each p)
+    → part ≡ bucket_read (by_hash n) p 0 (rows ∷ [])
+own_read part rows dealt n p is deals =
+    sym (append-nil part) ∙ ap (λ xs. xs ++ []) (is ∙ deals.each p)
 
 -- how a shuffle deals rows out, by its partitioner
 pub deals_by_hash : (kind : ShufflingData) (n m : ℕ) (bounds : List KeyData)
@@ -91,11 +90,10 @@ module _ (kind : ShufflingData) (dealing : Dealing) (p : ℕ) (streams : List St
   abbrev of_maps : List (List Datum) → Side
   of_maps maps = reduce_side kind (bucket_read dealing p 0 maps)
 
-  pub shuffled_rows : (maps parts : List (List Datum)) → map (map_side kind) streams ≡ map Ok maps
-      → flat_map (λ rows. rows) parts ≡ bucket_read dealing p 0 maps
-      → shuffled_stream kind dealing p streams
-      ≡ stream_of_side (reduce_side kind (flat_map (λ rows. rows) parts))
-  shuffled_rows maps parts opens read =
+  pub shuffled_rows : (maps : List (List Datum)) (rows : List Datum)
+      → map (map_side kind) streams ≡ map Ok maps → rows ≡ bucket_read dealing p 0 maps
+      → shuffled_stream kind dealing p streams ≡ stream_of_side (reduce_side kind rows)
+  shuffled_rows maps rows opens read =
       ap stream_of_side
       (opens_then (map (map_side kind) streams) maps of_maps opens
       ∙ ap (reduce_side kind) (sym read))
@@ -113,13 +111,10 @@ module _ (kind : Meeting) (n p : ℕ) (lefts rights : List Stream) where
   abbrev of_both : List (List Datum) → List (List Datum) → Side
   of_both ls rs = Ok (met kind (bucket_read (by_hash n) p 0 ls) (bucket_read (by_hash n) p 0 rs))
 
-  pub met_rows : (ls rs first second : List (List Datum)) → passed lefts ≡ map Ok ls
-      → passed rights ≡ map Ok rs
-      → flat_map (λ rows. rows) first ≡ bucket_read (by_hash n) p 0 ls
-      → flat_map (λ rows. rows) second ≡ bucket_read (by_hash n) p 0 rs
-      → met_stream kind n p lefts rights
-      ≡ stream_of_side (Ok (met kind (flat_map (λ rows. rows) first)
-      (flat_map (λ rows. rows) second)))
+  pub met_rows : (ls rs : List (List Datum)) (first second : List Datum)
+      → passed lefts ≡ map Ok ls → passed rights ≡ map Ok rs
+      → first ≡ bucket_read (by_hash n) p 0 ls → second ≡ bucket_read (by_hash n) p 0 rs
+      → met_stream kind n p lefts rights ≡ stream_of_side (Ok (met kind first second))
   met_rows ls rs first second opens_left opens_right read_left read_right =
       ap stream_of_side
       (opens_then (passed lefts) ls (λ more. of_sides (of_both more) (passed rights)) opens_left
@@ -141,15 +136,15 @@ module _ (kind : Meeting) (n p : ℕ) (lefts rights : List Stream) where
 
 -- what is read where the rows of each map partition are dealt out
 pub read_dealt : (kind : ShufflingData) (dealing : Dealing) (n p : ℕ) (from : ReadFrom)
-    (lent : Bor (List (List (List Datum)))) (streams : List Stream) (parts : List (List Datum))
+    (lent : Bor (List (List (List Datum)))) (streams : List Stream) (rows : List Datum)
     → from ≡ Dealt lent → IsReadFrom kind dealing n from streams
-    → parts ≡ map (λ d. at_or d p []) lent.now
+    → rows ≡ flat_map (λ d. at_or d p []) lent.now
     → (maps : List (List Datum)) × (map (map_side kind) streams ≡ map Ok maps)
-    × (flat_map (λ rows. rows) parts ≡ bucket_read dealing p 0 maps)
-read_dealt kind dealing n p from lent streams parts is read are =
+    × (rows ≡ bucket_read dealing p 0 maps)
+read_dealt kind dealing n p from lent streams rows is read are =
     let P : ReadFrom → Type 0 = λ f. IsReadFrom kind dealing n f streams in
     let so : IsReadFrom kind dealing n (Dealt lent) streams = subst P is read in
-    (so.0, so.1, ap (flat_map (λ rows. rows)) are ∙ dealt_read dealing p 0 so.0 lent.now so.2)
+    (so.0, so.1, are ∙ dealt_read dealing p 0 so.0 lent.now so.2)
 
 -- a right side that couldn't be read
 pub gives_right : (kind : Meeting) (n p : ℕ) (lefts rights : List Stream)

@@ -1,6 +1,5 @@
 -- What a partition of a shuffle reads of a parent.
-use Rattle.std.specs.declared.alloc.Global.{Global}
-use Rattle.std.specs.Prelude.{Vec, ℕ, ◌≡◌, List, [], ◌∷◌, Option, Some, None, Result, Ok, Err, map}
+use Rattle.std.specs.Prelude.{ℕ, ◌≡◌, List, [], ◌∷◌, Option, Some, None, Result, Ok, Err, map}
 use Rattle.std.specs.List.{flat_map}
 use Rattle.sc_base.specs.declared.refusals.OrMemory.{OrMemory}
 use Rattle.sc_base.specs.declared.refusals.OrMemory.TheVariants.{Fault, OutOfMemory}
@@ -67,13 +66,13 @@ ReadsFrom (inputs.Dealt dealt) own (Dealt lent) = lent.now ≡ dealt.items
 ReadsFrom (inputs.Raised r) own (Raised q) = q ≡ r
 ReadsFrom input own from = ⊥
 
--- what was read of bucket p: its rows by map partition, or the first raise of any
+-- what was read of bucket p: its rows in the order of the map partitions, or the first raise of any
 abbrev pub ReadsBucket :
     ShufflingData → Dealing → ℕ → List Stream
-    → Result (Vec (List Datum) Global) (OrMemory Raise) → Type 0
-ReadsBucket kind dealing p streams (Ok parts) =
+    → Result (List Datum) (OrMemory Raise) → Type 0
+ReadsBucket kind dealing p streams (Ok rows) =
     (maps : List (List Datum)) × Opens (map (map_side kind) streams) (Ok maps)
-    × (flat_map (λ rows. rows) parts.items ≡ bucket_read dealing p 0 maps)
+    × (rows ≡ bucket_read dealing p 0 maps)
 ReadsBucket kind dealing p streams (Err (Fault r)) = Opens (map (map_side kind) streams) (Err r)
 ReadsBucket kind dealing p streams (Err OutOfMemory) = Unit {0}
 

@@ -23,12 +23,12 @@ use sc_part::Bounds;
 use std::alloc::{AllocError, Global};
 
 /// What an action gives, by the rows of the results of all its partitions in order, of which none
-/// raises.
-pub fn settle(alloc: Global, action: &Action, results: &[Rows]) -> Result<Evaluated, AllocError>
+/// raises. The rows of each are let go once they were printed.
+pub fn settle(alloc: Global, action: &Action, results: Vec<Rows>) -> Result<Evaluated, AllocError>
     ensures settles { IfOk result (Settles (outcome_of_rows (action_data_of action.now)
-        (flat_map (λ rows. rows) results.now))) }
+        (flat_map (λ rows. rows) results.items))) }
     ensures gives { (work : WorkData)
-        → local_results work (action_data_of action.now) ≡ map whole_stream results.now
+        → local_results work (action_data_of action.now) ≡ map whole_stream results.items
         → IfOk result (Gives work (action_data_of action.now)) }
 {
     let gathered = all_gathered(alloc, action, results)?;
@@ -39,15 +39,16 @@ pub fn settle(alloc: Global, action: &Action, results: &[Rows]) -> Result<Evalua
 fn all_gathered<'a>(
     alloc: Global,
     action: &'a Action,
-    results: &[Rows],
+    results: Vec<Rows>,
 ) -> Result<Gathered<'a>, AllocError>
     ensures { IfOk result (λ g. IsGathered (action_data_of action.now) g
-        (flat_map (λ rows. rows) results.now)) }
+        (flat_map (λ rows. rows) results.items)) }
 {
     let mut gathered = Gathered::new(alloc, action);
-    for i in 0..results.len() {
-        let left = u32::try_from(results.len() - i).unwrap_or(u32::MAX);
-        gathered.add(alloc, &results[i], left)?;
+    let mut left = u32::try_from(results.len()).unwrap_or(u32::MAX);
+    for rows in results {
+        gathered.add(alloc, &rows, left)?;
+        left = left.saturating_sub(1);
     }
     Ok(gathered)
 }

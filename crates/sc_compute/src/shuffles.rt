@@ -1,8 +1,7 @@
 //! A partition of a shuffle.
 #![tactic(auto)]
 
-ghost use Rattle.std.specs.Prelude.{◌≡◌, ◌<◌, [], ◌∷◌, IfOk, List, map};
-ghost use Rattle.sc_base.specs.Lists.{at_or};
+ghost use Rattle.std.specs.Prelude.{◌≡◌, ◌<◌, [], ◌∷◌, IfOk, List};
 ghost use Rattle.sc_lineage.specs.NodeData.{group_by_key};
 ghost use Rattle.sc_lineage.specs.Shuffles.{Dealing, by_hash, met_stream, shuffled_stream};
 ghost use Rattle.sc_lineage.specs.Views.{shuffling_data_of};
@@ -14,7 +13,7 @@ use sc_columns::Rows;
 use sc_combine::{dealt_by_hash, map_side, meet, reduce_side};
 use sc_expr::Raise;
 use sc_lineage::{Meeting, Shuffling, Stream};
-use sc_shuffle::MapOutput;
+use sc_shuffle::{MapOutput, rows_of_bucket};
 use std::alloc::{AllocError, Global};
 
 /// What a partition of a shuffle reads of a parent.
@@ -77,8 +76,8 @@ fn shuffled_side(
         → IsReadFrom (shuffling_data_of kind.now) dealing n from.entry streams
         → GivesSide result (shuffled_stream (shuffling_data_of kind.now) dealing p streams) }
 {
-    let parts = bucket_rows(alloc, kind, n, from, p)?;
-    reduce_side(alloc, kind, &parts)
+    let rows = bucket_rows(alloc, kind, n, from, p)?;
+    reduce_side(alloc, kind, &rows)
 }
 
 /// The rows of a partition where two sides meet, or its raise.
@@ -102,7 +101,7 @@ fn met_side(
     Ok(meet(alloc, kind, &first, &second)?)
 }
 
-/// The rows of bucket `p` of `n`, by map partition.
+/// The rows of bucket `p` of `n`, in the order of the map partitions.
 ///
 /// # Errors
 ///
@@ -113,7 +112,7 @@ fn bucket_rows(
     n: u32,
     from: ReadFrom<'_>,
     p: u32,
-) -> Result<Vec<Rows>, OrMemory<Raise>>
+) -> Result<Rows, OrMemory<Raise>>
     requires some_partitions { 0 < n }
     ensures { (dealing : Dealing) (streams : List Stream)
         → IsReadFrom (shuffling_data_of kind.now) dealing n from.entry streams
@@ -121,7 +120,7 @@ fn bucket_rows(
 {
     match from {
         ReadFrom::Own(stream) => own_rows(alloc, kind, n, stream, p),
-        ReadFrom::Dealt(dealt) => Ok(dealt_rows(alloc, dealt, p)?),
+        ReadFrom::Dealt(dealt) => Ok(rows_of_bucket(alloc, dealt, p as usize)?),
         ReadFrom::Raised(raise) => Err(OrMemory::Fault(raise)),
     }
 }
@@ -133,26 +132,13 @@ fn own_rows(
     n: u32,
     own: &Stream,
     p: u32,
-) -> Result<Vec<Rows>, OrMemory<Raise>>
+) -> Result<Rows, OrMemory<Raise>>
     requires some_partitions { 0 < n }
     ensures { ReadsBucket (shuffling_data_of kind.now) (by_hash n) p (own.now ∷ []) result }
 {
     let rows = map_side(alloc, kind, own)?;
     let dealt = dealt_by_hash(alloc, &rows, n)?;
-    let mut parts = Vec::with_capacity(alloc, 1)?;
-    parts.push(dealt.rows(alloc, p as usize)?)?;
-    Ok(parts)
-}
-
-/// The rows of bucket `p` of each map partition.
-fn dealt_rows(alloc: Global, dealt: &[MapOutput], p: u32) -> Result<Vec<Rows>, AllocError>
-    ensures { IfOk result (λ v. v.items ≡ map (λ d. at_or d p []) dealt.now) }
-{
-    let mut parts = Vec::with_capacity(alloc, dealt.len())?;
-    for map in dealt {
-        parts.push(map.rows(alloc, p as usize)?)?;
-    }
-    Ok(parts)
+    Ok(dealt.rows(alloc, p as usize)?)
 }
 
 /// Rows as a stream, of which a raise leaves no row.

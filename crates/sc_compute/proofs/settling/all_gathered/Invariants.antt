@@ -1,12 +1,12 @@
-use Rattle.std.proofs.Common.{◌*◌, ◌-◌, ◌^◌, ◌≤◌, flat_map, take}
+use Rattle.std.proofs.Common.{◌*◌, ◌-◌, ◌^◌, ◌≤◌, flat_map, length}
 use Rattle.sc_lineage.specs.Views.{action_data_of}
 use Rattle.sc_compute.specs.Gathering.{IsGathered, rows_counted}
 use Rattle.sc_compute.proofs.settling.all_gathered.Given as goal
 
-abbrev pub invariant-loop-i : goal.invariant-loop-i
-invariant-loop-i l =
+abbrev pub invariant-loop-rows : goal.invariant-loop-rows
+invariant-loop-rows l =
     record {
       gathered : IsGathered (action_data_of l.action) l.gathered
-          (flat_map (λ rows. rows) (take l.i l.results));
-      count : rows_counted l.gathered ≤ l.i * (2 ^ 64 - 1);
+          (flat_map (λ rows. rows) l.yielded);
+      count : rows_counted l.gathered ≤ length l.yielded * (2 ^ 64 - 1);
     }

@@ -1,8 +1,5 @@
-use Rattle.std.proofs.Common.{◌∙◌, List, ap, ap₂, sym}
+use Rattle.std.proofs.Common.{◌∙◌, ap, sym}
 use Rattle.std.proofs.lemmas.Result.{err_from_is_err_and}
-use Rattle.std.specs.List.{flat_map}
-use Rattle.sc_value.specs.Datum.{Datum}
-use Rattle.sc_lineage.specs.Keyed.{met}
 use Rattle.sc_lineage.specs.Shuffles.{by_hash}
 use Rattle.sc_lineage.specs.Streams.{whole_stream}
 use Rattle.sc_compute.proofs.SideLemmas.{gives_right, met_rows}
@@ -21,10 +18,6 @@ pub returns : goal.returns
 returns c = λ lefts rights from_left from_right.
     let first = c.in_ok-first.ensures (by_hash c.args.n) lefts from_left in
     let second = c.in_ok-second.ensures (by_hash c.args.n) rights from_right in
-    let all : List (List Datum) → List Datum = λ parts. flat_map (λ rows. rows) parts in
-    met_rows c.args.kind c.args.n c.args.p lefts rights first.0 second.0 c.in_ok-first.first.items
-    c.in_ok-second.second.items first.1 second.1 first.2 second.2
-    ∙ ap whole_stream
-    (sym (c.in_ok-meet.ensures
-    ∙ ap₂ (λ xs ys. met c.args.kind (all xs) (all ys)) c.deref.ensures.value
-    c.deref-2.ensures.value))
+    met_rows c.args.kind c.args.n c.args.p lefts rights first.0 second.0 c.in_ok-first.first
+    c.in_ok-second.second first.1 second.1 first.2 second.2
+    ∙ ap whole_stream (sym c.in_ok-meet.ensures)

@@ -6,7 +6,6 @@ pub returns : goal.returns
 returns c = (
   c.in_ok-rows.rows ∷ [],
   ap (λ s. s ∷ []) c.in_ok-rows.ensures,
-  own_read c.in_ok-parts.parts.items c.push.new.self.items c.in_ok-rows-2.field-0
-      c.in_ok-rows.rows c.in_ok-dealt.dealt c.args.n c.args.p c.in_ok-parts.ensures.items
-      c.in_ok-push.ensures.items c.in_ok-rows-2.ensures (c.in_ok-dealt.ensures 0),
+  own_read c.in_ok-rows-2.field-0 c.in_ok-rows.rows c.in_ok-dealt.dealt c.args.n c.args.p
+      c.in_ok-rows-2.ensures (c.in_ok-dealt.ensures 0),
 )

@@ -1,6 +1,3 @@
-use Rattle.std.proofs.Common.{◌∙◌, List, ap}
-use Rattle.std.specs.List.{flat_map}
-use Rattle.sc_value.specs.Datum.{Datum}
 use Rattle.sc_lineage.specs.Shuffles.{reduce_side, shuffled_stream}
 use Rattle.sc_lineage.specs.Views.{shuffling_data_of}
 use Rattle.sc_compute.proofs.SideLemmas.{gives, shuffled_rows}
@@ -9,9 +6,7 @@ use Rattle.sc_compute.proofs.shuffles.shuffled_side.Goals as goal
 pub returns : goal.returns
 returns c = λ dealing streams read.
     let kind = shuffling_data_of c.args.kind.now in
-    let parts = c.in_ok-parts.ensures dealing streams read in
-    let all : List (List Datum) → List Datum = λ rows. flat_map (λ xs. xs) rows in
-    gives c.reduce_side.result (reduce_side kind (all c.deref.result.now))
+    let rows = c.in_ok-rows.ensures dealing streams read in
+    gives c.reduce_side.result (reduce_side kind c.in_ok-rows.rows)
     (shuffled_stream kind dealing c.args.p streams) c.reduce_side.ensures
-    (shuffled_rows kind dealing c.args.p streams parts.0 c.deref.result.now parts.1
-    (ap all c.deref.ensures.value ∙ parts.2))
+    (shuffled_rows kind dealing c.args.p streams rows.0 c.in_ok-rows.rows rows.1 rows.2)
