@@ -12,10 +12,11 @@ ghost use Rattle.sc_stagecut.specs.Carrying.{HasBounds};
 use crate::context::Context;
 use crate::jobs::Ended;
 use crate::stops::Stopped;
+use sc_columns::Rows;
 use sc_compute::{Evaluated, settle};
 use sc_jobs::Goal;
 use sc_laws::outcome_law;
-use sc_work::Naming;
+use sc_work::{Naming, SharedWork};
 use std::alloc::{AllocError, Global};
 
 /// What an action gave, and the context behind its jobs.
@@ -57,16 +58,17 @@ impl<W: Naming> Context<W> {
             return Err(self.without_memory());
         };
         let ended = self.run_job(alloc, Goal::Action { number })?;
-        let Ok(value) = ended.value(alloc) else {
-            return Err(Stopped::without_memory(ended.histories));
-        };
         let Ended {
             work,
             passed,
             stores,
             histories,
+            rows,
             ..
         } = ended;
+        let Ok(value) = value_of(alloc, &work, number, rows) else {
+            return Err(Stopped::without_memory(histories));
+        };
         let context = Context {
             work,
             passed,
@@ -78,19 +80,20 @@ impl<W: Naming> Context<W> {
     }
 }
 
-impl<W: Naming> Ended<W> {
-    /// What an action gives, whose rows these are.
-    fn value(&self, alloc: Global) -> Result<Evaluated, AllocError>
-        requires within { self.now.actions < length W.work.script.actions }
-        requires results { AreRowsFor W.work (goals.Action self.now.actions) self.now.rows.items }
-        ensures { IfOk result
-            (Evaluates W.work (goal_action W.work (goals.Action self.now.actions))) }
-    {
-        self.work.is_named();
-        let work = self.work.get();
-        work.is_sound();
-        outcome_law();
-        let action = &work.script().actions()[self.actions as usize];
-        settle(alloc, action, self.rows.as_slice())
-    }
+/// What an action gives, whose rows these are.
+fn value_of<W: Naming>(
+    alloc: Global,
+    work: &SharedWork<W>,
+    number: u32,
+    rows: Vec<Rows>,
+) -> Result<Evaluated, AllocError>
+    requires within { number < length W.work.script.actions }
+    requires results { AreRowsFor W.work (goals.Action number) rows.items }
+    ensures { IfOk result (Evaluates W.work (goal_action W.work (goals.Action number))) }
+{
+    work.is_named();
+    let work = work.get();
+    work.is_sound();
+    outcome_law();
+    settle(alloc, &work.script().actions()[number as usize], rows)
 }

@@ -6,10 +6,10 @@ use Rattle.sc_context.proofs.ChainLemmas.{stops_ended}
 use Rattle.sc_context.proofs.JobLemmas.{context_behind}
 use Rattle.sc_context.proofs.context.Context.run_own_job.Goals as goal
 
-pub returns-in_default-value-clause-stops : goal.returns-in_default-value-clause-stops
-returns-in_default-value-clause-stops g c =
+pub returns-in_default-value_of-clause-stops : goal.returns-in_default-value_of-clause-stops
+returns-in_default-value_of-clause-stops g c =
     let e = c.in_ok-ended.ended in
-    let left = c.without_memory-in_default-value in
+    let left = c.without_memory-in_default-value_of in
     stops_ended g.W.Naming.work c.args.self (goals.Action c.self.inside.actions)
     left.result.why e.passed e.stores.items e.histories.items
     left.result.histories.items e.rows.items c.is_sound.ensures.come c.in_ok-ended.ensures.ended

@@ -1,33 +1,31 @@
-use Rattle.std.proofs.Common.{◌∙◌, IfOk, map, ap, subst, sym}
+use Rattle.std.proofs.Common.{◌∙◌, IfOk, ap, subst, sym}
 use Rattle.std.specs.List.{flat_map}
 use Rattle.sc_compute.specs.Evaluations.{Gives, Settles}
 use Rattle.sc_lineage.specs.Actions.{local_results, outcome_of_rows}
 use Rattle.sc_lineage.specs.ScriptData.{ScriptData, WorkData, IsSoundScript}
-use Rattle.sc_lineage.specs.Streams.{whole_stream}
 use Rattle.sc_lineage.specs.Views.{action_data_of}
 use Rattle.sc_context.specs.Contexts.{Evaluates}
 use Rattle.sc_context.proofs.ResultLemmas.{action_at, both_ok, evaluates, node_within, within_read}
-use Rattle.sc_context.proofs.jobs.Ended.value.Goals as goal
+use Rattle.sc_context.proofs.actions.value_of.Goals as goal
 
 pub returns : goal.returns
 returns g c =
     let work = g.W.Naming.work in
-    let k = c.args.self.now.actions in
+    let k = c.args.number in
     let read = c.actions.result.now in
-    let rows = c.as_slice.result.now in
-    let action = action_data_of c.index-actions-self.result in
+    let rows = c.args.rows.items in
+    let action = action_data_of c.index-actions-number.result in
     let same = c.get-work.ensures ∙ c.is_named.ensures in
     let are = c.actions.ensures ∙ ap (λ (s : ScriptData). s.actions) c.script.ensures
     ∙ ap (λ (w : WorkData). w.script.actions) same in
     let within = within_read action_data_of read work.script.actions k are c.requires.within in
-    let at = action_at read work.script.actions k c.index-actions-self.result are within
-    c.index-actions-self.is in
+    let at = action_at read work.script.actions k c.index-actions-number.result are within
+    c.index-actions-number.is in
     let sound = subst (λ (w : WorkData). IsSoundScript w.script) same c.is_sound.ensures.script in
-    let known = node_within work read k c.index-actions-self.result sound are c.requires.within
-    c.index-actions-self.is in
+    let known = node_within work read k c.index-actions-number.result sound are c.requires.within
+    c.index-actions-number.is in
     let all = flat_map (λ rs. rs) rows in
-    let results = ap (local_results work) (sym at) ∙ c.requires.results
-    ∙ ap (map whole_stream) (sym c.as_slice.ensures.value) in
+    let results = ap (local_results work) (sym at) ∙ c.requires.results in
     subst (λ a. IfOk c.settle.result (Evaluates work a)) (sym at)
     (both_ok c.settle.result (Settles (outcome_of_rows action all)) (Gives work action)
     (Evaluates work action)
