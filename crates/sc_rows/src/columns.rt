@@ -175,6 +175,31 @@ fn rows_stand_behind_others_of_any_form(rt: HostRuntime) {
     }
 }
 
+/// Two parts of rows behind all rows, taken twice so that the second comes behind its own kind.
+fn added(alloc: Global, rows: &Rows, from: usize, to: usize) -> Result<Rows, AllocError> {
+    let mut builder = RowsBuilder::new(alloc);
+    builder.append(alloc, rows)?;
+    builder.append_part(alloc, rows, from, to)?;
+    builder.append_part(alloc, rows, from, to)?;
+    builder.finish(alloc)
+}
+
+/// Sees the parts of three rows behind these.
+fn assert_added<R: Abort + AllocGlobal>(rt: &R, rows: &Rows, items: &str) {
+    for (from, to, places) in &PARTS {
+        let part = some_of(rt.alloc(), items, *places).expect(rt, "memory");
+        let want = format!(in rt.alloc(); "{items}{part}{part}").expect(rt, "memory");
+        assert_made(rt, added(rt.alloc(), rows, *from, *to), want.as_str());
+    }
+}
+
+#[test]
+fn a_part_of_rows_of_any_form_stands_behind_them(rt: HostRuntime) {
+    for (i, items) in PRINTED.iter().enumerate() {
+        assert_added(&rt, &form(&rt, i), *items);
+    }
+}
+
 /// The items of the lists of each form, each with a `|` behind it.
 const ITEMS: [&str; FORMS] = ["", "", "", "", "", "", "a|b|c|", "a|b|||c|", "-1|0|7|", ""];
 

@@ -99,16 +99,17 @@ fn shuffled<R: Abort + AllocGlobal>(
     kind: &Shuffling,
     parts: &str,
 ) -> Result<Rows, OrMemory<Raise>> {
-    let mut maps = Vec::new(rt.alloc());
+    let mut all = RowsBuilder::new(rt.alloc());
     for words in parts.split('|') {
         let input = Stream {
             rows: rows_of(rt, words),
             raise: None,
         };
         let rows = map_side(rt.alloc(), kind, &input)?;
-        maps.push(rows).expect(rt, "memory");
+        all.append(rt.alloc(), &rows).expect(rt, "memory");
     }
-    reduce_side(rt.alloc(), kind, &maps)
+    let rows = all.finish(rt.alloc()).expect(rt, "memory");
+    reduce_side(rt.alloc(), kind, &rows)
 }
 
 #[test]
@@ -133,8 +134,8 @@ fn two_sides_meet_key_by_key(rt: HostRuntime) {
         } else {
             Meeting::Cogroup
         };
-        let left = [rows_of(&rt, left)];
-        let right = [rows_of(&rt, right)];
+        let left = rows_of(&rt, left);
+        let right = rows_of(&rt, right);
         let rows = meet(rt.alloc(), kind, &left, &right).expect(&rt, "memory");
         assert_eq!(rt; text_of(&rt, &rows).as_str(), want);
     }
@@ -162,7 +163,7 @@ fn rows_that_are_held_once_are_put_together_too(rt: HostRuntime) {
     let pair = pair_of(&rt, "a:2");
     let rows = Rows::repeated(rt.alloc(), pair, 3).expect(&rt, "memory");
     let kind = shuffling_of(&rt, "sum");
-    let rows = reduce_side(rt.alloc(), &kind, &[rows]).expect(&rt, "no raise");
+    let rows = reduce_side(rt.alloc(), &kind, &rows).expect(&rt, "no raise");
     assert_eq!(rt; text_of(&rt, &rows).as_str(), "(a,6)");
 }
 

@@ -57,12 +57,14 @@ fn push_places<R: Abort>(rt: &R, out: &mut String, split: &Split) {
     }
 }
 
-/// How many rows each number has.
-fn sizes_of<R: Abort + AllocGlobal>(rt: &R, split: &Split, rows: &Rows) -> Vec<u32>
-    requires { ArePlaces rows.now (concat split.now) }
+/// How many rows each number has, among all that were picked by it.
+fn sizes_of<R: Abort + AllocGlobal>(rt: &R, split: Split, rows: &Rows) -> Vec<u32>
+    requires { ArePlaces rows.now (concat split) }
 {
+    let cut = split.rows(rt.alloc(), rows).expect(rt, "memory");
     let mut sizes = Vec::new(rt.alloc());
-    for part in &split.rows(rt.alloc(), rows).expect(rt, "memory") {
+    for number in 0..cut.len() {
+        let part = cut.rows(rt.alloc(), number).expect(rt, "memory");
         let size = u32::try_from(part.len()).expect(rt, "few rows");
         sizes.push(size).expect(rt, "memory");
     }
@@ -78,13 +80,15 @@ fn made_of<R: Abort + AllocGlobal>(rt: &R, rows: &Rows) -> String {
     let order = keys.order(rt.alloc()).expect(rt, "memory");
     let groups = keys.groups(rt.alloc()).expect(rt, "memory");
     let split = Split::of(rt.alloc(), &groups.numbers, groups.count).expect(rt, "memory");
-    let sizes = sizes_of(rt, &split, rows);
+    let mut places = String::new(rt.alloc());
+    push_places(rt, &mut places, &split);
+    let sizes = sizes_of(rt, split, rows);
     let mut out = String::new(rt.alloc());
     for numbers in [&buckets, &ranges, &order, &groups.numbers, &sizes] {
         push_numbers(rt, &mut out, numbers);
         out.push(';').expect(rt, "memory");
     }
-    push_places(rt, &mut out, &split);
+    out.push_str(places.as_str()).expect(rt, "memory");
     out
 }
 

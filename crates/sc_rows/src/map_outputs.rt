@@ -3,7 +3,7 @@
 
 use sc_columns::{Rows, RowsBuilder};
 use sc_keys::Keys;
-use sc_shuffle::MapOutput;
+use sc_shuffle::{MapOutput, rows_of_bucket};
 use sc_value::{Value, print};
 use std::process::Abort;
 
@@ -35,6 +35,11 @@ fn output_of<R: Abort + AllocGlobal>(rt: &R, rows: &Rows, marks: &Rows) -> MapOu
 /// The rows of a bucket as they are printed, with a space between two of them.
 fn text_of<R: Abort + AllocGlobal>(rt: &R, output: &MapOutput, bucket: usize) -> String {
     let rows = output.rows(rt.alloc(), bucket).expect(rt, "memory");
+    printed(rt, &rows)
+}
+
+/// Rows as they are printed, with a space between two of them.
+fn printed<R: Abort + AllocGlobal>(rt: &R, rows: &Rows) -> String {
     let mut out = String::new(rt.alloc());
     for i in 0..rows.len() {
         if i > 0 {
@@ -68,5 +73,37 @@ fn the_rows_of_each_bucket_stand_in_order(rt: HostRuntime) {
         assert_eq!(rt; all_of(&rt, &output).as_str(), want);
         assert_eq!(rt; all_of(&rt, &shared).as_str(), want);
         assert!(rt; text_of(&rt, &shared, output.len()).is_empty());
+    }
+}
+
+/// Map outputs of numbers and marks, a bar between two of them.
+fn outputs_of<R: Abort + AllocGlobal>(rt: &R, maps: &str) -> Vec<MapOutput> {
+    let mut outputs = Vec::new(rt.alloc());
+    for map in maps.split('|') {
+        let (rows, marks) = map.split_once(',').expect(rt, "marks");
+        let output = output_of(rt, &rows_of(rt, rows), &rows_of(rt, marks));
+        outputs.push(output).expect(rt, "memory");
+    }
+    outputs
+}
+
+/// In each line: map outputs, and the rows of their first, second and third bucket together.
+const TOGETHER: &str = "5 6 7 8,1 0 1 2|9 3,0 1|4,7;5 7 9 4/6 3/8/\n\
+1 2 3,2 0 0;1/2 3//\n\
+,|5 6,1 2|,;5/6//\n";
+
+#[test]
+fn the_rows_of_a_bucket_stand_in_the_order_of_the_map_outputs(rt: HostRuntime) {
+    for line in TOGETHER.lines() {
+        let (maps, want) = line.split_once(';').expect(&rt, "outputs");
+        let outputs = outputs_of(&rt, maps);
+        let mut seen = String::new(rt.alloc());
+        for bucket in 0..3 {
+            let rows = rows_of_bucket(rt.alloc(), &outputs, bucket).expect(&rt, "memory");
+            seen.push_str(printed(&rt, &rows).as_str())
+                .expect(&rt, "memory");
+            seen.push('/').expect(&rt, "memory");
+        }
+        assert_eq!(rt; seen.as_str(), want);
     }
 }

@@ -72,9 +72,8 @@ fn id(map: u32) -> BlockId {
 fn block<W: Naming>(alloc: Global, map: u32) -> Result<Block<W>, AllocError>
     requires { W.work.script.nodes ≡ [] }
 {
-    let mut buckets = Vec::new(alloc);
-    buckets.push(Rows::of_ints(alloc, Vec::new(alloc))?)?;
-    Ok(Block::new(id(map), MapOutput::of(alloc, buckets)?))
+    let rows = Rows::of_ints(alloc, Vec::new(alloc))?;
+    Ok(Block::new(id(map), MapOutput::build(alloc, &rows, &[], 1)?))
 }
 
 fn put<W: Naming>(alloc: Global, store: &mut Store<W>, map: u32) -> Result<Told, AllocError>
