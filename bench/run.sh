@@ -8,7 +8,8 @@
 # The jobs are the scripts of bench/jobs; bench/rust does the same by hand, on one thread. Before a
 # job is measured the outputs of both are compared, and a job whose outputs differ isn't measured.
 # Then each program runs three times, in turn with the other, its output thrown away. The table has
-# the medians of the wall times, their ratio, and the most memory that a run took. A last table has
+# the medians of the wall times, their ratio, and the most memory that a run took. A second table has
+# a word count under the fault plans of bench/plans, beside the same without a plan, and the last one
 # the start of the program on a script without inputs, beside the start of mawk.
 #
 # It needs the built program, rustc, python3 and GNU time, mawk for the last table, and room for the
@@ -18,7 +19,7 @@ set -eu
 here=$(cd "$(dirname "$0")" && pwd)
 program=${SPARK_RUN:-$here/../crates/spark_run/out/spark_run}
 plain=$here/rust/target/plain
-jobs=(concat sums pairs choice lengths pipeline lineage repeated word_count sum_by_key)
+jobs=(concat sums pairs choice lengths pipeline lineage repeated cached word_count sum_by_key)
 keyed=(sort group)
 rounds=3
 starts=20
@@ -69,6 +70,7 @@ measure_job() {
   local job=$1 megabytes=$2 round
   shift 2
   local ours=("$program" run "../../jobs/$job.spark")
+  [ "$job" != cached ] || ours+=(--executors 1)
   local theirs=("$plain" "$job" "$@")
   if ! cmp -s <("${ours[@]}" 2>&1) <("${theirs[@]}" 2>&1); then
     echo "| $job | $megabytes | the outputs differ | | | | |"
@@ -85,6 +87,28 @@ measure_job() {
     -v m="$(peak "$scratch/ours")" -v n="$(peak "$scratch/theirs")" 'BEGIN {
       printf "| %s | %d | %.3f | %.3f | %.2f | %.0f | %.0f |\n",
         job, mb, a / 1e6, b / 1e6, a / b, m / 1024, n / 1024
+    }'
+}
+
+# Measures a word count by four executors under a fault plan, in the folder that it is called in, and
+# prints its row. What it prints is that of the run without a plan.
+measure_plan() {
+  local plan=$1 round
+  shift
+  local ours=("$program" run ../../jobs/word_count.spark --executors 4)
+  if ! cmp -s <("${ours[@]}" 2>&1) <("${ours[@]}" "$@" 2>&1); then
+    echo "| $plan | the outputs differ | | |"
+    result=1
+    return
+  fi
+  rm -f "$scratch/ours" "$scratch/planned"
+  for ((round = 0; round < rounds; round++)); do
+    measure "$scratch/ours" "${ours[@]}"
+    measure "$scratch/planned" "${ours[@]}" "$@"
+  done
+  awk -v plan="$plan" -v a="$(median "$scratch/planned")" -v b="$(median "$scratch/ours")" \
+    -v m="$(peak "$scratch/planned")" 'BEGIN {
+      printf "| %s | %.3f | %.2f | %.0f |\n", plan, a / 1e6, a / b, m / 1024
     }'
 }
 
@@ -120,6 +144,17 @@ cd "$here/data/10"
 make_keys 10
 measure_job few_buckets 10 keys.txt
 measure_job buckets 10 keys.txt
+
+echo
+echo "| plan | spark_run s | to no plan | spark_run MB |"
+echo "|---|---|---|---|"
+for megabytes in "$@"; do
+  cd "$here/data/$megabytes"
+  measure_plan "none, $megabytes MB"
+  for plan in empty one_store three_stores; do
+    measure_plan "$plan, $megabytes MB" --plan "../../plans/$plan.txt"
+  done
+done
 
 if ! command -v mawk >/dev/null 2>&1; then
   echo "bench: no table of starts, since there is no mawk" >&2

@@ -95,3 +95,13 @@ pub fn repeated(text: &str, out: &mut impl Write) -> io::Result<()> {
     }
     Ok(())
 }
+
+/// The same of words that are found once and kept.
+pub fn cached(text: &str, out: &mut impl Write) -> io::Result<()> {
+    let kept: Vec<&str> = lines(text).flat_map(words).collect();
+    for bound in BOUNDS {
+        let before = kept.iter().filter(|word| **word < bound);
+        writeln!(out, "{}", before.count())?;
+    }
+    Ok(())
+}

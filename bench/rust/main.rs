@@ -27,6 +27,7 @@ fn main() -> io::Result<()> {
         "pipeline" => jobs::pipeline(&text, &mut out)?,
         "lineage" => jobs::lineage(&text, &mut out)?,
         "repeated" => jobs::repeated(&text, &mut out)?,
+        "cached" => jobs::cached(&text, &mut out)?,
         "word_count" => keyed::word_count(&text, &mut out)?,
         "sum_by_key" => keyed::sum_by_key(&text, &mut out)?,
         "sort" => keyed::sort(&text, &mut out)?,
