@@ -37,6 +37,8 @@ mod committing;
 #[cfg(test)]
 mod comparisons;
 #[cfg(test)]
+mod contexts;
+#[cfg(test)]
 mod cutting;
 #[cfg(test)]
 mod failing_tasks;
@@ -130,6 +132,12 @@ mod wiped_stores;
 mod words;
 #[cfg(test)]
 mod worked;
+#[cfg(test)]
+mod works;
+#[cfg(test)]
+mod world_lines;
+#[cfg(test)]
+mod worlds;
 #[cfg(test)]
 mod writers;
 #[cfg(test)]

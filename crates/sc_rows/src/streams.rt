@@ -14,7 +14,7 @@ use std::alloc::Global;
 use std::process::Abort;
 
 /// Adds a file.
-fn add<R: Abort>(rt: &R, alloc: Global, source: &mut MemSource, name: &str, text: &str) {
+pub fn add<R: Abort>(rt: &R, alloc: Global, source: &mut MemSource, name: &str, text: &str) {
     let name = Name::new(alloc, name).expect(rt, "memory");
     let bytes = Octets::copy_of(alloc, text.as_bytes()).expect(rt, "memory");
     source.add(name, bytes).expect(rt, "memory");

@@ -65,7 +65,7 @@ fn write_last<R: Abort>(rt: &R, journal: &Journal, text: &mut String) {
 }
 
 /// The numbers of a line, in order.
-fn numbers_of<R: Abort + AllocGlobal>(rt: &R, line: &str) -> Vec<u32> {
+pub fn numbers_of<R: Abort + AllocGlobal>(rt: &R, line: &str) -> Vec<u32> {
     let mut numbers = Vec::new(rt.alloc());
     for word in line.split([' ', '.', ',', ':', '@', '-']) {
         if let Ok(number) = word.parse::<u32>() {
@@ -76,7 +76,7 @@ fn numbers_of<R: Abort + AllocGlobal>(rt: &R, line: &str) -> Vec<u32> {
 }
 
 /// A number of a line; 0 where there are fewer.
-fn at(numbers: &[u32], place: usize) -> u32 {
+pub fn at(numbers: &[u32], place: usize) -> u32 {
     numbers.get(place).copied().unwrap_or(0)
 }
 

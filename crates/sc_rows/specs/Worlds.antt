@@ -1,0 +1,11 @@
+-- The worlds that tests begin.
+use Rattle.std.specs.Prelude.{None}
+use Rattle.sc_lineage.specs.ScriptData.{WorkData}
+use Rattle.sc_jobs.specs.declared.goals.Goal.TheVariants as goals
+use Rattle.sc_desk.specs.Begins.{Begins}
+use Rattle.sc_desk.specs.DeskData.{DeskData, PassedData}
+
+-- the desk of the first action, with which a run begins
+abbrev pub IsFirstDesk : WorkData → DeskData → Type 0
+IsFirstDesk work desk =
+    (passed : PassedData) × Begins work passed None (goals.Action 0) desk
