@@ -10,6 +10,7 @@ Prints one line a place, 'FILE:LINE: what is wrong', and ends with 1 where it fo
 - a group or a crate of crates.txt that ARCHITECTURE.md or README.md lacks;
 - the word "today" in a document, but for README.md between its marks;
 - a line of code, clauses, definitions or proofs past 100 columns, but for imports;
+- a history.txt of an example that no test of sc_rows has word for word;
 - a list in a document that the crates don't bear out: those of docs/READING.md, of docs/TESTING.md
   and of CONTRIBUTING.md. `make docs` brings all of them up to date.
 """
@@ -194,6 +195,14 @@ def column_faults(files: Files) -> Iterator[Fault]:
                     yield name, number, f"has {len(line)} columns"
 
 
+def history_faults(files: Files) -> Iterator[Fault]:
+    tests = [text for name, text in files.items() if name.startswith("crates/sc_rows/src/")]
+    for name, text in files.items():
+        if name.startswith("examples/") and name.endswith("/history.txt"):
+            if not any(text in test for test in tests):
+                yield name, 1, "is no text of a test of sc_rows"
+
+
 def list_faults(crates: Crates) -> Iterator[Fault]:
     reading = crates.text(refresh_reading.PAGE)
     for fault in refresh_reading.faults(crates, reading):
@@ -229,7 +238,14 @@ def main() -> int:
     parser.add_argument("root", nargs="?", type=pathlib.Path, default=here, help="the repository")
     root = parser.parse_args().root.resolve()
     files = read_files(root)
-    of_files = (label_faults, name_faults, crate_faults, today_faults, column_faults)
+    of_files = (
+        label_faults,
+        name_faults,
+        crate_faults,
+        today_faults,
+        column_faults,
+        history_faults,
+    )
     found = [fault for faults in of_files for fault in faults(files)]
     found += list_faults(Crates(root))
     for name, number, fault in found:

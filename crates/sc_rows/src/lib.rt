@@ -113,6 +113,8 @@ mod statuses;
 #[cfg(test)]
 mod stores;
 #[cfg(test)]
+mod stories;
+#[cfg(test)]
 mod streams;
 #[cfg(test)]
 mod structures;
