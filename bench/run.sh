@@ -8,9 +8,9 @@
 # The jobs are the scripts of bench/jobs; bench/rust does the same by hand, on one thread. Before a
 # job is measured the outputs of both are compared, and a job whose outputs differ isn't measured.
 # Then each program runs three times, in turn with the other, its output thrown away. The table has
-# the medians of the wall times, their ratio, and the most memory that a run took. A second table has
-# a word count under the fault plans of bench/plans, beside the same without a plan, and the last one
-# the start of the program on a script without inputs, beside the start of mawk.
+# the medians of the wall times, their ratio, and the most memory that a run took. A second table
+# has a word count under the fault plans of bench/plans, beside the same without a plan, and the
+# last one the start of the program on a script without inputs, beside the start of mawk.
 #
 # It needs the built program, rustc, python3 and GNU time, mawk for the last table, and room for the
 # inputs in bench/data. Ends with 1 where outputs differed.
@@ -90,8 +90,8 @@ measure_job() {
     }'
 }
 
-# Measures a word count by four executors under a fault plan, in the folder that it is called in, and
-# prints its row. What it prints is that of the run without a plan.
+# Measures a word count by four executors under a fault plan, in the folder that it is called in,
+# and prints its row. What it prints is that of the run without a plan.
 measure_plan() {
   local plan=$1 round
   shift
