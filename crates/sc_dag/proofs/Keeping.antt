@@ -1,5 +1,5 @@
 -- Calls that finish no task keep what holds of every job.
-use Rattle.std.proofs.Common.{◌≡◌, ℕ, zero, suc, ◌-◌, Bool, true, List, [], ◌∷◌, length, map, Option, Some, None, option_map, slice_get, refl, ap, sym, ◌∙◌, true≢false}
+use Rattle.std.proofs.Common.{◌≡◌, ℕ, zero, suc, ◌-◌, Bool, true, List, [], ◌∷◌, length, map, Option, Some, None, option_map, slice_get, refl, ap, sym, ◌∙◌, true≢false, IfSome, ◌<◌}
 use Rattle.std.proofs.lemmas.List.{length-map}
 use Rattle.sc_ids.specs.Graphs.{StageData}
 use Rattle.sc_ids.specs.declared.attempts.AttemptId.{AttemptId}
@@ -17,6 +17,8 @@ use Rattle.sc_dag.proofs.Moving.{newest_among}
 use Rattle.sc_dag.proofs.Sets.{KeepsSet, SameFinish, keeps_end, keeps_failure, keeps_handed, keeps_hold, keeps_zombie, same_end, same_failure, same_handed, same_hold, same_zombie}
 use Rattle.sc_dag.proofs.SoundAttempts.{KeepsAttempt, attempts_mapped, keeps_with, set_kept, state_quiet}
 use Rattle.sc_dag.proofs.SoundStages.{IsNewest, sound_with}
+use Rattle.sc_dag.proofs.Charging.{charged_failed, charged_forgiven, charged_newest, charged_own, spares_end, spares_failure, spares_handed, spares_hold}
+use Rattle.sc_dag.proofs.Charges.{IsGivenUp}
 
 -- a change of a set that finishes no task
 pub quiet :
@@ -31,7 +33,9 @@ pub handed_sound :
     → IsSoundDag (handed_out d a exec now)
 handed_sound d a exec now sound may =
     sound_with d a.stage _ (λ state. births_changed state.attempts (length state.attempts - 1)
-    (with_set (λ set. handed set a.partition exec now)) (λ x. refl)) sound (λ state at is.
+    (with_set (λ set. handed set a.partition exec now)) (λ x. refl))
+    (λ state are at. charged_newest d.tracker.epoch (λ set. handed set a.partition exec now)
+    (spares_handed a.partition exec now) state are) sound (λ state at is.
     state_quiet d.tracker (stage_at d a.stage) state (length state.attempts - 1)
     (with_set (λ set. handed set a.partition exec now))
     (λ x newest. quiet (stage_at d a.stage) x (λ set. handed set a.partition exec now)
@@ -49,7 +53,10 @@ pub ended_sound : (d : DagData) (a : AttemptId) → IsSoundDag d → IsSoundDag 
 ended_sound d a sound =
     sound_with d a.stage _
     (λ state. births_changed state.attempts (place_of_attempt state a.stage_attempt)
-    (with_set (λ set. after_end set a.partition a.nth)) (λ x. refl)) sound (λ state at is.
+    (with_set (λ set. after_end set a.partition a.nth)) (λ x. refl))
+    (λ state are at. charged_own d.tracker.epoch a.stage_attempt
+    (λ set. after_end set a.partition a.nth) (spares_end a.partition a.nth) state are) sound
+    (λ state at is.
     state_quiet d.tracker (stage_at d a.stage) state (place_of_attempt state a.stage_attempt)
     (with_set (λ set. after_end set a.partition a.nth))
     (λ x there. quiet (stage_at d a.stage) x (λ set. after_end set a.partition a.nth)
@@ -61,7 +68,10 @@ pub failed_sound :
 failed_sound d a cause sound =
     sound_with d a.stage _
     (λ state. births_changed state.attempts (place_of_attempt state a.stage_attempt)
-    (with_set (λ set. after_failure set a.partition a.nth cause)) (λ x. refl)) sound
+    (with_set (λ set. after_failure set a.partition a.nth cause)) (λ x. refl))
+    (λ state are at. charged_own d.tracker.epoch a.stage_attempt
+    (λ set. after_failure set a.partition a.nth cause)
+    (spares_failure a.partition a.nth cause) state are) sound
     (λ state at is.
     state_quiet d.tracker (stage_at d a.stage) state (place_of_attempt state a.stage_attempt)
     (with_set (λ set. after_failure set a.partition a.nth cause))
@@ -73,7 +83,9 @@ pub hold_sound :
     (d : DagData) (s p : ℕ) (denied : Bool) → IsSoundDag d → IsSoundDag (after_hold d s p denied)
 hold_sound d s p denied sound =
     sound_with d s _ (λ state. births_changed state.attempts (length state.attempts - 1)
-    (with_set (λ set. after_held set p denied)) (λ x. refl)) sound (λ state at is.
+    (with_set (λ set. after_held set p denied)) (λ x. refl))
+    (λ state are at. charged_newest d.tracker.epoch (λ set. after_held set p denied)
+    (spares_hold p denied) state are) sound (λ state at is.
     state_quiet d.tracker (stage_at d s) state (length state.attempts - 1)
     (with_set (λ set. after_held set p denied))
     (λ x newest. quiet (stage_at d s) x (λ set. after_held set p denied)
@@ -82,11 +94,17 @@ hold_sound d s p denied sound =
 -- a stage attempt that failed
 pub with_failed_sound :
     (d : DagData) (s number : ℕ) → IsSoundDag d
+    → ((state : StageState) → slice_get d.states s ≡ Some state
+    → (place_of_attempt state number ≡ length state.attempts - 1)
+    × IfSome (slice_get state.attempts (length state.attempts - 1))
+    (λ a. a.set.born < d.tracker.epoch))
     → IsSoundDag (with_state d s (with_failed number))
-with_failed_sound d s number sound =
+with_failed_sound d s number sound may =
     sound_with d s (with_failed number)
     (λ state. births_changed state.attempts (place_of_attempt state number) failed_attempt
-    (λ x. refl)) sound (λ state at is.
+    (λ x. refl))
+    (λ state are at. charged_failed d.tracker.epoch number state (may state at).0 (may state at).1
+    are) sound (λ state at is.
     state_quiet d.tracker (stage_at d s) state (place_of_attempt state number) failed_attempt
     (λ x there. (
       record {
@@ -118,7 +136,11 @@ pub completed_sound :
     (d : DagData) (s : ℕ) → IsSoundDag d → IsSoundDag (with_state d s completed)
 completed_sound d s sound =
     sound_with d s completed
-    (λ state. births_mapped state.attempts forgiven (λ x. refl)) sound (λ state at is. record {
+    (λ state. births_mapped state.attempts forgiven (λ x. refl))
+    (λ state are at. charged_forgiven d.tracker.epoch state.attempts are
+    (rw (newest_mapped state.attempts forgiven)
+    (given_up (slice_get state.attempts (length state.attempts - 1)) are.given_up))) sound
+    (λ state at is. record {
       results = is.results;
       attempts = attempts_mapped (stage_at d s) state.attempts forgiven
           (λ x. record {
@@ -129,6 +151,11 @@ completed_sound d s sound =
           (same state (slice_get state.attempts (length state.attempts - 1)) is.newest);
     })
   where
+    given_up : (o : Option StageAttempt) → IfSome o (IsGivenUp d.tracker.epoch)
+        → IfSome (option_map forgiven o) (IsGivenUp d.tracker.epoch)
+    given_up None h = tt
+    given_up (Some x) h = h
+
     same : (state : StageState) (o : Option StageAttempt)
         → IsNewest d.tracker (stage_at d s) state.results (set_in o)
         → IsNewest d.tracker (stage_at d s) state.results (set_in (option_map forgiven o))

@@ -2,6 +2,8 @@ pub mod Births
 pub mod AttemptLemmas
 pub mod Calm
 pub mod CalmCalls
+pub mod Charges
+pub mod Charging
 pub mod Ending
 pub mod FateLemmas
 pub mod Finishes

@@ -22,6 +22,7 @@ use Rattle.sc_dag.proofs.JobStages.{stages_sound}
 use Rattle.sc_dag.proofs.Sizing.{all_sized_sound}
 use Rattle.sc_dag.proofs.SoundStages.{IsSoundAt, IsSoundState, no_newest, sound_from}
 use Rattle.sc_dag.proofs.Tests.{clash}
+use Rattle.sc_dag.proofs.Charges.{charged_none}
 
 -- ---- their states
 
@@ -117,6 +118,7 @@ openings_are_sound graph last t d job fits tracker opens = (
         there = λ s p shuffle reads.
             rw (none s) (All-nil (WasThere d.tracker (block_of shuffle p)));
       })
+      (λ s. charged_none d.tracker.epoch (attempts_of d s) (none s))
       (λ s. subst (λ states. IsSoundAt d.tracker (stage_at d s) (slice_get states s))
       (sym opens.states) (blank_at d.tracker last 0 d.stages s)),
   settled,

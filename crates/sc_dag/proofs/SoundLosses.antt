@@ -1,5 +1,5 @@
 -- The loss of outputs and executors keeps what holds of every job.
-use Rattle.std.proofs.Common.{◌≡◌, ◌⊎◌, inl, inr, ℕ, ◌-◌, ◌≤◌, Bool, true, false, if◌then◌else◌, List, length, map, Option, Some, None, IfSome, is_some, option_map, slice_get, refl, ap, sym, subst, ◌∙◌, arith, rules, true≢false}
+use Rattle.std.proofs.Common.{◌≡◌, ◌⊎◌, inl, inr, ℕ, ◌-◌, ◌≤◌, Bool, true, false, if◌then◌else◌, List, length, map, Option, Some, None, IfSome, is_some, option_map, slice_get, refl, ap, sym, subst, ◌∙◌, arith, rules, true≢false, ◌<◌, All, []}
 use Rattle.std.proofs.lemmas.Bool.Decides.{nat_tests}
 use Rattle.std.proofs.lemmas.List.{length-map}
 use Rattle.std.proofs.lemmas.Option.{slice_get-map, slice_get_within}
@@ -27,7 +27,7 @@ use Rattle.sc_dag.specs.DagData.{DagData, StageState, set_in, stage_at, with_set
 use Rattle.sc_dag.specs.Losses.{after_lost, after_seen, without_executor}
 use Rattle.sc_dag.specs.Outputs.{block_of, is_done_by}
 use Rattle.sc_dag.specs.Reports.{wants_in}
-use Rattle.sc_dag.specs.Births.{births_of}
+use Rattle.sc_dag.specs.Births.{births_of, AreCharged}
 use Rattle.sc_dag.specs.Sound.{IsAttemptOf, IsSoundDag, attempts_in, attempts_of, finish_in}
 use Rattle.sc_dag.specs.Submission.{is_map}
 use Rattle.sc_dag.specs.declared.attempts.StageAttempt.{StageAttempt}
@@ -38,6 +38,7 @@ use Rattle.sc_dag.proofs.Keeping.{newest_mapped}
 use Rattle.sc_dag.proofs.Sets.{keeps_loss}
 use Rattle.sc_dag.proofs.SoundAttempts.{attempts_mapped, keeps_with}
 use Rattle.sc_dag.proofs.SoundStages.{IsNewest, IsSoundAt, IsSoundState, no_newest, sound_at, sound_from, sound_mapped, stages_moved}
+use Rattle.sc_dag.proofs.Charges.{charged_event, charged_lost, charged_none}
 
 -- a tracker that has forgotten what was on an executor
 pub record Forgets (t u : TrackerData) (exec : ℕ) : Type 0 where
@@ -110,6 +111,17 @@ lost_ages t exec sound e =
           at_or_change_same t.trust exec untold (lost_at t.epoch)
               (slice_get_within t.trust exec x is),
         ) refl
+
+-- each event is one more
+gone_later :
+    (t : TrackerData) (exec found : ℕ) → is_newer (slice_get t.trust exec) found ≡ true
+    → t.epoch < (after_gone t exec found).epoch
+gone_later t exec found e = rw e (omega arith)
+
+lost_later :
+    (t : TrackerData) (exec : ℕ) → is_live_executor (slice_get t.trust exec) ≡ true
+    → t.epoch < (after_executor_lost t exec).epoch
+lost_later t exec e = rw e (omega arith)
 
 -- ---- an output that may be forgotten
 
@@ -200,6 +212,8 @@ seen_sound d exec found sound = by (is_newer (slice_get d.tracker.trust exec) fo
         (births_kept d.stages d.tracker u (λ s. births_of (attempts_of d s))
         (λ s. births_of (attempts_of d s)) (λ s. refl)
         (gone_ages d.tracker exec found sound.tracker e) (births_in d sound))
+        (λ s. charged_event d.tracker.epoch u.epoch (attempts_of d s)
+        (gone_later d.tracker exec found e) (sound.born s).past (sound.charged s))
         (λ s. sound_forgotten d.tracker u exec (stage_at d s) (slice_get d.states s) f
         (sound_at d s sound))
     by false e = rw e sound
@@ -281,8 +295,25 @@ lost_sound_dag d exec sound live =
     ∙ births_state (without_executor exec) (slice_get d.states s)
     (λ state. births_mapped state.attempts (with_set (λ set. after_loss set exec)) (λ x. refl)))
     (lost_ages d.tracker exec sound.tracker live) (births_in d sound))
+    (λ s. rw (slice_get-map (without_executor exec) d.states s)
+    (charged (slice_get d.states s) (sound.born s).past (sound.charged s)))
     (λ s. at s f)
   where
+    lose : StageAttempt → StageAttempt
+    lose = with_set (λ set. after_loss set exec)
+
+    u : TrackerData
+    u = after_executor_lost d.tracker exec
+
+    charged : (o : Option StageState)
+        → All (λ b. b ≤ d.tracker.epoch) (births_of (attempts_in o))
+        → AreCharged d.tracker.epoch (attempts_in o)
+        → AreCharged u.epoch (attempts_in (option_map (without_executor exec) o))
+    charged None births are = charged_none u.epoch [] refl
+    charged (Some state) births are =
+        charged_lost d.tracker.epoch u.epoch state.attempts lose (λ a. refl) (λ a. refl)
+        (lost_later d.tracker exec live) births are
+
     at : (s : ℕ) → Forgets d.tracker (after_executor_lost d.tracker exec) exec
         → IsSoundAt (after_executor_lost d.tracker exec) (stage_at d s)
         (slice_get (map (without_executor exec) d.states) s)

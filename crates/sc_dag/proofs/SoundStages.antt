@@ -14,11 +14,12 @@ use Rattle.sc_tracker.specs.TrackerFacts.{IsSoundTracker}
 use Rattle.sc_dag.specs.DagData.{DagData, StageState, dag_data, newest_set, stage_at, with_state}
 use Rattle.sc_dag.specs.Outputs.{block_of, is_done_by, results_in}
 use Rattle.sc_dag.specs.Reports.{wants_in}
-use Rattle.sc_dag.specs.Births.{births_of}
+use Rattle.sc_dag.specs.Births.{AreCharged, births_of}
 use Rattle.sc_dag.specs.Sound.{AreSoundStages, IsAttemptOf, IsSoundDag, attempts_in, attempts_of, finish_in}
 use Rattle.sc_dag.specs.Submission.{is_map}
 use Rattle.sc_dag.specs.declared.attempts.StageAttempt.{StageAttempt}
 use Rattle.sc_dag.proofs.Births.{Ages, AreBirths, KeepsBirths, ages_same, births_in, births_kept, births_with}
+use Rattle.sc_dag.proofs.Charges.{charged_later, charged_none}
 use Rattle.sc_dag.proofs.Moving.{newest_among}
 
 -- the attempts of a stage
@@ -97,8 +98,9 @@ pub sound_from :
     (d : DagData) → IsSoundTracker d.tracker → AreSoundStages d.stages d.tracker
     → length d.states ≡ length d.stages
     → AreBirths d.stages d.tracker (λ s. births_of (attempts_of d s))
+    → ((s : ℕ) → AreCharged d.tracker.epoch (attempts_of d s))
     → ((s : ℕ) → IsSoundAt d.tracker (stage_at d s) (slice_get d.states s)) → IsSoundDag d
-sound_from d tracker stages long births at =
+sound_from d tracker stages long births charged at =
     record {
       tracker = tracker;
       stages = stages;
@@ -111,6 +113,7 @@ sound_from d tracker stages long births at =
       wanted = λ s. (newest_of d.tracker (stage_at d s) (slice_get d.states s) (at s)).wanted;
       covered = λ s. (newest_of d.tracker (stage_at d s) (slice_get d.states s) (at s)).covered;
       born = births.turn;
+      charged = charged;
       inputs = births.there;
     }
 
@@ -140,7 +143,10 @@ stages_moved stages t u more sound =
 -- one stage changed, and the tracker
 pub sound_changed :
     (d : DagData) (u : TrackerData) (s : ℕ) (f : StageState → StageState)
-    → KeepsBirths f → Ages d.tracker u → IsSoundDag d → IsSoundTracker u
+    → KeepsBirths f
+    → ((state : StageState) → AreCharged d.tracker.epoch state.attempts
+    → slice_get d.states s ≡ Some state → AreCharged u.epoch (f state).attempts)
+    → Ages d.tracker u → IsSoundDag d → IsSoundTracker u
     → ((shuffle : ShuffleId)
     → length (outputs_of d.tracker shuffle) ≤ length (outputs_of u shuffle))
     → ((k : ℕ) → (k ≡ s → ⊥) → IsSoundAt d.tracker (stage_at d k) (slice_get d.states k)
@@ -148,15 +154,32 @@ pub sound_changed :
     → ((state : StageState) → slice_get d.states s ≡ Some state
     → IsSoundState d.tracker (stage_at d s) state → IsSoundState u (stage_at d s) (f state))
     → IsSoundDag (dag_data d.stages (change_at d.states s f) u d.limits)
-sound_changed d u s f keeps ages sound tracker room others own =
+sound_changed d u s f keeps charges ages sound tracker room others own =
     sound_from (dag_data d.stages (change_at d.states s f) u d.limits) tracker
     (stages_moved d.stages d.tracker u room sound.stages)
     (length_change_at d.states s f ∙ sound.states)
     (births_kept d.stages d.tracker u (λ k. births_of (attempts_of d k))
     (λ k. births_of (attempts_in (slice_get (change_at d.states s f) k)))
     (λ k. births_with d.states s k f keeps) ages (births_in d sound))
-    (λ k. by k (cases_eq k s))
+    (λ k. charged k (cases_eq k s)) (λ k. by k (cases_eq k s))
   where
+    charged_here : (o : Option StageState) → slice_get d.states s ≡ o
+        → AreCharged d.tracker.epoch (attempts_in o)
+        → AreCharged u.epoch (attempts_in (option_map f o))
+    charged_here None e are = charged_none u.epoch [] refl
+    charged_here (Some state) e are = charges state are e
+
+    charged : (k : ℕ) → (k ≡ s) ⊎ (k ≡ s → ⊥)
+        → AreCharged u.epoch (attempts_in (slice_get (change_at d.states s f) k))
+    charged k (inl e) =
+        subst (λ j. AreCharged u.epoch (attempts_in (slice_get (change_at d.states s f) j)))
+        (sym e)
+        (rw (slice_get_change_same d.states s f)
+        (charged_here (slice_get d.states s) refl (sound.charged s)))
+    charged k (inr ne) =
+        rw (slice_get_change_other d.states s k f ne)
+        (charged_later d.tracker.epoch u.epoch (attempts_of d k) ages.epoch (sound.charged k))
+
     here : IsSoundAt u (stage_at d s) (slice_get (change_at d.states s f) s)
     here = rw (slice_get_change_same d.states s f)
         (sound_mapped d.tracker u (stage_at d s) f (slice_get d.states s) own
@@ -171,11 +194,14 @@ sound_changed d u s f keeps ages sound tracker room others own =
 
 -- one stage changed alone
 pub sound_with :
-    (d : DagData) (s : ℕ) (f : StageState → StageState) → KeepsBirths f → IsSoundDag d
+    (d : DagData) (s : ℕ) (f : StageState → StageState) → KeepsBirths f
+    → ((state : StageState) → AreCharged d.tracker.epoch state.attempts
+    → slice_get d.states s ≡ Some state → AreCharged d.tracker.epoch (f state).attempts)
+    → IsSoundDag d
     → ((state : StageState) → slice_get d.states s ≡ Some state
     → IsSoundState d.tracker (stage_at d s) state
     → IsSoundState d.tracker (stage_at d s) (f state))
     → IsSoundDag (with_state d s f)
-sound_with d s f keeps sound own =
-    sound_changed d d.tracker s f keeps (ages_same d.tracker) sound sound.tracker
+sound_with d s f keeps charges sound own =
+    sound_changed d d.tracker s f keeps charges (ages_same d.tracker) sound sound.tracker
     (λ shuffle. omega arith) (λ k ne is. is) own

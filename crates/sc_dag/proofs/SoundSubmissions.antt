@@ -18,7 +18,7 @@ use Rattle.sc_taskset.proofs.RoomLemmas.{held_fresh}
 use Rattle.sc_tracker.specs.TrackerData.{TrackerData}
 use Rattle.sc_dag.specs.DagData.{DagData, StageState, stage_at, stage_attempt, with_set}
 use Rattle.sc_dag.specs.Outputs.{has_inputs, is_complete_by, is_done_by, missing_by, results_in}
-use Rattle.sc_dag.specs.Births.{births_of}
+use Rattle.sc_dag.specs.Births.{births_of, AreCharged}
 use Rattle.sc_dag.specs.Sound.{IsAttemptOf, IsSetOf, IsSoundDag, attempts_in, attempts_of, finish_among}
 use Rattle.sc_dag.specs.Submission.{AreLookedAt, IsSubmitted, as_waiting, is_map, moved_if, new_set, started}
 use Rattle.sc_dag.specs.declared.attempts.StageAttempt.{StageAttempt}
@@ -30,6 +30,7 @@ use Rattle.sc_dag.proofs.Sets.{keeps_zombie}
 use Rattle.sc_dag.proofs.SoundAttempts.{attempts_changed, keeps_with}
 use Rattle.sc_dag.proofs.SoundStages.{IsNewest, IsSoundAt, IsSoundState, sound_at, sound_from, sound_mapped}
 use Rattle.sc_dag.proofs.Tests.{all_in, any_below, clash, is_in, not_true}
+use Rattle.sc_dag.proofs.Charging.{charged_started}
 
 -- ---- numbers, and those of them that pass
 
@@ -212,8 +213,26 @@ looking_sound d submitted looked sound are =
     sound_from (after_looking d looked) sound.tracker sound.stages
     (by_number_length (moved_if d looked) 0 d.states ∙ sound.states)
     (births_moved d (λ s. births_of (attempts_of d s))
-    (λ s. births_of (attempts_of (after_looking d looked) s)) births (births_in d sound)) at
+    (λ s. births_of (attempts_of (after_looking d looked) s)) births (births_in d sound))
+    charged at
   where
+    charged_in : (s : ℕ) (o : Option StageState) (b c : Bool)
+        → AreCharged d.tracker.epoch (attempts_in o)
+        → AreCharged d.tracker.epoch (attempts_in (option_map (λ state.
+        if b then (if c then started d.tracker d.limits (stage_at d s) state
+        else as_waiting state) else state) o))
+    charged_in s None b c are = are
+    charged_in s (Some state) true true are =
+        charged_started d.tracker.epoch d.tracker d.limits (stage_at d s) state refl are
+    charged_in s (Some state) true false are = are
+    charged_in s (Some state) false c are = are
+
+    charged : (s : ℕ)
+        → AreCharged d.tracker.epoch (attempts_of (after_looking d looked) s)
+    charged s =
+        rw (state_after d looked s)
+        (charged_in s (slice_get d.states s) (looked s) (has_inputs d s) (sound.charged s))
+
     begun : (s : ℕ) (state : StageState)
         → births_of (started d.tracker d.limits (stage_at d s) state).attempts
         ≡ births_of state.attempts ++ d.tracker.epoch ∷ []

@@ -1,5 +1,5 @@
 -- When the attempts of stages began, and what was there then.
-use Rattle.std.specs.Prelude.{ℕ, ◌≡◌, ◌<◌, ◌≤◌, ◌==◌, ◌⊎◌, List, All, Some, true, map}
+use Rattle.std.specs.Prelude.{ℕ, ◌≡◌, ◌-◌, ◌<◌, ◌≤◌, ◌==◌, ◌&&◌, ◌⊎◌, not, List, All, Bool, IfSome, Some, true, length, map, slice_get}
 use Rattle.std.specs.List.{AllPairs, list_any}
 use Rattle.sc_base.specs.Lists.{at_or}
 use Rattle.sc_ids.specs.Graphs.{StageData}
@@ -7,6 +7,8 @@ use Rattle.sc_ids.specs.declared.blocks.BlockId.{BlockId}
 use Rattle.sc_ids.specs.declared.blocks.Loc.{Loc}
 use Rattle.sc_ids.specs.declared.blocks.ShuffleId.{ShuffleId}
 use Rattle.sc_ids.specs.declared.blocks.Target.TheVariants as targets
+use Rattle.sc_taskset.specs.Lookups.{are_finished}
+use Rattle.sc_taskset.specs.TaskSetData.{TaskSetData}
 use Rattle.sc_tracker.specs.TrackerData.{TrackerData, output_of, trust_of}
 use Rattle.sc_tracker.specs.declared.outputs.Output.{Output}
 use Rattle.sc_dag.specs.DagData.{no_stage}
@@ -21,6 +23,19 @@ births_of attempts = map (λ a. a.set.born) attempts
 pub record AreBornInTurn (epoch : ℕ) (births : List ℕ) : Type 0 where
   pub rising : AllPairs (λ a b. a ≤ b) births
   pub past : All (λ b. b ≤ epoch) births
+
+-- a task set hands out nothing more, though tasks of it aren't finished
+abbrev pub is_given_up : TaskSetData → Bool
+is_given_up set = set.is_zombie && not (are_finished set.tasks)
+
+-- An attempt of a stage fails, or is given up, only for an event that came after it began.
+pub record AreCharged (epoch : ℕ) (attempts : List StageAttempt) : Type 0 where
+  -- one that failed began before now, and before all that followed it
+  pub past : All (λ a. a.has_failed ≡ true → a.set.born < epoch) attempts
+  pub rising : AllPairs (λ a b. a.has_failed ≡ true → a.set.born < b.set.born) attempts
+  -- so did the newest one, where it is given up
+  pub given_up : IfSome (slice_get attempts (length attempts - 1))
+      (λ a. is_given_up a.set ≡ true → a.set.born < epoch)
 
 -- an output was lost, in an event that came neither before it was registered last nor before this
 -- epoch

@@ -1,5 +1,5 @@
 -- Laws of the stages of a job.
-use Rattle.std.specs.Prelude.{ℕ, ◌≡◌, ◌⊎◌, Bool, true, false, List, Option, Some, slice_get}
+use Rattle.std.specs.Prelude.{ℕ, ◌≡◌, ◌<◌, ◌⊎◌, Bool, true, false, List, Option, IfSome, Some, slice_get}
 use Rattle.sc_ids.specs.Graphs.{StageData}
 use Rattle.sc_ids.specs.declared.attempts.AttemptId.{AttemptId}
 use Rattle.sc_ids.specs.declared.blocks.Loc.{Loc}
@@ -42,6 +42,11 @@ OpeningsAreSound =
     (job : IsJob graph) → FitsJob t graph → IsSoundTracker t → Opens graph last t d
     → IsSoundDag d × IsSettled d × (is_complete d job.result.id ≡ false)
 
+-- the newest attempt of a stage may fail: an event came after it began
+pub record IsChargeable (d : DagData) (s number : ℕ) : Type 0 where
+  pub newest : number ≡ newest_number d s
+  pub begun : IfSome (newest_at d s) (λ set. set.born < d.tracker.epoch)
+
 -- what every call keeps
 abbrev pub CallsKeepSound : Type 0
 CallsKeepSound =
@@ -56,7 +61,7 @@ CallsKeepSound =
     × ((a : AttemptId) (exec now : ℕ) → is_map (stage_at d a.stage).target ≡ false
     → runner_of d a ≡ Some exec → IsSoundDag (after_result_success d a now))
     × ((a : AttemptId) (cause : FailureCause) → IsSoundDag (after_failed d a cause))
-    × ((s number : ℕ) (verdict : Verdict) (after : DagData)
+    × ((s number : ℕ) (verdict : Verdict) (after : DagData) → IsChargeable d s number
     → FailsStage d s number verdict after → IsSoundDag after)
     × ((s : ℕ) (after : DagData) → CompletesMap d s after → IsSoundDag after)
     × ((s p : ℕ) (denied : Bool) → IsSoundDag (after_hold d s p denied))

@@ -13,7 +13,7 @@ use Rattle.sc_taskset.specs.declared.tasks.Finish.{Finish}
 use Rattle.sc_taskset.specs.declared.tasks.Finish.TheVariants.{OnExecutor, Unfinished}
 use Rattle.sc_tracker.specs.TrackerData.{TrackerData, output_of, outputs_of}
 use Rattle.sc_tracker.specs.TrackerFacts.{IsSoundTracker}
-use Rattle.sc_dag.specs.Births.{AreBornInTurn, ReadsOutput, WasThere, births_of}
+use Rattle.sc_dag.specs.Births.{AreBornInTurn, AreCharged, ReadsOutput, WasThere, births_of}
 use Rattle.sc_dag.specs.DagData.{DagData, StageState, newest_at, no_stage, stage_at}
 use Rattle.sc_dag.specs.Openings.{AreOfTwo}
 use Rattle.sc_dag.specs.Outputs.{block_of, is_done, results_in}
@@ -102,6 +102,8 @@ pub record IsSoundDag (d : DagData) : Type 0 where
       → newest_at d s ≢ None → wants_in (newest_at d s) p ≡ false → is_done d s p ≡ true
   -- the attempts of a stage began one after another, and no later than now
   pub born : (s : ℕ) → AreBornInTurn d.tracker.epoch (births_of (attempts_of d s))
+  -- they failed, or were given up, for events that came after they began
+  pub charged : (s : ℕ) → AreCharged d.tracker.epoch (attempts_of d s)
   -- what an attempt reads was there when it began
   pub inputs : (s p : ℕ) (shuffle : ShuffleId) → ReadsOutput d.stages s shuffle p
       → All (WasThere d.tracker (block_of shuffle p)) (births_of (attempts_of d s))
