@@ -19,7 +19,6 @@ use Rattle.sc_dag.specs.Submission.{is_map, this_stage, waiting_stages}
 use Rattle.sc_dag.specs.declared.reports.Success.{Success}
 use Rattle.sc_dag.specs.declared.reports.Success.TheVariants as successes
 use Rattle.sc_dag.proofs.Tests.{both_left, both_right, clash}
-use Rattle.sc_dag.proofs.Keeping.{completed_sound, with_failed_sound}
 use Rattle.sc_core.specs.CoreData.{CoreData, has_key, job_runs, running_of, shelved, shelved_if, shelved_of, taken_off, with_dag, without_shelved}
 use Rattle.sc_core.specs.Journals.{Replays}
 use Rattle.sc_core.specs.Laws.{ReplaysAgree, StepsAgree, StepsKeepSound}
@@ -52,7 +51,7 @@ completes_agree :
     → CompletesMap d s y → x ≡ y
 completes_agree one d x y s sound a b =
     one (with_state d s completed) x y (waiting_stages (with_state d s completed))
-    (completed_sound d s sound) a b
+    sound.stages a b
 
 -- how a stage attempt fails, and what that leaves
 fails_agree :
@@ -67,7 +66,7 @@ fails_agree one d x y s number verdicts.Again verdicts.Limit sound (e, a) (f, b)
 fails_agree one d x y s number verdicts.Again verdicts.Again sound (e, a) (f, b) = (
   refl,
   one (with_state d s (with_failed number)) x y (this_stage s)
-      (with_failed_sound d s number sound) a b,
+      sound.stages a b,
 )
 
 -- what follows a map success
@@ -78,7 +77,7 @@ follows_agree one success d x y s sound a b = by success a b
   where
     looks : (u v : Bool) → LooksAgain u v d s x → LooksAgain u v d s y → x ≡ y
     looks true v e f = completes_agree one d x y s sound e f
-    looks false true e f = one d x y (this_stage s) sound e f
+    looks false true e f = one d x y (this_stage s) sound.stages e f
     looks false false e f = e ∙ sym f
 
     by : (success : Success) → FollowsUp success d s x → FollowsUp success d s y → x ≡ y

@@ -50,7 +50,7 @@ follow_there success d s sound = by success
   where
     looks : (x y : Bool) → (after : DagData) × LooksAgain x y d s after
     looks true y = completes d s sound
-    looks false true = submits d (this_stage s) sound
+    looks false true = submits d (this_stage s) sound.stages
     looks false false = (d, refl)
 
     by : (success : Success) → (after : DagData) × FollowsUp success d s after

@@ -14,6 +14,9 @@ pub mod MoveLemmas
 pub mod StageCallLemmas
 pub mod TaskCallLemmas
 pub mod OfferLemmas
+pub mod CarryLemmas
+pub mod CallCarryLemmas
+pub mod HandedLemmas
 pub mod RunningLemmas
 pub mod LeftLemmas
 pub mod ShelfLemmas

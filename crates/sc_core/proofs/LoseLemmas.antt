@@ -40,6 +40,8 @@ use Rattle.sc_core.proofs.ResultLemmas.{Frees, frees}
 use Rattle.sc_core.proofs.SetLemmas.{nothing}
 use Rattle.sc_core.proofs.ShelfLemmas.{all_left as all_without, fits_still}
 use Rattle.sc_core.proofs.ToldLemmas.{under_kept}
+use Rattle.sc_core.proofs.CarryLemmas.{Carries, carries_same, carries_then, handed_still}
+use Rattle.sc_core.proofs.CallCarryLemmas.{lost_carries}
 
 -- ---- grants that are freed one after the other
 
@@ -120,6 +122,7 @@ released_all exec c next k many is =
 -- a job's stages, as far as they keep a core sound
 record Keeps (r : ℕ) (c after : CoreData) : Type 0 where
   calm : Calm c.dag after.dag
+  carries : Carries c.dag after.dag
   results : SameResults c.dag after.dag
   sound : IsSoundDag after.dag
   settled : IsSettled after.dag
@@ -132,6 +135,7 @@ all_keep :
 all_keep calls others r [] c sound settled kind under =
     record {
       calm = still c.dag;
+      carries = carries_same c.dag;
       results = λ s. refl;
       sound = sound;
       settled = settled;
@@ -148,6 +152,8 @@ all_keep calls others r (a ∷ these) c sound settled kind under =
     record {
       calm = moves_then nothing None c.dag next.dag (all_released these next).dag free.calm
           rest.calm;
+      carries = carries_then c.dag next.dag (all_released these next).dag free.carries
+          rest.carries;
       results = results_then c.dag next.dag (all_released these next).dag free.results
           rest.results;
       sound = rest.sound;
@@ -221,6 +227,10 @@ lose_sound calls others c exec sound may =
     moves : Lost exec c.dag next.dag
     moves = loses_then exec c.dag lost next.dag (lost_loses c.dag exec sound.job.dag) keeps.calm
 
+    carries : Carries c.dag next.dag
+    carries =
+        carries_then c.dag lost next.dag (lost_carries c.dag exec live) keeps.carries
+
     due : is_due_after (loss_of c.plan exec) c.told ≡ true
     due =
         both_right (is_live (slice_get c.dag.tracker.trust exec)) _
@@ -238,7 +248,9 @@ lose_sound calls others c exec sound may =
     runs r w other =
         record {
           in_set = moves.runners r.hand_out.attempt ∙ ap (unless_on exec) w.in_set ∙ there;
+          there = subst (λ n. r.exec < n) (sym carries.many) w.there;
           live = moves.lost r.exec other ∙ w.live;
+          handed_out = handed_still c.dag next.dag r.hand_out carries w.handed_out;
         }
       where
         there : unless_on exec (Some r.exec) ≡ Some r.exec
@@ -283,6 +295,7 @@ lose_sound calls others c exec sound may =
           maps = rw moves.stages sound.job.maps;
           running = all_runs;
           known = λ b at h. known b (runner_of c.dag b) refl at (sym (moves.runners b) ∙ h);
+          placed = carries.placed sound.job.placed;
           apart = AllPairs-filter AreTwo (λ r. not (runs_on exec r)) c.running sound.job.apart;
           unheld = moves.unheld sound.job.unheld;
           budget = rw (left.handed, moves.limits) sound.job.budget;

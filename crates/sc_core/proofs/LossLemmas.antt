@@ -117,7 +117,7 @@ given_left exec b (Some set) =
 
 -- ---- in the stages
 
-lost_set : (d : DagData) (exec : ℕ) (b : AttemptId)
+pub lost_set : (d : DagData) (exec : ℕ) (b : AttemptId)
     → set_of (after_lost d exec) b ≡ option_map (λ set. after_loss set exec) (set_of d b)
 lost_set d exec b =
     ap (λ o. set_among o b.stage_attempt) (slice_get-map (without_executor exec) d.states b.stage)

@@ -1,5 +1,5 @@
 -- What holds of every core holds once a map success was told.
-use Rattle.std.proofs.Common.{◌≡◌, ℕ, ◌==◌, Bool, true, false, if◌then◌else◌, Some, None, refl, ap, sym, subst, ◌∙◌, arith, rules}
+use Rattle.std.proofs.Common.{◌≡◌, ℕ, ◌==◌, Bool, true, false, if◌then◌else◌, Some, None, refl, ap, sym, subst, ◌∙◌, arith, rules, ◌<◌, length}
 use Rattle.std.proofs.lemmas.Bool.Decides.{nat_tests}
 use Rattle.sc_ids.specs.declared.attempts.AttemptId.{AttemptId}
 use Rattle.sc_ids.specs.declared.blocks.Loc.{Loc}
@@ -28,6 +28,8 @@ use Rattle.sc_core.proofs.StageCallLemmas.{completes_calm, completes_results, su
 use Rattle.sc_core.proofs.TaskCallLemmas.{map_moves, map_results}
 use Rattle.sc_core.proofs.MoveLemmas.{Calm, SameResults, moves_then, results_then, still}
 use Rattle.sc_core.proofs.ToldLemmas.{goes_same, told_sound}
+use Rattle.sc_core.proofs.CarryLemmas.{Carries, carries_same, carries_then}
+use Rattle.sc_core.proofs.CallCarryLemmas.{completes_carries, map_carries, submitted_carries}
 
 -- an attempt that ends and changes nothing else is one whose failure doesn't count
 pub ends_go_on : OthersGoOn → (d : DagData) (a : AttemptId) → IsSoundDag d → IsSettled d
@@ -37,6 +39,7 @@ ends_go_on others d a sound settled = (others d sound settled).1 a causes.Denied
 -- what follows a map success
 record Follows (d mid after : DagData) : Type 0 where
   calm : Calm mid after
+  carries : Carries mid after
   results : SameResults mid after
   sound : IsSoundDag after
   goes : IsSettled d → dag.GoesOn d after
@@ -74,6 +77,7 @@ follows calls maps others d after a loc epoch now sound kind runs up =
     looks true y e f is =
         record {
           calm = completes_calm mid a.stage after is;
+          carries = completes_carries mid a.stage after is;
           results = completes_results mid a.stage after is;
           sound = (calls mid mid_sound).6 a.stage after is;
           goes = λ s. (maps d a loc epoch now after sound s kind runs).0 e is;
@@ -81,6 +85,7 @@ follows calls maps others d after a loc epoch now sound kind runs up =
     looks false true e f is =
         record {
           calm = submitted_calm mid after (this_stage a.stage) is;
+          carries = submitted_carries mid after (this_stage a.stage) is;
           results = submitted_results mid after (this_stage a.stage) is;
           sound = (calls mid mid_sound).0 (this_stage a.stage) after is;
           goes = λ s. (maps d a loc epoch now after sound s kind runs).1 f is;
@@ -89,6 +94,7 @@ follows calls maps others d after a loc epoch now sound kind runs up =
         subst (λ x. Follows d mid x) (sym is)
         (record {
           calm = still mid;
+          carries = carries_same mid;
           results = λ s. refl;
           sound = mid_sound;
           goes = λ s. (maps d a loc epoch now after sound s kind runs).2 e f;
@@ -100,6 +106,7 @@ follows calls maps others d after a loc epoch now sound kind runs up =
         subst (λ x. Follows d mid x) (sym is)
         (record {
           calm = still mid;
+          carries = carries_same mid;
           results = λ s. refl;
           sound = mid_sound;
           goes = λ s. subst (λ x. dag.GoesOn d x) (sym (repeated e))
@@ -131,6 +138,9 @@ map_keeps calls maps others c after r loc answer sound job well fit (next, up, s
     (told_sound c (with_dag (taken_off c a) next) a sound
     (moves_then (is_same a) None c.dag mid next
     (map_moves c.dag a loc r.hand_out.epoch c.now) f.calm)
+    (carries_then c.dag mid next
+    (map_carries c.dag a loc r.hand_out.epoch c.now sound.dag kind runs
+    (subst (λ n. n < length c.dag.tracker.trust) (sym exec) well.there)) f.carries)
     refl refl f.sound
     (λ h. goes_same c (with_dag (taken_off c a) next) sound (sound.goes_on job)
     (f.calm.stages ∙ (map_moves c.dag a loc r.hand_out.epoch c.now).stages)

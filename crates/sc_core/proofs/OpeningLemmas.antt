@@ -30,10 +30,12 @@ use Rattle.sc_core.specs.CoreData.{CoreData, result_stage}
 use Rattle.sc_core.specs.Laws.{OpeningsAreSound}
 use Rattle.sc_core.specs.Losses.{is_due_after}
 use Rattle.sc_core.specs.Openings.{plan_behind, told_before, tracker_behind}
-use Rattle.sc_core.specs.Sound.{AreTwo, IsShelvedWell, IsSoundCore, IsSoundJob, IsSoundShelf, IsUnheld, RunsWell, is_shelved}
+use Rattle.sc_core.specs.Sound.{AreTwo, IsShelvedWell, IsSoundCore, IsSoundJob, IsSoundShelf, IsUnheld, RunsWell, is_shelved, AreOnExecutors}
 use Rattle.sc_core.proofs.StageCallLemmas.{submitted_calm}
 use Rattle.sc_core.proofs.MoveLemmas.{Calm}
 use Rattle.sc_core.proofs.StateLemmas.{runs_in}
+use Rattle.sc_core.proofs.CallCarryLemmas.{submitted_carries}
+use Rattle.sc_tracker.proofs.BlockLemmas.{sizes_for_all}
 
 -- ---- stages that nothing was done for
 
@@ -165,6 +167,29 @@ all_sized : (graph : List StageData) (t : TrackerData) → (sized_for_all t grap
 all_sized [] t = refl
 all_sized (stage ∷ graph) t = all_sized graph (sized_by t stage) ∙ one_sized stage t
 
+-- nor where outputs lie
+one_sized_placed :
+    (stage : StageData) (t : TrackerData) → AreOnExecutors t → AreOnExecutors (sized_by t stage)
+one_sized_placed stage t all = by stage.target
+  where
+    by : (target : Target) → AreOnExecutors (sized_by t (record stage { target = target }))
+    by (targets.Map shuffle) =
+        λ block. rw ((sizes_for_all t shuffle stage.tasks).1 block,
+        one_sized (record stage { target = targets.Map shuffle }) t) (all block)
+    by (targets.Result node) = all
+
+all_sized_placed :
+    (graph : List StageData) (t : TrackerData) → AreOnExecutors t
+    → AreOnExecutors (sized_for_all t graph)
+all_sized_placed [] t all = all
+all_sized_placed (stage ∷ graph) t all =
+    all_sized_placed graph (sized_by t stage) (one_sized_placed stage t all)
+
+behind_placed : (last : Option CoreData) (limits : Limits) → IfSome last IsSoundCore
+    → AreOnExecutors (tracker_behind last limits)
+behind_placed None limits sound = λ block. tt
+behind_placed (Some last) limits sound = sound.job.placed
+
 -- ---- the core
 
 settled_by : (d : DagData) (submitted : ℕ → Bool) → IsSettled d → IsSettledBy d submitted
@@ -259,6 +284,9 @@ openings_by calls opening settles graph limits saved plan last c job fits sound 
           running = subst (λ rs. All (RunsWell c) rs) (sym o.running)
               (λ i r l. absurd (omega (arith, l)));
           known = λ a exec r. absurd (search (rules, r, runs a));
+          placed = (submitted_carries o.dag c.dag (this_stage (result_stage o.dag)) o.submits).placed
+              (subst AreOnExecutors (sym o.opens.tracker)
+              (all_sized_placed graph (tracker_behind last limits) (behind_placed last limits sound)));
           apart = subst (λ rs. AllPairs AreTwo rs) (sym o.running)
               (λ i j r lt l. absurd (omega (arith, l)));
           unheld = calm.unheld unheld;

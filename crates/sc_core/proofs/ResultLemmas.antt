@@ -33,10 +33,13 @@ use Rattle.sc_core.proofs.TaskCallLemmas.{ended_results, hold_free, hold_results
 use Rattle.sc_core.proofs.LookupLemmas.{set_holds}
 use Rattle.sc_core.proofs.MoveLemmas.{Calm, Moves, SameResults, calm_then, still}
 use Rattle.sc_core.proofs.ToldLemmas.{goes_same, goes_with, told_sound, under_kept}
+use Rattle.sc_core.proofs.CarryLemmas.{Carries, carries_same, carries_then}
+use Rattle.sc_core.proofs.CallCarryLemmas.{hold_carries, result_carries}
 
 -- A grant that is freed lets nothing run and stops nothing, and no stage is forgotten.
 pub record Frees (d after : DagData) : Type 0 where
   pub calm : Calm d after
+  pub carries : Carries d after
   pub results : SameResults d after
   pub sound : IsSoundDag d → IsSoundDag after
   pub goes : IsSoundDag d → IsSettled d → dag.GoesOn d after
@@ -50,6 +53,7 @@ frees calls others c a how = by (holds a (committer_at c.committers a.partition)
     by true =
         record {
           calm = hold_free c.dag a.stage a.partition;
+          carries = hold_carries c.dag a.stage a.partition false;
           results = hold_results c.dag a.stage a.partition;
           sound = λ s. (calls c.dag s).7 a.stage a.partition false;
           goes = λ s t. (others c.dag s t).2 a.stage a.partition false;
@@ -57,6 +61,7 @@ frees calls others c a how = by (holds a (committer_at c.committers a.partition)
     by false =
         record {
           calm = still c.dag;
+          carries = carries_same c.dag;
           results = λ s. refl;
           sound = λ s. s;
           goes = λ s t. (t, λ r under lacks. under.1);
@@ -130,6 +135,10 @@ wins calls results others c mid a exec sound job kind runs stage free running ha
         calm_then (is_same a) None c.dag mid.dag next.dag free.calm
         (result_moves mid.dag a mid.now)
 
+    carries : Carries c.dag next.dag
+    carries =
+        carries_then c.dag mid.dag next.dag free.carries (result_carries mid.dag a mid.now)
+
     next_sound : IsSoundDag next.dag
     next_sound = (calls mid.dag (free.sound sound.dag)).3 a exec mid.now mid_kind mid_runs
 
@@ -154,12 +163,12 @@ wins calls results others c mid a exec sound job kind runs stage free running ha
 
     by : (b : Bool) → is_complete next.dag a.stage ≡ b → IsSoundJob (done_if b next)
     by true e =
-        told_sound c (ended next jobs.Done) a sound moves running handed next_sound
+        told_sound c (ended next jobs.Done) a sound moves carries running handed next_sound
         (λ h. absurd (true≢false (sym h)))
         (λ h. subst (λ (s : ℕ). is_complete next.dag s ≡ true)
         (stage ∙ ap (λ (all : List StageData). length all - 1) (sym moves.stages)) e)
     by false e =
-        told_sound c next a sound moves running handed next_sound (λ h. goes e)
+        told_sound c next a sound moves carries running handed next_sound (λ h. goes e)
         (λ h. absurd (clash job (ap is_running_job (sym same ∙ h))))
 
 -- a repeated success of a result task ends its attempt alone
@@ -203,8 +212,8 @@ result_keeps calls results others c after r answer sound job well fit (says, is)
 
     by : (s : Success) → result_success_of c.dag a ≡ s → IsSoundJob (after_result s told a)
     by successes.Repeated e =
-        told_sound c (with_result_of told a) a sound (result_moves c.dag a c.now) refl
-        refl ((calls c.dag sound.dag).3 a r.exec c.now kind well.in_set)
+        told_sound c (with_result_of told a) a sound (result_moves c.dag a c.now)
+        (result_carries c.dag a c.now) refl refl ((calls c.dag sound.dag).3 a r.exec c.now kind well.in_set)
         (λ h. goes_same c (with_result_of told a) sound (sound.goes_on job)
         (result_moves c.dag a c.now).stages same goes)
         (λ h. absurd (clash job (ap is_running_job h)))

@@ -553,6 +553,7 @@ shelved_job c a outcome delay sound =
       running = All-map (RunsWell after) (as_in a) c.running
           (All-weaker (RunsWell c) (λ r. RunsWell after (as_in a r)) runs c.running sound.running);
       known = λ b exec h. known b exec h;
+      placed = sound.placed;
       apart = pairs c.running sound.apart;
       unheld = sound.unheld;
       budget = sound.budget;
@@ -570,8 +571,20 @@ shelved_job c a outcome delay sound =
     runs r w = by (is_of a r)
       where
         by : (x : Bool) → RunsWell after (if x then record r { is_out = false } else r)
-        by true = record { in_set = w.in_set; live = w.live }
-        by false = record { in_set = w.in_set; live = w.live }
+        by true =
+            record {
+              in_set = w.in_set;
+              there = w.there;
+              live = w.live;
+              handed_out = w.handed_out;
+            }
+        by false =
+            record {
+              in_set = w.in_set;
+              there = w.there;
+              live = w.live;
+              handed_out = w.handed_out;
+            }
 
     known : (b : AttemptId) (exec : ℕ) → runner_of c.dag b ≡ Some exec
         → find (is_of b) (map (as_in a) c.running) ≢ None

@@ -57,7 +57,7 @@ tells_keep calls maps results failures others c after r outcomes.Result answer s
     result_keeps calls results others c after r answer sound job well fit tells
 tells_keep calls maps results failures others c after r (outcomes.Failed cause) answer sound job
     well fit tells =
-    failure_keeps calls failures others c after r cause answer sound job tells
+    failure_keeps calls failures others c after r cause answer sound job well fit tells
 
 -- a report that is of no running attempt leaves what runs
 counted_keeps : (c : CoreData) → IsSoundJob c → IsSoundJob (told_once c)

@@ -8,7 +8,6 @@ use Rattle.sc_dag.specs.Outputs.{is_complete}
 use Rattle.sc_dag.specs.Reports.{CompletesMap, FailsStage, completed, has_failed_often, with_failed}
 use Rattle.sc_dag.specs.Sound.{AreSoundStages, IsSoundDag}
 use Rattle.sc_dag.specs.Submission.{AreLookedAt, IsSubmitted, by_number, is_asked_for, is_idle_in, moved_if, reads, this_stage, waiting_stages}
-use Rattle.sc_dag.proofs.Keeping.{completed_sound, with_failed_sound}
 use Rattle.sc_dag.proofs.Looking.{complete_past, read_before}
 use Rattle.sc_dag.proofs.Tests.{any_alike}
 
@@ -55,7 +54,7 @@ enough d submitted sound (suc m) (suc n) s le le' =
     by c true e f = ap (λ x. x && reads d c s) (f (read_before d c s sound e))
     by c false e f = rw e (none (is_looked d submitted m c) (is_looked d submitted n c))
 
-pub submits : (d : DagData) (submitted : ℕ → Bool) → IsSoundDag d
+pub submits : (d : DagData) (submitted : ℕ → Bool) → AreSoundStages d.stages d.tracker
     → (after : DagData) × IsSubmitted d submitted after
 unfolding is_looked
 submits d submitted sound =
@@ -66,14 +65,14 @@ submits d submitted sound =
 
     are : AreLookedAt d submitted looked
     are s =
-        enough d submitted sound.stages (length d.stages) (suc (length d.stages)) s (omega arith)
+        enough d submitted sound (length d.stages) (suc (length d.stages)) s (omega arith)
         (omega arith)
 
 -- so something is left where a map stage is complete, and where a stage attempt failed
 pub completes : (d : DagData) (s : ℕ) → IsSoundDag d → (after : DagData) × CompletesMap d s after
 completes d s sound =
     submits (with_state d s completed) (waiting_stages (with_state d s completed))
-    (completed_sound d s sound)
+    sound.stages
 
 pub fails : (d : DagData) (s number : ℕ) → IsSoundDag d
     → (verdict : Verdict) × (after : DagData) × FailsStage d s number verdict after
@@ -86,5 +85,5 @@ fails d s number sound = by (has_failed_often failed s) refl
         → (verdict : Verdict) × (after : DagData) × FailsStage d s number verdict after
     by true e = (verdicts.Limit, failed, (e, refl))
     by false e =
-        let next = submits failed (this_stage s) (with_failed_sound d s number sound) in
+        let next = submits failed (this_stage s) sound.stages in
         (verdicts.Again, next.0, (e, next.1))

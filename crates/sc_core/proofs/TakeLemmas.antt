@@ -1,5 +1,5 @@
 -- What holds of every core holds once an executor has asked for a task.
-use Rattle.std.proofs.Common.{◌≡◌, ◌≢◌, ℕ, ◌<◌, ◌==◌, All, Bool, true, false, if◌then◌else◌, List, [], ◌∷◌, Option, Some, None, find, option_map, refl, ap, sym, subst, ◌∙◌, arith, rules, true≢false}
+use Rattle.std.proofs.Common.{◌≡◌, ◌≢◌, ℕ, ◌<◌, ◌==◌, All, Bool, true, false, if◌then◌else◌, List, [], ◌∷◌, Option, Some, None, find, option_map, refl, ap, sym, subst, ◌∙◌, arith, rules, true≢false, slice_get}
 use Rattle.std.specs.List.{AllPairs}
 use Rattle.std.specs.Option.{option_or}
 use Rattle.std.proofs.lemmas.Bool.Decides.{nat_tests}
@@ -15,10 +15,10 @@ use Rattle.sc_dag.specs.Laws.{CallsKeepSound, OthersGoOn}
 use Rattle.sc_dag.specs.Offers.{handed_out, newest_number}
 use Rattle.sc_dag.specs.Outputs.{is_complete}
 use Rattle.sc_dag.specs.Sound.{runner_among, runner_in, runner_of}
-use Rattle.sc_dag.proofs.Tests.{clash}
+use Rattle.sc_dag.proofs.Tests.{clash, not_false}
 use Rattle.sc_core.specs.CoreData.{CoreData, ended, is_of, is_out_on, is_running_job, job_runs, result_stage, running_of}
 use Rattle.sc_core.specs.HandOuts.{HandOutData}
-use Rattle.sc_core.specs.Sound.{AreTwo, GoesOn, IsSoundCore, IsSoundJob, RunsWell}
+use Rattle.sc_core.specs.Sound.{AreTwo, GoesOn, IsSoundCore, IsSoundJob, RunsWell, AreOnExecutors, WasHandedOut}
 use Rattle.sc_core.specs.Takes.{IsAsking, IsHandOut, Takes, running_on, with_task}
 use Rattle.sc_core.specs.declared.answers.Abort.{Abort}
 use Rattle.sc_core.specs.declared.answers.Abort.TheVariants as aborts
@@ -32,6 +32,10 @@ use Rattle.sc_core.proofs.OfferLemmas.{IsOffered, handed_out_moves, offered, off
 use Rattle.sc_core.proofs.RunningLemmas.{none_passes, same_sym}
 use Rattle.sc_core.proofs.ShelfLemmas.{task_shelf}
 use Rattle.sc_core.proofs.ToldLemmas.{goes_same}
+use Rattle.sc_core.proofs.CarryLemmas.{Carries, handed_still, live_there}
+use Rattle.sc_core.proofs.CallCarryLemmas.{handed_carries}
+use Rattle.sc_core.proofs.HandedLemmas.{handed_new}
+use Rattle.sc_tracker.specs.Trust.{is_live}
 
 -- a core that differs in what is told, when, and how far the job is
 pub calm_sound :
@@ -46,10 +50,15 @@ calm_sound c after sound dag running handed goes done =
       maps = rw dag sound.maps;
       running = subst (λ rs. All (RunsWell after) rs) (sym running)
           (All-weaker (RunsWell c) (RunsWell after)
-          (λ r w. record { in_set = rw dag w.in_set; live = rw dag w.live })
-          c.running sound.running);
+          (λ r w. record {
+            in_set = rw dag w.in_set;
+            there = rw dag w.there;
+            live = rw dag w.live;
+            handed_out = subst (λ d. WasHandedOut d r.hand_out) (sym dag) w.handed_out;
+          }) c.running sound.running);
       known = λ a exec h. subst (λ rs. find (is_of a) rs ≢ None) (sym running)
           (sound.known a exec (rw dag at h));
+      placed = subst (λ (d : DagData). AreOnExecutors d.tracker) (sym dag) sound.placed;
       apart = subst (λ rs. AllPairs AreTwo rs) (sym running) sound.apart;
       unheld = rw dag sound.unheld;
       budget = rw (handed, dag) sound.budget;
@@ -106,6 +115,7 @@ task_sound c exec h calls others sound asks out below =
       running = All-push (RunsWell after) c.running (running_on h exec)
           (All-weaker (RunsWell c) (RunsWell after) runs c.running sound.running) new_runs;
       known = λ b on r. known b on (is_same a b) refl (sym (moves.runners b) ∙ r);
+      placed = carries.placed sound.placed;
       apart = all_pairs_push AreTwo c.running (running_on h exec) sound.apart
           (λ k d l. All-get_or (λ r. AreTwo r (running_on h exec)) c.running k d l apart);
       unheld = moves.unheld sound.unheld;
@@ -128,6 +138,9 @@ task_sound c exec h calls others sound asks out below =
     moves : Moves (is_same h.attempt) (Some exec) c.dag (handed_out c.dag h.attempt exec c.now)
     moves = handed_out_moves c.dag exec c.now h.attempt o out.offer.newest
 
+    carries : Carries c.dag (handed_out c.dag h.attempt exec c.now)
+    carries = handed_carries c.dag h.attempt exec c.now
+
     ends : c.job ≡ jobs.Done → ⊥
     ends e = clash asks.runs (ap is_running_job e)
 
@@ -148,14 +161,24 @@ task_sound c exec h calls others sound asks out below =
         record {
           in_set = moves.runners r.hand_out.attempt
               ∙ (rw (other r w (is_same h.attempt r.hand_out.attempt) refl) w.in_set);
+          there = w.there;
           live = w.live;
+          handed_out = handed_still c.dag (handed_out c.dag h.attempt exec c.now) r.hand_out
+              carries w.handed_out;
         }
+
+    live : is_live (slice_get c.dag.tracker.trust exec) ≡ true
+    live = not_false (is_live (slice_get c.dag.tracker.trust exec)) asks.live
 
     new_runs : RunsWell after (running_on h exec)
     new_runs =
         record {
           in_set = moves.runners h.attempt ∙ (rw (is_itself h.attempt) refl);
-          live = asks.live;
+          there = (live_there c.dag.tracker.trust exec live).0;
+          live = (live_there c.dag.tracker.trust exec live).1;
+          handed_out = handed_still c.dag (handed_out c.dag h.attempt exec c.now) h carries
+              (handed_new c.dag exec h sound.dag sound.placed o out.offer.newest out.epoch
+              out.inputs);
         }
 
     two : (r : Running) → RunsWell c r → is_out_on exec r ≡ false → AreTwo r (running_on h exec)

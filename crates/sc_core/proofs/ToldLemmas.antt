@@ -1,5 +1,5 @@
 -- What holds of every core holds once a report was told, if its stages go on.
-use Rattle.std.proofs.Common.{◌≡◌, ◌≢◌, ℕ, ◌-◌, not, All, Bool, true, false, cond, if◌then◌else◌, List, [], ◌∷◌, length, Some, None, slice_get, refl, ap, sym, subst, ◌∙◌, arith, rules, true≢false}
+use Rattle.std.proofs.Common.{◌≡◌, ◌≢◌, ℕ, ◌-◌, not, All, Bool, true, false, cond, if◌then◌else◌, List, [], ◌∷◌, length, Some, None, slice_get, refl, ap, sym, subst, ◌∙◌, arith, rules, true≢false, ◌<◌}
 use Rattle.std.specs.List.{AllPairs, filter, list_all}
 use Rattle.std.proofs.lemmas.List.Elements.{All-cons, All-head, All-tail}
 use Rattle.std.proofs.lemmas.List.Kept.{AllPairs-filter}
@@ -22,6 +22,7 @@ use Rattle.sc_core.specs.declared.answers.Job.TheVariants as jobs
 use Rattle.sc_core.specs.declared.running.Running.{Running}
 use Rattle.sc_core.proofs.MoveLemmas.{Moves, SameResults}
 use Rattle.sc_core.proofs.RunningLemmas.{found_beside, same_sym}
+use Rattle.sc_core.proofs.CarryLemmas.{Carries, handed_still}
 
 -- a stage of results is complete by its results alone
 pub complete_by_results :
@@ -78,17 +79,18 @@ goes_same c after sound goes stages results on =
 -- what is left of a core is sound, once an attempt's report is told
 pub told_sound :
     (c after : CoreData) (a : AttemptId) → IsSoundJob c → Moves (is_same a) None c.dag after.dag
-    → after.running ≡ filter (λ r. not (is_of a r)) c.running
+    → Carries c.dag after.dag → after.running ≡ filter (λ r. not (is_of a r)) c.running
     → after.handed ≡ c.handed → IsSoundDag after.dag → (job_runs after ≡ true → GoesOn after)
     → (after.job ≡ jobs.Done → is_complete after.dag (result_stage after.dag) ≡ true)
     → IsSoundJob after
-told_sound c after a sound moves running handed dag_sound goes done =
+told_sound c after a sound moves carries running handed dag_sound goes done =
     record {
       dag = dag_sound;
       result = rw moves.stages sound.result;
       maps = rw moves.stages sound.maps;
       running = subst (λ rs. All (RunsWell after) rs) (sym running) left;
       known = λ b exec h. known b exec (is_same a b) refl (sym (moves.runners b) ∙ h);
+      placed = carries.placed sound.placed;
       apart = subst (λ rs. AllPairs AreTwo rs) (sym running)
           (AllPairs-filter AreTwo (λ r. not (is_of a r)) c.running sound.apart);
       unheld = moves.unheld sound.unheld;
@@ -105,7 +107,9 @@ told_sound c after a sound moves running handed dag_sound goes done =
         record {
           in_set = moves.runners r.hand_out.attempt
               ∙ (rw (same_sym a r.hand_out.attempt, other) well.in_set);
+          there = subst (λ n. r.exec < n) (sym carries.many) well.there;
           live = moves.lost r.exec ∙ well.live;
+          handed_out = handed_still c.dag after.dag r.hand_out carries well.handed_out;
         }
 
     left_in : (rs : List Running) → All (RunsWell c) rs

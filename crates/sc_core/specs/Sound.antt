@@ -1,6 +1,7 @@
 -- What holds of every core.
-use Rattle.std.specs.Prelude.{ℕ, ◌^◌, ◌<◌, ◌≤◌, ◌≡◌, ◌≢◌, ◌⊎◌, List, Bool, true, false, Option, Some, None, All, nat_lt}
+use Rattle.std.specs.Prelude.{ℕ, ◌^◌, ◌<◌, ◌≤◌, ◌≡◌, ◌≢◌, ◌⊎◌, List, Bool, true, false, Option, Some, None, All, IfSome, length, nat_lt}
 use Rattle.std.specs.List.{AllPairs, list_any}
+use Rattle.std.specs.Option.{option_map}
 use Rattle.sc_commit.specs.Committing.{is_same}
 use Rattle.sc_dag.specs.DagData.{DagData, no_stage, stage_at}
 use Rattle.sc_dag.specs.Outputs.{is_complete}
@@ -10,21 +11,61 @@ use Rattle.sc_dag.specs.Sound.{IsSoundDag, attempts_of, runner_of}
 use Rattle.sc_dag.specs.Submission.{is_map}
 use Rattle.sc_dag.specs.declared.attempts.StageAttempt.{StageAttempt}
 use Rattle.sc_ids.specs.declared.attempts.AttemptId.{AttemptId}
+use Rattle.sc_ids.specs.declared.blocks.BlockId.{BlockId}
 use Rattle.sc_plan.specs.Orders.{loss_of}
 use Rattle.sc_taskset.specs.Lookups.{task_at}
 use Rattle.sc_taskset.specs.TaskSetData.{TaskData, TaskSetData}
-use Rattle.sc_tracker.specs.TrackerData.{trust_of}
+use Rattle.sc_tracker.specs.TrackerData.{TrackerData, output_of, trust_of}
+use Rattle.sc_tracker.specs.Trust.{is_marked}
+use Rattle.sc_tracker.specs.declared.outputs.Location.{Location}
+use Rattle.sc_tracker.specs.declared.outputs.Location.TheVariants.{Here, Missing}
 use Rattle.sc_core.specs.CoreData.{CoreData, is_of, job_runs, result_stage, running_of}
+use Rattle.sc_core.specs.HandOuts.{HandOutData}
 use Rattle.sc_core.specs.declared.answers.Job.TheVariants as jobs
 use Rattle.sc_core.specs.Losses.{is_due_after}
 use Rattle.sc_core.specs.Posts.{fits}
 use Rattle.sc_core.specs.declared.running.Running.{Running}
 use Rattle.sc_core.specs.declared.running.Shelved.{Shelved}
 
--- a running attempt runs in its task set too, on its executor, which isn't lost
+-- ---- what was handed out
+
+-- the epoch in which the task set of an attempt began
+abbrev pub born_of : DagData → AttemptId → Option ℕ
+born_of d a = option_map (λ set. set.born) (set_of d a)
+
+-- An input of an attempt that was handed out in an epoch, whose task set began in another one.
+-- Where it lay, on an executor of the run, it was of no generation below the one that is seen there
+-- now, unless an event came there since. Where it was missing, it was lost since the set began.
+abbrev pub IsInput : TrackerData → ℕ → ℕ → Location → Type 0
+IsInput t born epoch (Here loc) =
+    (loc.exec < length t.trust)
+    × (((trust_of t loc.exec).seen ≤ loc.generation)
+    ⊎ (is_marked (trust_of t loc.exec).mark epoch ≡ true))
+IsInput t born epoch (Missing last) = born < epoch
+
+-- what a running attempt was handed out with
+pub record WasHandedOut (d : DagData) (h : HandOutData) : Type 0 where
+  pub born : ℕ
+  pub is_born : born_of d h.attempt ≡ Some born
+  -- not before its task set began, and no later than now
+  pub begun : born ≤ h.epoch
+  pub past : h.epoch ≤ d.tracker.epoch
+  pub inputs : All (IsInput d.tracker born h.epoch) h.inputs
+
+-- registered outputs lie on executors of the run
+abbrev pub AreOnExecutors : TrackerData → Type 0
+AreOnExecutors t =
+    (block : BlockId) → IfSome (output_of t block).here (λ loc. loc.exec < length t.trust)
+
+-- ---- what runs
+
+-- a running attempt runs in its task set too, on its executor, which is one of the run and isn't
+-- lost
 pub record RunsWell (c : CoreData) (r : Running) : Type 0 where
   pub in_set : runner_of c.dag r.hand_out.attempt ≡ Some r.exec
+  pub there : r.exec < length c.dag.tracker.trust
   pub live : (trust_of c.dag.tracker r.exec).lost ≡ false
+  pub handed_out : WasHandedOut c.dag r.hand_out
 
 -- two running attempts are different ones, and where both are out on different executors
 pub record AreTwo (q r : Running) : Type 0 where
@@ -42,7 +83,7 @@ pub record GoesOn (c : CoreData) : Type 0 where
 abbrev pub IsUnheld : StageAttempt → Type 0
 IsUnheld a = All (λ task. task.denied ≡ false) a.set.tasks
 
--- ---- what runs
+-- ---- the job
 
 -- what runs, and how far the job is
 pub record IsSoundJob (c : CoreData) : Type 0 where
@@ -55,6 +96,8 @@ pub record IsSoundJob (c : CoreData) : Type 0 where
   pub running : All (RunsWell c) c.running
   pub known : (a : AttemptId) (exec : ℕ) → runner_of c.dag a ≡ Some exec
       → running_of c a ≢ None
+  -- what is registered lies on executors of the run
+  pub placed : AreOnExecutors c.dag.tracker
   -- an executor has one attempt out
   pub apart : AllPairs AreTwo c.running
   -- nothing is denied yet

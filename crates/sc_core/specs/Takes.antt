@@ -1,8 +1,8 @@
 -- What an executor that asks for a task is answered, and what that leaves.
-use Rattle.std.specs.Prelude.{ℕ, ◌+◌, ◌<◌, ◌≤◌, ◌≡◌, ◌≢◌, [], ◌∷◌, ◌++◌, Bool, true, false, Some, None}
+use Rattle.std.specs.Prelude.{ℕ, ◌+◌, ◌<◌, ◌≤◌, ◌≡◌, ◌≢◌, [], ◌∷◌, ◌++◌, Bool, true, false, Some, None, not, slice_get}
 use Rattle.sc_dag.specs.Offers.{HasNone, IsOffer, handed_out}
 use Rattle.sc_ids.specs.declared.attempts.AttemptId.{AttemptId}
-use Rattle.sc_tracker.specs.TrackerData.{trust_of}
+use Rattle.sc_tracker.specs.Trust.{is_live}
 use Rattle.sc_core.specs.CoreData.{CoreData, ended, held_by, job_runs, under_way}
 use Rattle.sc_core.specs.HandOuts.{HandOutData, inputs_of}
 use Rattle.sc_core.specs.declared.answers.Abort.TheVariants.{Budget}
@@ -12,9 +12,9 @@ use Rattle.sc_core.specs.declared.answers.Job.TheVariants as jobs
 use Rattle.sc_core.specs.declared.running.Phase.TheVariants.{Given}
 use Rattle.sc_core.specs.declared.running.Running.{Running}
 
--- an executor is told lost
+-- an executor gets nothing more: it was told lost, or is none of the run
 abbrev pub is_lost : CoreData → ℕ → Bool
-is_lost c exec = (trust_of c.dag.tracker exec).lost
+is_lost c exec = not (is_live (slice_get c.dag.tracker.trust exec))
 
 -- an executor gets a task if there is one: the job runs, nobody left early, the executor isn't
 -- lost, and has no attempt out

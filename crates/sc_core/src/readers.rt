@@ -18,11 +18,11 @@ impl Core {
         self.state.stages.dag().next_task(exec, self.state.tick)
     }
 
-    /// Whether an executor was told lost.
+    /// Whether an executor gets nothing more: it was told lost, or is none of the run.
     pub fn is_lost(&self, exec: ExecId) -> bool
         ensures { result ≡ is_lost self.now exec }
     {
-        self.state.stages.dag().tracker().lost(exec)
+        !self.state.stages.dag().tracker().is_live(exec)
     }
 
     /// Whether an executor may be told lost.

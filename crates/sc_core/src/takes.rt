@@ -39,7 +39,7 @@ impl State {
         match self.left_first {
             Some(first) => Some(Answer::Stopped { exec: first }),
             None => {
-                if self.stages.dag().tracker().lost(exec) {
+                if !self.stages.dag().tracker().is_live(exec) {
                     return Some(Answer::Lost);
                 }
                 match held_by(&self.running, exec) {

@@ -114,4 +114,4 @@ submissions_agree d a b submitted sound (one, are, is) (other, are', is') =
     is ∙ (ap (λ looked. with_states d (by_number (moved_if d looked) 0 d.states)) same ∙ sym is')
   where
     same : one ≡ other
-    same = λ i. λ s. looked_agree d submitted one other sound.stages are are' s i
+    same = λ i. λ s. looked_agree d submitted one other sound are are' s i

@@ -18,13 +18,13 @@ use Rattle.sc_dag.specs.Openings.{FitsJob, IsJob, Opens}
 use Rattle.sc_dag.specs.Outputs.{is_complete}
 use Rattle.sc_dag.specs.Reports.{CompletesMap, FailsStage, after_failed, after_hold, after_map_success, after_result_success, is_finished_short}
 use Rattle.sc_dag.specs.Settled.{IsSettled, IsSettledBy, IsUnderWay, goes_on}
-use Rattle.sc_dag.specs.Sound.{IsSoundDag, runner_of}
+use Rattle.sc_dag.specs.Sound.{IsSoundDag, runner_of, AreSoundStages}
 use Rattle.sc_dag.specs.Submission.{IsSubmitted, is_map, this_stage}
 
 -- two submissions of the same stages leave the same
 abbrev pub SubmissionsAgree : Type 0
 SubmissionsAgree =
-    (d a b : DagData) (submitted : ℕ → Bool) → IsSoundDag d
+    (d a b : DagData) (submitted : ℕ → Bool) → AreSoundStages d.stages d.tracker
     → IsSubmitted d submitted a → IsSubmitted d submitted b → a ≡ b
 
 -- a stage that is submitted once more stays as it is

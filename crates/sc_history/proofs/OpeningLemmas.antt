@@ -145,5 +145,6 @@ openings_agree graph limits saved plan last x y job fits sound a b =
 
     dags : x.dag ≡ y.dag
     dags =
-        submissions_agree a.dag x.dag y.dag (this_stage (result_stage a.dag)) well a.submits
+        submissions_agree a.dag x.dag y.dag (this_stage (result_stage a.dag)) well.stages
+        a.submits
         (subst (λ d. IsSubmitted d (this_stage (result_stage d)) y.dag) (sym same) b.submits)
