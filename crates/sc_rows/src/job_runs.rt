@@ -158,6 +158,20 @@ fn the_budget_ends_a_job(rt: HostRuntime) {
     assert_eq!(rt; journal.core().job(), Job::Aborted(Abort::Budget));
 }
 
+/// A run has two executors, so there is none of the number 2.
+const STRANGER: &str = "\
+2 take: lost
+0 take: task 0.0.0.0, epoch 0
+2 take: lost
+1 take: task 0.0.1.0, epoch 0
+";
+
+#[test]
+fn an_executor_that_is_none_of_the_run_gets_nothing(rt: HostRuntime) {
+    let mut journal = results(&rt, Limits::default());
+    assert_transcript(&rt, &mut journal, STRANGER);
+}
+
 /// Partition 0 raises again and again, and partition 1 once.
 const RAISES: &str = "\
 0 take: task 0.0.0.0, epoch 0
