@@ -57,19 +57,13 @@ module _ (law : HaveOneReading) (run : RunData) (taken : Taken) (fault : ScriptF
       absurd (no_script ends.bytes (plan_read ends.plan_bytes ∷ []) ends.script ends.is
       ends.is_script)
   tells_fault_here (statuses.Input name missing) ends = absurd (nothing_next name ends.is_next)
-  tells_fault_here (statuses.TaskLimit stage attempt partition) ends =
-      absurd (none ends.work.script ends.work.plan ends.work.inputs ends.read.read)
-  tells_fault_here (statuses.StageLimit stage) ends =
-      absurd (none ends.work.script ends.work.plan ends.work.inputs ends.read.read)
-  tells_fault_here statuses.NoExecutor ends =
+  tells_fault_here (statuses.Aborted abort) ends =
       absurd (none ends.work.script ends.work.plan ends.work.inputs ends.read.read)
   tells_fault_here (statuses.DriverFault k f) ends =
       absurd (none ends.work.script ends.work.plan ends.work.inputs ends.read.read)
   tells_fault_here statuses.WriteFault ends =
       absurd (none ends.work.script ends.work.plan ends.work.inputs ends.read.read)
   tells_fault_here statuses.OutOfMemory ends = inr refl
-  tells_fault_here statuses.Budget ends =
-      absurd (none ends.work.script ends.work.plan ends.work.inputs ends.read.read)
   tells_fault_here (statuses.NotText name) ends =
       absurd (none ends.script ends.plan (ends.inputs ++ (name, ends.bytes) ∷ []) ends.read)
 
@@ -122,19 +116,13 @@ module _ (law : PlansHaveOneReading) (run : RunData) (command : Command) (taken 
   tells_plan_here (statuses.Plan f) ends =
       inl (ap (λ (x : PlanFault). statuses.Plan x) (this_fault f ends))
   tells_plan_here (statuses.Input name missing) ends = absurd (no_name_next name ends.is_next)
-  tells_plan_here (statuses.TaskLimit stage attempt partition) ends =
-      absurd (no_plan ends.work.script ends.work.plan ends.work.inputs ends.read.read)
-  tells_plan_here (statuses.StageLimit stage) ends =
-      absurd (no_plan ends.work.script ends.work.plan ends.work.inputs ends.read.read)
-  tells_plan_here statuses.NoExecutor ends =
+  tells_plan_here (statuses.Aborted abort) ends =
       absurd (no_plan ends.work.script ends.work.plan ends.work.inputs ends.read.read)
   tells_plan_here (statuses.DriverFault k f) ends =
       absurd (no_plan ends.work.script ends.work.plan ends.work.inputs ends.read.read)
   tells_plan_here statuses.WriteFault ends =
       absurd (no_plan ends.work.script ends.work.plan ends.work.inputs ends.read.read)
   tells_plan_here statuses.OutOfMemory ends = inr refl
-  tells_plan_here statuses.Budget ends =
-      absurd (no_plan ends.work.script ends.work.plan ends.work.inputs ends.read.read)
   tells_plan_here (statuses.NotText name) ends =
       absurd (no_plan ends.script ends.plan (ends.inputs ++ (name, ends.bytes) ∷ []) ends.read)
 
@@ -218,13 +206,7 @@ module _ (run : RunData) (taken : Taken) (name content : List ℕ)
       absurd (not_without ends.bytes (Some ends.plan_bytes) ends.is)
   tells_not_text_here (statuses.Input next missing) ends =
       absurd (no_next_input next ends.is_next)
-  tells_not_text_here (statuses.TaskLimit stage attempt partition) ends =
-      absurd (no_texts ends.work.script ends.work.plan ends.work.inputs ends.read.read
-      ends.read.sound.texts)
-  tells_not_text_here (statuses.StageLimit stage) ends =
-      absurd (no_texts ends.work.script ends.work.plan ends.work.inputs ends.read.read
-      ends.read.sound.texts)
-  tells_not_text_here statuses.NoExecutor ends =
+  tells_not_text_here (statuses.Aborted abort) ends =
       absurd (no_texts ends.work.script ends.work.plan ends.work.inputs ends.read.read
       ends.read.sound.texts)
   tells_not_text_here (statuses.DriverFault k f) ends =
@@ -234,9 +216,6 @@ module _ (run : RunData) (taken : Taken) (name content : List ℕ)
       absurd (no_texts ends.work.script ends.work.plan ends.work.inputs ends.read.read
       ends.read.sound.texts)
   tells_not_text_here statuses.OutOfMemory ends = inr refl
-  tells_not_text_here statuses.Budget ends =
-      absurd (no_texts ends.work.script ends.work.plan ends.work.inputs ends.read.read
-      ends.read.sound.texts)
   tells_not_text_here (statuses.NotText last) ends =
       inl (ap (λ (n : List ℕ). statuses.NotText n)
       (only_last ends.script ends.plan ends.inputs last ends.bytes ends.read ends.is_next.texts))

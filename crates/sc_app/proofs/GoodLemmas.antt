@@ -52,13 +52,10 @@ ends_well run (statuses.Input name true) ends good = by_there good.there
     by_there (inl no_miss) = no_miss ends.cause.0
     by_there (inr all) = there run name all ends.is_next ends.cause.2
 ends_well run (statuses.Input name false) ends good = good.no_fault ends.cause.0
-ends_well run (statuses.TaskLimit stage attempt partition) ends good = tt
-ends_well run (statuses.StageLimit stage) ends good = tt
-ends_well run statuses.NoExecutor ends good = tt
+ends_well run (statuses.Aborted abort) ends good = tt
 ends_well run (statuses.DriverFault k fault) ends good = tt
 ends_well run statuses.WriteFault ends good = good.no_write_fault ends.stops.rose
 ends_well run statuses.OutOfMemory ends good = tt
-ends_well run statuses.Budget ends good = tt
 ends_well run (statuses.NotText name) ends good =
     ends.no_text (AreTexts-last ends.inputs name ends.bytes
     (good.texts (record {

@@ -8,7 +8,6 @@ use Rattle.sc_base.specs.declared.refusals.OrMemory.{OrMemory}
 use Rattle.sc_base.specs.declared.refusals.OrMemory.TheVariants as refusals
 use Rattle.sc_context.specs.Histories.{HasDone}
 use Rattle.sc_core.specs.declared.answers.Abort.{Abort}
-use Rattle.sc_core.specs.declared.answers.Abort.TheVariants as aborts
 use Rattle.sc_core.specs.declared.journals.JobHistory.{JobHistory}
 use Rattle.sc_lineage.specs.ScriptData.{ScriptData, WorkData, IsSoundWork, name_of_input}
 use Rattle.sc_plan.specs.declared.lines.PlanLine.{PlanLine}
@@ -25,7 +24,7 @@ use Rattle.sc_app.specs.declared.ran.Status.{Status}
 use Rattle.sc_app.specs.declared.ran.Status.TheVariants as statuses
 use Rattle.sc_app.specs.Ends.{Ends, EndsForAbort, IsRun}
 use Rattle.sc_app.specs.Runs.{RunData, AreReads, AsksOnce, HasRead, HasReadWork, name_missed, run_of}
-use Rattle.sc_app.specs.Statuses.{is_missing, status_of_abort, status_of_input, status_of_print}
+use Rattle.sc_app.specs.Statuses.{is_missing, status_of_input, status_of_print}
 use Rattle.sc_words.specs.Words.{AreTaken, command_of}
 use Rattle.sc_words.specs.declared.commands.Command.{Command}
 use Rattle.sc_app.proofs.PieceLemmas.{text-printed}
@@ -228,13 +227,8 @@ module _ (words : List (List ℕ)) (command : Command)
 
           -- a job was aborted
           abort-stops : (abort : Abort) → EndsForAbort ran abort
-              → IsRun ran (status_of_abort abort)
-          abort-stops (aborts.TaskLimit stage attempt partition) ends =
-              all_read (statuses.TaskLimit stage attempt partition) refl (λ e. cc) ends
-          abort-stops (aborts.StageLimit stage) ends =
-              all_read (statuses.StageLimit stage) refl (λ e. cc) ends
-          abort-stops aborts.NoExecutor ends = all_read statuses.NoExecutor refl (λ e. cc) ends
-          abort-stops aborts.Budget ends = all_read statuses.Budget refl (λ e. cc) ends
+              → IsRun ran (statuses.Aborted abort)
+          abort-stops abort ends = all_read (statuses.Aborted abort) refl (λ e. cc) ends
 
           -- the printing stops the run
           pub printing-stops : (stop : OrMemory PrintFault)

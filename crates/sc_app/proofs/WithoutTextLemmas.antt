@@ -6,7 +6,6 @@ use Rattle.std.specs.Str.{IsUtf8}
 use Rattle.std.proofs.lemmas.List.Elements.{All-get_or}
 use Rattle.std.proofs.lemmas.Option.{slice_get_within, get_or_from_slice_get}
 use Rattle.sc_base.specs.Outside.{Files}
-use Rattle.sc_core.specs.declared.answers.Abort.TheVariants as aborts
 use Rattle.sc_lineage.specs.Actions.{action_outcome, faults, never, HasText}
 use Rattle.sc_lineage.specs.ScriptData.{ActionData, ScriptData, WorkData}
 use Rattle.sc_lineage.specs.declared.nodes.DriverFault.{DriverFault}
@@ -158,10 +157,7 @@ module _ (law : HaveOneReading) (plans : PlansHaveOneReading) (run : RunData) (w
       absurd (not_planless law plans run work k action read first no_text f ends)
   tells_never_here (statuses.Input name missing) ends =
       absurd (not_next law plans run work k action read first no_text name ends.is_next)
-  tells_never_here (statuses.TaskLimit stage attempt partition) ends =
-      inl (aborts.TaskLimit stage attempt partition, refl)
-  tells_never_here (statuses.StageLimit stage) ends = inl (aborts.StageLimit stage, refl)
-  tells_never_here statuses.NoExecutor ends = inl (aborts.NoExecutor, refl)
+  tells_never_here (statuses.Aborted abort) ends = inl (abort, refl)
   tells_never_here (statuses.DriverFault i f) ends =
       let x = stopped law plans run work k action read first no_text ends.work i ends.stops.action
       ends.read ends.stops.printed.texts ends.stops.is_action
@@ -172,7 +168,6 @@ module _ (law : HaveOneReading) (plans : PlansHaveOneReading) (run : RunData) (w
       absurd cc
   tells_never_here statuses.WriteFault ends = inr (inr refl)
   tells_never_here statuses.OutOfMemory ends = inr (inl refl)
-  tells_never_here statuses.Budget ends = inl (aborts.Budget, refl)
   tells_never_here (statuses.NotText name) ends =
       absurd (not_bad law plans run work k action read first no_text ends.script ends.plan
       ends.inputs name ends.bytes ends.read ends.no_text)
@@ -204,10 +199,7 @@ module _ (law : HaveOneReading) (plans : PlansHaveOneReading) (run : RunData) (w
       absurd (not_planless law plans run work k action read first no_text_either f ends)
   tells_driver_here (statuses.Input name missing) ends =
       absurd (not_next law plans run work k action read first no_text_either name ends.is_next)
-  tells_driver_here (statuses.TaskLimit stage attempt partition) ends =
-      inl (aborts.TaskLimit stage attempt partition, refl)
-  tells_driver_here (statuses.StageLimit stage) ends = inl (aborts.StageLimit stage, refl)
-  tells_driver_here statuses.NoExecutor ends = inl (aborts.NoExecutor, refl)
+  tells_driver_here (statuses.Aborted abort) ends = inl (abort, refl)
   tells_driver_here (statuses.DriverFault i f) ends =
       let x = stopped law plans run work k action read first no_text_either ends.work i
       ends.stops.action ends.read ends.stops.printed.texts ends.stops.is_action
@@ -220,7 +212,6 @@ module _ (law : HaveOneReading) (plans : PlansHaveOneReading) (run : RunData) (w
       ∙ ap (statuses.DriverFault k) same)))
   tells_driver_here statuses.WriteFault ends = inr (inr refl)
   tells_driver_here statuses.OutOfMemory ends = inr (inl (inr refl))
-  tells_driver_here statuses.Budget ends = inl (aborts.Budget, refl)
   tells_driver_here (statuses.NotText name) ends =
       absurd (not_bad law plans run work k action read first no_text_either ends.script ends.plan
       ends.inputs name ends.bytes ends.read ends.no_text)

@@ -9,7 +9,6 @@ use Rattle.sc_plan.specs.Plans.{FaultsPlan}
 use Rattle.sc_plan.specs.declared.faults.PlanFault.{PlanFault}
 use Rattle.sc_plan.specs.declared.lines.PlanLine.{PlanLine}
 use Rattle.sc_core.specs.declared.answers.Abort.{Abort}
-use Rattle.sc_core.specs.declared.answers.Abort.TheVariants as aborts
 use Rattle.sc_core.specs.declared.journals.JobHistory.{JobHistory}
 use Rattle.sc_context.specs.Aborts.{IsAborted}
 use Rattle.sc_context.specs.Histories.{HasDone}
@@ -154,11 +153,7 @@ Ends run statuses.Usage = EndsForUsage run
 Ends run (statuses.Script fault) = EndsForScript run fault
 Ends run (statuses.Plan fault) = EndsForPlan run fault
 Ends run (statuses.Input name missing) = EndsForInput run name missing
-Ends run (statuses.TaskLimit stage attempt partition) =
-    EndsForAbort run (aborts.TaskLimit stage attempt partition)
-Ends run (statuses.StageLimit stage) = EndsForAbort run (aborts.StageLimit stage)
-Ends run statuses.NoExecutor = EndsForAbort run aborts.NoExecutor
-Ends run statuses.Budget = EndsForAbort run aborts.Budget
+Ends run (statuses.Aborted abort) = EndsForAbort run abort
 Ends run (statuses.DriverFault k fault) = EndsForDriver run k fault
 Ends run statuses.WriteFault = EndsForWrite run
 Ends run statuses.OutOfMemory = EndsForMemory run

@@ -8,7 +8,7 @@ use Rattle.sc_lineage.specs.declared.nodes.DriverFault.{DriverFault}
 use Rattle.sc_plan.specs.Plans.{FaultsPlan}
 use Rattle.sc_plan.specs.declared.faults.PlanFault.{PlanFault}
 use Rattle.sc_core.specs.declared.answers.Abort.{Abort}
-use Rattle.sc_app.specs.Statuses.{status_of_abort}
+use Rattle.sc_core.specs.declared.answers.Abort.TheVariants as aborts
 use Rattle.sc_read.specs.declared.reads.Read.{Read}
 use Rattle.sc_read.specs.Reads.{Taken, reads_of}
 use Rattle.sc_script.specs.declared.faults.ScriptFault.{ScriptFault}
@@ -59,7 +59,7 @@ pub record IsFirstWithout (work : WorkData) (k : ℕ) (action : ActionData) : Ty
 
 -- a job was aborted
 abbrev pub TellsAbort : Status → Type 0
-TellsAbort status = (abort : Abort) × (status ≡ status_of_abort abort)
+TellsAbort status = (abort : Abort) × (status ≡ statuses.Aborted abort)
 
 -- if the first action without a text is never, a job was aborted
 abbrev pub TellsNever : List (List ℕ) → List Read → Status → Type 0
@@ -87,7 +87,7 @@ HasNoNever work = (action : ActionData) → Contains work.script.actions action
 abbrev pub TellsNoFailure : List (List ℕ) → List Read → Status → Type 0
 TellsNoFailure words reads status = (work : WorkData) → HasReadWork words reads work
     → work.plan ≡ []
-    → (status ≢ statuses.NoExecutor)
-    × ((stage : ℕ) → status ≢ statuses.StageLimit stage)
+    → (status ≢ statuses.Aborted aborts.NoExecutor)
+    × ((stage : ℕ) → status ≢ statuses.Aborted (aborts.StageLimit stage))
     × (HasNoNever work → (stage attempt partition : ℕ)
-    → status ≢ statuses.TaskLimit stage attempt partition)
+    → status ≢ statuses.Aborted (aborts.TaskLimit stage attempt partition))

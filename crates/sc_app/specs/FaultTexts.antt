@@ -1,6 +1,8 @@
 -- The text of each status.
 use Rattle.std.specs.Prelude.{ℕ, Bool, true, false, List, [], ◌++◌, codes}
 use Rattle.std.specs.Fmt.{decimal}
+use Rattle.sc_core.specs.declared.answers.Abort.{Abort}
+use Rattle.sc_core.specs.declared.answers.Abort.TheVariants as aborts
 use Rattle.sc_script.specs.declared.faults.FaultKind.{FaultKind}
 use Rattle.sc_script.specs.declared.faults.FaultKind.TheVariants as kinds
 use Rattle.sc_plan.specs.declared.faults.PlanFaultKind.{PlanFaultKind}
@@ -11,7 +13,7 @@ use Rattle.sc_lineage.specs.declared.nodes.DriverFault.{DriverFault}
 use Rattle.sc_lineage.specs.declared.nodes.DriverFault.TheVariants as causes
 use Rattle.sc_app.specs.declared.ran.Status.{Status}
 use Rattle.sc_app.specs.declared.ran.Status.TheVariants as statuses
-use Rattle.sc_app.specs.declared.ran.Status.TheVariants.{Done, Usage, Script, Plan, Input, TaskLimit, StageLimit, NoExecutor, WriteFault, OutOfMemory, Budget, NotText}
+use Rattle.sc_app.specs.declared.ran.Status.TheVariants.{Aborted, Done, Input, NotText, OutOfMemory, Plan, Script, Usage, WriteFault}
 
 -- the name of a kind of fault
 abbrev pub kind_text : FaultKind → List ℕ
@@ -46,6 +48,15 @@ abbrev pub cause_text : DriverFault → List ℕ
 cause_text causes.EmptyCollection = codes "EmptyCollection"
 cause_text (causes.Raised raise) = raise_text raise
 
+-- the text of an abort
+abbrev pub abort_text : Abort → List ℕ
+abort_text (aborts.TaskLimit stage attempt partition) =
+    codes "task limit: stage " ++ decimal stage ++ codes " attempt " ++ decimal attempt
+    ++ codes " partition " ++ decimal partition
+abort_text (aborts.StageLimit stage) = codes "stage limit: stage " ++ decimal stage
+abort_text aborts.NoExecutor = codes "no executor"
+abort_text aborts.Budget = codes "budget"
+
 -- the text of a status; done has none
 abbrev pub fault_text : Status → List ℕ
 fault_text Done = []
@@ -55,14 +66,9 @@ fault_text (Script fault) =
 fault_text (Plan fault) =
     codes "plan: line " ++ decimal fault.line ++ codes ": " ++ plan_kind_text fault.kind
 fault_text (Input name missing) = codes "input: " ++ name ++ codes ": " ++ missing_text missing
-fault_text (TaskLimit stage attempt partition) =
-    codes "task limit: stage " ++ decimal stage ++ codes " attempt " ++ decimal attempt
-    ++ codes " partition " ++ decimal partition
-fault_text (StageLimit stage) = codes "stage limit: stage " ++ decimal stage
-fault_text NoExecutor = codes "no executor"
+fault_text (Aborted abort) = abort_text abort
 fault_text (statuses.DriverFault k kind) =
     codes "driver: action " ++ decimal k ++ codes ": " ++ cause_text kind
 fault_text WriteFault = codes "write failed"
 fault_text OutOfMemory = codes "out of memory"
-fault_text Budget = codes "budget"
 fault_text (NotText name) = codes "not text: " ++ name

@@ -15,7 +15,14 @@ use Rattle.sc_read.specs.declared.stops.ScriptStop.TheVariants as scripts
 use Rattle.sc_read.specs.declared.stops.Unreadable.{Unreadable}
 use Rattle.sc_read.specs.declared.stops.Unreadable.TheVariants.{Missing, Failed}
 use Rattle.sc_app.specs.declared.ran.Status.{Status}
-use Rattle.sc_app.specs.declared.ran.Status.TheVariants.{Done, Usage, Script, Plan, Input, TaskLimit, StageLimit, NoExecutor, DriverFault, WriteFault, OutOfMemory, Budget, NotText}
+use Rattle.sc_app.specs.declared.ran.Status.TheVariants.{Aborted, Done, DriverFault, Input, NotText, OutOfMemory, Plan, Script, Usage, WriteFault}
+
+-- the number of the status where a job was aborted
+abbrev pub number_of_abort : Abort → ℕ
+number_of_abort (aborts.TaskLimit stage attempt partition) = 6
+number_of_abort (aborts.StageLimit stage) = 7
+number_of_abort aborts.NoExecutor = 8
+number_of_abort aborts.Budget = 14
 
 -- the number of a status
 abbrev pub number_of : Status → ℕ
@@ -24,13 +31,10 @@ number_of Usage = 2
 number_of (Script fault) = 3
 number_of (Plan fault) = 4
 number_of (Input name missing) = 5
-number_of (TaskLimit stage attempt partition) = 6
-number_of (StageLimit stage) = 7
-number_of NoExecutor = 8
+number_of (Aborted abort) = number_of_abort abort
 number_of (DriverFault k fault) = 9
 number_of WriteFault = 12
 number_of OutOfMemory = 13
-number_of Budget = 14
 number_of (NotText name) = 15
 
 -- whether a name gave no bytes since it isn't there
@@ -56,16 +60,9 @@ status_of_input (refusals.Fault (inputs.Unreadable name why)) = Input name (is_m
 status_of_input (refusals.Fault (inputs.NotText name)) = NotText name
 status_of_input refusals.OutOfMemory = OutOfMemory
 
--- the status where a job was aborted
-abbrev pub status_of_abort : Abort → Status
-status_of_abort (aborts.TaskLimit stage attempt partition) = TaskLimit stage attempt partition
-status_of_abort (aborts.StageLimit stage) = StageLimit stage
-status_of_abort aborts.NoExecutor = NoExecutor
-status_of_abort aborts.Budget = Budget
-
 -- the status where not all actions were printed
 abbrev pub status_of_print : OrMemory PrintFault → Status
-status_of_print (refusals.Fault (prints.Aborted k abort)) = status_of_abort abort
+status_of_print (refusals.Fault (prints.Aborted k abort)) = Aborted abort
 status_of_print (refusals.Fault (prints.Driver k fault)) = DriverFault k fault
 status_of_print (refusals.Fault prints.Write) = WriteFault
 status_of_print refusals.OutOfMemory = OutOfMemory

@@ -2,10 +2,9 @@
 #![tactic(auto)]
 
 ghost use Rattle.std.specs.Prelude.{◌≡◌};
-ghost use Rattle.sc_app.specs.Statuses.{number_of};
+ghost use Rattle.sc_app.specs.Statuses.{number_of, number_of_abort};
 
-use sc_core::JobHistory;
-use sc_ids::StageId;
+use sc_core::{Abort, JobHistory};
 use sc_lineage::DriverFault;
 use sc_plan::PlanFault;
 use sc_read::Read;
@@ -30,22 +29,8 @@ pub enum Status {
         /// Whether it isn't there.
         missing: bool,
     },
-    /// A partition failed as often as is allowed in one attempt of its stage.
-    TaskLimit {
-        /// The stage.
-        stage: StageId,
-        /// The attempt of the stage, from 0.
-        stage_attempt: u64,
-        /// The partition, from 0.
-        partition: u32,
-    },
-    /// As many attempts of a stage failed as are allowed without a completion between.
-    StageLimit {
-        /// The stage.
-        stage: StageId,
-    },
-    /// Every executor was told lost.
-    NoExecutor,
+    /// A job was aborted.
+    Aborted(Abort),
     /// The results of an action have no value together.
     DriverFault {
         /// The number of the action, from 0.
@@ -57,8 +42,6 @@ pub enum Status {
     WriteFault,
     /// Memory ran out.
     OutOfMemory,
-    /// A job handed out as many tasks as it may.
-    Budget,
     /// An input isn't UTF-8.
     NotText {
         /// Its name.
@@ -77,15 +60,24 @@ impl Status {
             Status::Script(_) => 3,
             Status::Plan(_) => 4,
             Status::Input { .. } => 5,
-            Status::TaskLimit { .. } => 6,
-            Status::StageLimit { .. } => 7,
-            Status::NoExecutor => 8,
+            Status::Aborted(abort) => number_of_abort(*abort),
             Status::DriverFault { .. } => 9,
             Status::WriteFault => 12,
             Status::OutOfMemory => 13,
-            Status::Budget => 14,
             Status::NotText { .. } => 15,
         }
+    }
+}
+
+/// The exit status where a job was aborted.
+fn number_of_abort(abort: Abort) -> u8
+    ensures { result ≡ number_of_abort abort }
+{
+    match abort {
+        Abort::TaskLimit { .. } => 6,
+        Abort::StageLimit { .. } => 7,
+        Abort::NoExecutor => 8,
+        Abort::Budget => 14,
     }
 }
 

@@ -2,11 +2,10 @@
 #![tactic(auto)]
 
 ghost use Rattle.std.specs.Prelude.{◌≡◌};
-ghost use Rattle.sc_app.specs.Statuses.{is_missing, status_of_abort, status_of_input, status_of_plan, status_of_print, status_of_script};
+ghost use Rattle.sc_app.specs.Statuses.{is_missing, status_of_input, status_of_plan, status_of_print, status_of_script};
 
 use crate::ran::Status;
 use sc_base::OrMemory;
-use sc_core::Abort;
 use sc_print::PrintFault;
 use sc_read::{InputStop, PlanStop, ScriptStop, Unreadable};
 use sc_value::Name;
@@ -57,32 +56,12 @@ pub(crate) fn status_of_print(stop: OrMemory<PrintFault>) -> Status
     ensures { result ≡ status_of_print stop }
 {
     match stop {
-        OrMemory::Fault(PrintFault::Aborted { abort, .. }) => status_of_abort(abort),
+        OrMemory::Fault(PrintFault::Aborted { abort, .. }) => Status::Aborted(abort),
         OrMemory::Fault(PrintFault::Driver { action, fault }) => Status::DriverFault {
             action,
             kind: fault,
         },
         OrMemory::Fault(PrintFault::Write) => Status::WriteFault,
         OrMemory::OutOfMemory => Status::OutOfMemory,
-    }
-}
-
-/// The status where a job was aborted.
-fn status_of_abort(abort: Abort) -> Status
-    ensures { result ≡ status_of_abort abort }
-{
-    match abort {
-        Abort::TaskLimit {
-            stage,
-            stage_attempt,
-            partition,
-        } => Status::TaskLimit {
-            stage,
-            stage_attempt,
-            partition,
-        },
-        Abort::StageLimit { stage } => Status::StageLimit { stage },
-        Abort::NoExecutor => Status::NoExecutor,
-        Abort::Budget => Status::Budget,
     }
 }

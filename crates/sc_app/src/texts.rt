@@ -3,9 +3,10 @@
 
 ghost use Rattle.std.specs.Prelude.{◌≡◌, IfOk};
 ghost use Rattle.std.specs.String.{string_bytes};
-ghost use Rattle.sc_app.specs.FaultTexts.{cause_text, fault_text as text_of, kind_text, missing_text, plan_kind_text, raise_text};
+ghost use Rattle.sc_app.specs.FaultTexts.{abort_text, cause_text, fault_text as text_of, kind_text, missing_text, plan_kind_text, raise_text};
 
 use crate::ran::Status;
+use sc_core::Abort;
 use sc_expr::Raise;
 use sc_lineage::DriverFault;
 use sc_plan::{PlanFault, PlanFaultKind};
@@ -23,17 +24,10 @@ pub fn fault_text(alloc: Global, status: &Status) -> Result<String, AllocError>
         Status::Script(fault) => script_text(alloc, *fault),
         Status::Plan(fault) => plan_text(alloc, *fault),
         Status::Input { name, missing } => input_text(alloc, name, *missing),
-        Status::TaskLimit {
-            stage,
-            stage_attempt,
-            partition,
-        } => limit_text(alloc, *stage, *stage_attempt, *partition),
-        Status::StageLimit { stage } => stage_text(alloc, *stage),
-        Status::NoExecutor => String::from_str(alloc, "no executor"),
+        Status::Aborted(abort) => abort_text(alloc, *abort),
         Status::DriverFault { action, kind } => driver_text(alloc, *action, *kind),
         Status::WriteFault => String::from_str(alloc, "write failed"),
         Status::OutOfMemory => String::from_str(alloc, "out of memory"),
-        Status::Budget => String::from_str(alloc, "budget"),
         Status::NotText { name } => {
             let name = name.as_str();
             format!(in alloc; "not text: {name}")
@@ -68,17 +62,33 @@ fn input_text(alloc: Global, name: &Name, missing: bool) -> Result<String, Alloc
     format!(in alloc; "input: {name}: {cause}")
 }
 
+/// The text of a job that was aborted.
+fn abort_text(alloc: Global, abort: Abort) -> Result<String, AllocError>
+    ensures { IfOk result (λ t. string_bytes t ≡ abort_text abort) }
+{
+    match abort {
+        Abort::TaskLimit {
+            stage,
+            stage_attempt,
+            partition,
+        } => limit_text(alloc, stage, stage_attempt, partition),
+        Abort::StageLimit { stage } => stage_text(alloc, stage),
+        Abort::NoExecutor => String::from_str(alloc, "no executor"),
+        Abort::Budget => String::from_str(alloc, "budget"),
+    }
+}
+
 /// The text of a partition that failed too often.
 fn limit_text(alloc: Global, stage: u32, attempt: u64, partition: u32) -> Result<String, AllocError>
     ensures { IfOk result (λ t. string_bytes t
-        ≡ text_of (Status.TaskLimit stage attempt partition)) }
+        ≡ abort_text (Abort.TaskLimit stage attempt partition)) }
 {
     format!(in alloc; "task limit: stage {stage} attempt {attempt} partition {partition}")
 }
 
 /// The text of a stage that failed too often.
 fn stage_text(alloc: Global, stage: u32) -> Result<String, AllocError>
-    ensures { IfOk result (λ t. string_bytes t ≡ text_of (Status.StageLimit stage)) }
+    ensures { IfOk result (λ t. string_bytes t ≡ abort_text (Abort.StageLimit stage)) }
 {
     format!(in alloc; "stage limit: stage {stage}")
 }

@@ -22,28 +22,39 @@ fn each_status_has_its_text_and_its_number(rt: HostRuntime) {
     assert_told(&rt, Status::Usage, 2, "usage");
     assert_told(&rt, Status::WriteFault, 12, "write failed");
     assert_told(&rt, Status::OutOfMemory, 13, "out of memory");
-    let limit = Status::TaskLimit {
+    let limit = sc_core::Abort::TaskLimit {
         stage: 0,
         stage_attempt: 0,
         partition: 1,
     };
-    assert_told(&rt, limit, 6, "task limit: stage 0 attempt 0 partition 1");
-    assert_told(&rt, Status::NoExecutor, 8, "no executor");
-    assert_told(&rt, Status::Budget, 14, "budget");
+    let text = "task limit: stage 0 attempt 0 partition 1";
+    assert_told(&rt, Status::Aborted(limit), 6, text);
+    assert_told(
+        &rt,
+        Status::Aborted(sc_core::Abort::NoExecutor),
+        8,
+        "no executor",
+    );
+    assert_told(&rt, Status::Aborted(sc_core::Abort::Budget), 14, "budget");
 }
 
 #[test]
 fn each_limit_tells_its_stage(rt: HostRuntime) {
     for (stage, text) in [(0, "stage limit: stage 0"), (12, "stage limit: stage 12")] {
-        assert_told(&rt, Status::StageLimit { stage }, 7, text);
+        assert_told(
+            &rt,
+            Status::Aborted(sc_core::Abort::StageLimit { stage }),
+            7,
+            text,
+        );
     }
-    let limit = Status::TaskLimit {
+    let limit = sc_core::Abort::TaskLimit {
         stage: 7,
         stage_attempt: 4_294_967_296,
         partition: 1023,
     };
     let text = "task limit: stage 7 attempt 4294967296 partition 1023";
-    assert_told(&rt, limit, 6, text);
+    assert_told(&rt, Status::Aborted(limit), 6, text);
 }
 
 #[test]
