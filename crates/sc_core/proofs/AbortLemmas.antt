@@ -1,5 +1,5 @@
 -- A job is aborted for the failures of a partition only where there are as many as are allowed.
-use Rattle.std.proofs.Common.{◌≡◌, ◌≢◌, ℕ, ◌&&◌, not, All, Bool, true, false, if◌then◌else◌, Option, Some, None, option_map, slice_get, refl, ap, sym, subst, ◌∙◌, arith, rules, true≢false}
+use Rattle.std.proofs.Common.{◌≡◌, ◌≢◌, ℕ, ◌&&◌, not, All, Bool, true, false, if◌then◌else◌, Option, Some, None, option_map, slice_get, refl, ap, sym, ◌∙◌, arith, rules, true≢false}
 use Rattle.std.proofs.lemmas.Bool.Decides.{nat_tests}
 use Rattle.sc_ids.specs.declared.attempts.AttemptId.{AttemptId}
 use Rattle.sc_ids.specs.declared.failures.FailureCause.{FailureCause}

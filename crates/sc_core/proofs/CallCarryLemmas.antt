@@ -1,9 +1,8 @@
 -- What each call that changes the stages of a job leaves of what was handed out.
-use Rattle.std.proofs.Common.{◌≡◌, ℕ, ◌-◌, ◌<◌, ◌≤◌, ◌==◌, Bool, true, false, if◌then◌else◌, [], ◌∷◌, ◌++◌, length, map, Option, Some, None, option_map, slice_get, refl, ap, sym, subst, ◌∙◌, arith, true≢false}
+use Rattle.std.proofs.Common.{◌≡◌, ℕ, ◌-◌, ◌<◌, ◌≤◌, ◌==◌, Bool, true, false, if◌then◌else◌, [], ◌∷◌, ◌++◌, length, Option, Some, None, option_map, slice_get, refl, ap, sym, subst, ◌∙◌, arith, true≢false}
 use Rattle.sc_ids.specs.Changes.{change_at}
 use Rattle.sc_ids.specs.declared.attempts.AttemptId.{AttemptId}
 use Rattle.sc_ids.specs.declared.blocks.Loc.{Loc}
-use Rattle.sc_ids.specs.declared.blocks.ShuffleId.{ShuffleId}
 use Rattle.sc_ids.specs.declared.blocks.Target.{Target}
 use Rattle.sc_ids.specs.declared.blocks.Target.TheVariants as targets
 use Rattle.sc_ids.specs.declared.failures.FailureCause.{FailureCause}
@@ -17,7 +16,7 @@ use Rattle.sc_tracker.specs.Tracking.{is_bogus}
 use Rattle.sc_tracker.specs.Trust.{is_live}
 use Rattle.sc_dag.specs.Births.{births_of}
 use Rattle.sc_dag.specs.DagData.{DagData, StageState, changed_newest, changed_set, newest_at, place_of_attempt, stage_at, stage_attempt, with_set, with_state, with_tracker}
-use Rattle.sc_dag.specs.Losses.{after_lost, after_seen}
+use Rattle.sc_dag.specs.Losses.{after_lost}
 use Rattle.sc_dag.specs.Offers.{handed_out}
 use Rattle.sc_dag.specs.Outputs.{block_of, has_inputs, is_complete}
 use Rattle.sc_dag.specs.Reports.{CompletesMap, FailsStage, after_failed, after_hold, after_map_success, after_result_success, block_by, completed, completed_if, ended_in_own, failed_attempt, forgiven, in_own_set, is_of_newest, is_repeat, registered_by, set_of, succeeded_in_both, succeeded_in_own, wants_in, with_failed, with_output, with_result}
@@ -27,8 +26,8 @@ use Rattle.sc_dag.proofs.Births.{births_changed, births_mapped, births_newest, b
 use Rattle.sc_dag.proofs.Items.{by_number_at}
 use Rattle.sc_dag.proofs.Runners.{within}
 use Rattle.sc_dag.proofs.Tests.{not_false}
-use Rattle.sc_core.specs.Sound.{born_of}
-use Rattle.sc_core.proofs.CarryLemmas.{Carries, Lasts, carries_same, carries_state, carries_states, carries_then, lasts_more, lasts_same, lost_event, registered_carries, seen_carries}
+use Rattle.sc_core.proofs.CarryLemmas.{Carries, Lasts, carries_state, carries_states, carries_then, lasts_more, lasts_same}
+use Rattle.sc_core.proofs.TrackerCarryLemmas.{lost_event, registered_carries}
 use Rattle.sc_core.proofs.LossLemmas.{lost_set}
 
 -- ---- one set changed

@@ -6,10 +6,10 @@ use Rattle.sc_ids.specs.declared.failures.FailureCause.TheVariants as causes
 use Rattle.sc_taskset.specs.declared.tasks.Verdict.{Verdict}
 use Rattle.sc_taskset.specs.declared.tasks.Verdict.TheVariants as verdicts
 use Rattle.sc_tracker.specs.Trust.{are_lost, is_newer}
-use Rattle.sc_dag.specs.DagData.{DagData, with_state}
+use Rattle.sc_dag.specs.DagData.{DagData}
 use Rattle.sc_dag.specs.Losses.{after_seen}
 use Rattle.sc_dag.specs.Outputs.{is_complete}
-use Rattle.sc_dag.specs.Reports.{FailsStage, has_failed_often, is_of_newest, map_success_of, reaches_limit_in, result_success_of, set_of, with_failed}
+use Rattle.sc_dag.specs.Reports.{FailsStage, has_failed_often, is_of_newest, map_success_of, reaches_limit_in, result_success_of, set_of}
 use Rattle.sc_dag.specs.declared.reports.Success.{Success}
 use Rattle.sc_dag.specs.declared.reports.Success.TheVariants as successes
 use Rattle.sc_core.specs.CoreData.{CoreData, job_runs, running_of, shelved_if, shelved_of, with_dag, without_shelved, taken_off}

@@ -1,5 +1,5 @@
 -- What holds of every core holds once a failure was told.
-use Rattle.std.proofs.Common.{◌≡◌, ℕ, ◌==◌, ◌&&◌, not, Bool, true, false, List, [], None, slice_get, refl, ap, sym, subst, arith, rules, true≢false, ◌<◌}
+use Rattle.std.proofs.Common.{◌≡◌, ℕ, ◌==◌, ◌&&◌, not, Bool, true, false, List, None, slice_get, refl, ap, sym, subst, arith, rules, true≢false, ◌<◌}
 use Rattle.std.proofs.lemmas.Bool.Decides.{nat_tests}
 use Rattle.sc_base.specs.Lists.{at_or}
 use Rattle.sc_ids.specs.Graphs.{StageData}
@@ -35,9 +35,10 @@ use Rattle.sc_core.proofs.TaskCallLemmas.{failed_moves, failed_results, seen_cal
 use Rattle.sc_core.proofs.MoveLemmas.{Calm, Moves, SameResults, moves_then, results_then, still}
 use Rattle.sc_core.proofs.ResultLemmas.{Frees, frees}
 use Rattle.sc_core.proofs.ToldLemmas.{goes_with, told_sound, under_kept}
-use Rattle.sc_core.proofs.CarryLemmas.{Carries, carries_same, carries_then, handed_still, seen_carries}
+use Rattle.sc_core.proofs.CarryLemmas.{Carries, carries_same, carries_then, handed_still}
+use Rattle.sc_core.proofs.TrackerCarryLemmas.{seen_carries}
 use Rattle.sc_core.proofs.CallCarryLemmas.{failed_carries, fails_carries}
-use Rattle.sc_core.proofs.HandedLemmas.{IsLate, gone_late, late_charges, missing_late, seen_late}
+use Rattle.sc_core.proofs.ChargeLemmas.{IsLate, gone_late, late_charges, missing_late, seen_late}
 use Rattle.sc_core.specs.Posts.{fits_failure}
 use Rattle.sc_tracker.specs.Tracking.{after_gone}
 

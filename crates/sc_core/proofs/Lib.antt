@@ -15,8 +15,10 @@ pub mod StageCallLemmas
 pub mod TaskCallLemmas
 pub mod OfferLemmas
 pub mod CarryLemmas
+pub mod TrackerCarryLemmas
 pub mod CallCarryLemmas
 pub mod HandedLemmas
+pub mod ChargeLemmas
 pub mod RunningLemmas
 pub mod LeftLemmas
 pub mod ShelfLemmas

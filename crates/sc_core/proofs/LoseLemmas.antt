@@ -1,13 +1,12 @@
 -- What holds of every core holds once an executor was told lost.
-use Rattle.std.proofs.Common.{◌≡◌, ◌≢◌, ℕ, zero, suc, ◌+◌, ◌-◌, ◌<◌, ◌==◌, ◌&&◌, not, All, Bool, true, false, cond, if◌then◌else◌, List, [], ◌∷◌, length, map, take, Option, Some, None, find, slice_get, refl, ap, sym, subst, ◌∙◌, arith, rules, true≢false}
-use Rattle.std.specs.List.{AllPairs, filter}
+use Rattle.std.proofs.Common.{◌≡◌, ◌≢◌, ℕ, zero, suc, ◌+◌, ◌-◌, ◌<◌, ◌==◌, not, All, Bool, true, false, cond, if◌then◌else◌, List, [], ◌∷◌, length, map, take, Option, Some, None, find, slice_get, refl, ap, sym, subst, ◌∙◌, arith, rules, true≢false}
+use Rattle.std.specs.List.{filter}
 use Rattle.std.proofs.lemmas.Bool.Decides.{nat_tests}
 use Rattle.std.proofs.lemmas.List.Elements.{All-filter, All-head, All-tail, All-weaker}
 use Rattle.std.proofs.lemmas.List.Kept.{AllPairs-filter}
 use Rattle.sc_base.specs.Lists.{at_or}
 use Rattle.sc_ids.specs.Graphs.{StageData}
 use Rattle.sc_ids.specs.declared.attempts.AttemptId.{AttemptId}
-use Rattle.sc_commit.specs.Committing.{is_same}
 use Rattle.sc_commit.specs.declared.committers.Ending.TheVariants as endings
 use Rattle.sc_ids.specs.Changes.{change_at}
 use Rattle.sc_plan.specs.Orders.{loss_of}
@@ -22,21 +21,17 @@ use Rattle.sc_dag.specs.Settled.{IsSettled, IsUnderWay}
 use Rattle.sc_dag.specs.Sound.{IsSoundDag, runner_of}
 use Rattle.sc_dag.specs.Submission.{is_map}
 use Rattle.sc_dag.proofs.Tests.{both_left, both_right, clash}
-use Rattle.sc_core.specs.CoreData.{CoreData, ended, is_of, is_running_job, job_runs, result_stage, running_of, with_dag}
-use Rattle.sc_core.specs.Losses.{Loses, LosesOrAborts, all_released, attempts_on, is_due_after, may_be_lost, released_at, released_one, runs_on, without_executor}
-use Rattle.sc_core.specs.Posts.{is_save}
+use Rattle.sc_core.specs.CoreData.{CoreData, is_of, is_running_job, job_runs, result_stage, running_of, with_dag}
+use Rattle.sc_core.specs.Losses.{all_released, attempts_on, is_due_after, may_be_lost, released_at, released_one, runs_on, without_executor}
 use Rattle.sc_core.specs.Sound.{AreTwo, AwaitsTelling, IsShelvedWell, IsSoundCore, IsSoundJob, IsSoundShelf, RunsWell, is_shelved}
 use Rattle.sc_core.specs.Tells.{released}
-use Rattle.sc_core.specs.declared.answers.Abort.TheVariants.{NoExecutor}
-use Rattle.sc_core.specs.declared.answers.Answer.{Answer}
-use Rattle.sc_core.specs.declared.answers.Job.TheVariants as jobs
 use Rattle.sc_core.specs.declared.running.Running.{Running}
 use Rattle.sc_core.specs.declared.running.Shelved.{Shelved}
 use Rattle.sc_core.proofs.LeftLemmas.{Left, left_same, left_then, released_left}
 use Rattle.sc_core.proofs.LookupLemmas.{same_is}
 use Rattle.sc_core.proofs.LossLemmas.{Loses as Lost, lost_loses, lost_results, loses_then, unless_on}
 use Rattle.sc_core.proofs.MoveLemmas.{Calm, SameResults, moves_then, results_then, still}
-use Rattle.sc_core.proofs.ResultLemmas.{Frees, frees}
+use Rattle.sc_core.proofs.ResultLemmas.{frees}
 use Rattle.sc_core.proofs.SetLemmas.{nothing}
 use Rattle.sc_core.proofs.ShelfLemmas.{all_left as all_without, fits_still}
 use Rattle.sc_core.proofs.ToldLemmas.{under_kept}

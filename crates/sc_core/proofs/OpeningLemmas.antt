@@ -174,8 +174,10 @@ one_sized_placed stage t all = by stage.target
   where
     by : (target : Target) → AreOnExecutors (sized_by t (record stage { target = target }))
     by (targets.Map shuffle) =
-        λ block. rw ((sizes_for_all t shuffle stage.tasks).1 block,
-        one_sized (record stage { target = targets.Map shuffle }) t) (all block)
+        λ block. rw (
+          (sizes_for_all t shuffle stage.tasks).1 block,
+          one_sized (record stage { target = targets.Map shuffle }) t,
+        ) (all block)
     by (targets.Result node) = all
 
 all_sized_placed :

@@ -1,10 +1,8 @@
 -- What is to be told later is kept well, whatever happens.
-use Rattle.std.proofs.Common.{◌≡◌, ◌≢◌, ℕ, ◌+◌, ◌<◌, ◌==◌, ◌&&◌, ◌||◌, not, All, Bool, true, false, cond, if◌then◌else◌, List, [], ◌∷◌, ◌++◌, map, nat_lt, Option, Some, None, IfSome, find, option_map, slice_get, refl, ap, sym, subst, ◌∙◌, arith, rules, true≢false}
-use Rattle.std.specs.List.{AllPairs, filter, list_any}
-use Rattle.std.specs.Option.{option_or}
+use Rattle.std.proofs.Common.{◌≡◌, ◌≢◌, ℕ, ◌+◌, ◌<◌, ◌==◌, ◌&&◌, ◌||◌, not, All, Bool, true, false, cond, if◌then◌else◌, List, [], ◌∷◌, ◌++◌, map, nat_lt, Option, Some, None, find, option_map, slice_get, refl, ap, sym, subst, ◌∙◌, arith, rules, true≢false}
+use Rattle.std.specs.List.{AllPairs, filter}
 use Rattle.std.proofs.lemmas.Bool.Decides.{nat_tests}
 use Rattle.std.proofs.lemmas.List.Elements.{All-cons, All-filter, All-get_or, All-head, All-map, All-push, All-tail, All-weaker}
-use Rattle.std.proofs.lemmas.List.Folds.{find-append}
 use Rattle.std.proofs.lemmas.List.Kept.{AllPairs-cons, AllPairs-filter}
 use Rattle.std.proofs.lemmas.List.Quantifiers.{all_pairs_push}
 use Rattle.sc_base.specs.Lists.{at_or}
@@ -18,7 +16,7 @@ use Rattle.sc_taskset.specs.Sound.{IsSoundTask}
 use Rattle.sc_taskset.specs.TaskSetData.{TaskData, TaskSetData}
 use Rattle.sc_taskset.specs.declared.tasks.Running as taskset
 use Rattle.sc_taskset.proofs.FindLemmas.{found_is, found_passes, pairs_head, pairs_tail}
-use Rattle.sc_dag.specs.DagData.{DagData, no_stage, stage_at}
+use Rattle.sc_dag.specs.DagData.{DagData, no_stage}
 use Rattle.sc_dag.specs.Offers.{handed_out, newest_number}
 use Rattle.sc_dag.specs.Reports.{set_of}
 use Rattle.sc_dag.specs.Sound.{IsSoundDag, runner_among, runner_in, runner_of}
@@ -34,11 +32,11 @@ use Rattle.sc_core.specs.declared.events.Outcome.TheVariants as outcomes
 use Rattle.sc_core.specs.declared.running.Running.{Running}
 use Rattle.sc_core.specs.declared.running.Shelved.{Shelved}
 use Rattle.sc_core.proofs.LeftLemmas.{Left}
-use Rattle.sc_core.proofs.LookupLemmas.{is_itself, same_is, set_holds, set_of_newest}
+use Rattle.sc_core.proofs.LookupLemmas.{same_is, set_holds, set_of_newest}
 use Rattle.sc_core.proofs.MoveLemmas.{Moves}
 use Rattle.sc_core.proofs.PlaceLemmas.{clash as two_clash}
 use Rattle.sc_core.proofs.OfferLemmas.{IsOffered, handed_out_moves, offered}
-use Rattle.sc_core.proofs.RunningLemmas.{found_beside, none_passes, same_sym}
+use Rattle.sc_core.proofs.RunningLemmas.{none_passes, same_sym}
 
 -- ---- which reports fit
 

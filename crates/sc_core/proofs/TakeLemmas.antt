@@ -32,7 +32,8 @@ use Rattle.sc_core.proofs.OfferLemmas.{IsOffered, handed_out_moves, offered, off
 use Rattle.sc_core.proofs.RunningLemmas.{none_passes, same_sym}
 use Rattle.sc_core.proofs.ShelfLemmas.{task_shelf}
 use Rattle.sc_core.proofs.ToldLemmas.{goes_same}
-use Rattle.sc_core.proofs.CarryLemmas.{Carries, handed_still, live_there}
+use Rattle.sc_core.proofs.CarryLemmas.{Carries, handed_still}
+use Rattle.sc_core.proofs.TrackerCarryLemmas.{live_there}
 use Rattle.sc_core.proofs.CallCarryLemmas.{handed_carries}
 use Rattle.sc_core.proofs.HandedLemmas.{handed_new}
 use Rattle.sc_tracker.specs.Trust.{is_live}

@@ -13,7 +13,7 @@ use Rattle.sc_dag.proofs.Stuck.{newest_holds}
 use Rattle.sc_dag.proofs.Tests.{clash}
 use Rattle.sc_core.specs.CoreData.{CoreData, is_of, out_or, result_stage, running_of, shelved_first, under_way}
 use Rattle.sc_core.specs.Laws.{WaitsHaveCause}
-use Rattle.sc_core.specs.Sound.{IsSoundCore, IsSoundJob, is_shelved}
+use Rattle.sc_core.specs.Sound.{IsSoundJob, is_shelved}
 use Rattle.sc_core.specs.declared.running.Running as core
 use Rattle.sc_core.specs.declared.running.Shelved.{Shelved}
 use Rattle.sc_core.proofs.LookupLemmas.{attempt, set_of_newest}

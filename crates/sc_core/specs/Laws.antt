@@ -7,7 +7,6 @@ use Rattle.sc_dag.specs.Openings.{FitsJob, IsJob}
 use Rattle.sc_dag.specs.Outputs.{is_done}
 use Rattle.sc_dag.specs.Reports.{has_failed_often, set_of}
 use Rattle.sc_ids.specs.Graphs.{StageData}
-use Rattle.sc_ids.specs.declared.attempts.AttemptId.{AttemptId}
 use Rattle.sc_ids.specs.declared.limits.Limits.{Limits}
 use Rattle.sc_plan.specs.declared.lines.PlanLine.{PlanLine}
 use Rattle.sc_plan.specs.declared.lines.PlanLine.TheVariants as lines

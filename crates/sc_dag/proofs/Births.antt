@@ -1,10 +1,10 @@
 -- What is kept of when attempts began.
-use Rattle.std.proofs.Common.{◌≡◌, ◌⊎◌, inl, inr, ⊎_elim, ℕ, zero, suc, ◌+◌, ◌-◌, ◌<◌, ◌≤◌, ◌==◌, Bool, true, false, if◌then◌else◌, List, [], ◌∷◌, ◌++◌, All, length, map, Option, Some, None, IfSome, IsSomeAnd, is_some, option_map, slice_get, refl, ap, sym, subst, ◌∙◌, arith, rules, true≢false}
+use Rattle.std.proofs.Common.{◌≡◌, ◌⊎◌, inl, inr, ℕ, zero, suc, ◌-◌, ◌<◌, ◌≤◌, ◌==◌, Bool, true, false, if◌then◌else◌, List, [], ◌∷◌, ◌++◌, All, length, map, Option, Some, None, IfSome, IsSomeAnd, is_some, option_map, slice_get, refl, ap, sym, subst, ◌∙◌, arith, true≢false}
 use Rattle.std.proofs.lemmas.Bool.Decides.{nat_tests}
 use Rattle.std.proofs.lemmas.Bool.{cases_eq}
 use Rattle.std.proofs.lemmas.List.Elements.{All-cons, All-nil, All-push, All-weaker}
 use Rattle.std.proofs.lemmas.List.Quantifiers.{all_pairs_push}
-use Rattle.std.specs.List.{list_all, list_any}
+use Rattle.std.specs.List.{list_all}
 use Rattle.sc_base.specs.Lists.{numbers_below}
 use Rattle.sc_ids.specs.Changes.{change_at}
 use Rattle.sc_ids.specs.Graphs.{StageData}
@@ -27,7 +27,7 @@ use Rattle.sc_dag.specs.DagData.{DagData, StageState, changed_newest, changed_se
 use Rattle.sc_dag.specs.Outputs.{block_of, has_inputs, is_complete, is_done_by, is_registered, results_in}
 use Rattle.sc_dag.specs.Sound.{IsSoundDag, attempts_in, attempts_of}
 use Rattle.sc_dag.specs.declared.attempts.StageAttempt.{StageAttempt}
-use Rattle.sc_dag.proofs.Tests.{all_in, any_below, both_left, both_right, is_in}
+use Rattle.sc_dag.proofs.Tests.{all_in, any_below, both_left, both_right}
 
 -- what holds of the epochs in which the attempts of each stage began
 pub record AreBirths (stages : List StageData) (t : TrackerData) (births : ℕ → List ℕ)

@@ -1,17 +1,16 @@
 -- What calls keep of attempts that failed or were given up.
-use Rattle.std.proofs.Common.{◌≡◌, ◌⊎◌, inl, inr, ℕ, ◌+◌, ◌-◌, ◌<◌, ◌≤◌, ◌&&◌, ◌||◌, not, Bool, true, false, List, [], ◌∷◌, ◌++◌, All, AllPairs, get_or, length, map, Option, Some, None, IfSome, option_map, slice_get, if◌then◌else◌, refl, ap, sym, subst, ◌∙◌, arith, rules, true≢false}
+use Rattle.std.proofs.Common.{◌≡◌, ◌⊎◌, inl, inr, ℕ, ◌-◌, ◌<◌, ◌||◌, not, Bool, true, false, List, [], ◌∷◌, All, AllPairs, get_or, length, map, Option, Some, None, IfSome, option_map, slice_get, if◌then◌else◌, refl, sym, subst, arith, true≢false}
 use Rattle.std.proofs.lemmas.Bool.{cases_eq}
-use Rattle.std.proofs.lemmas.List.Elements.{All-cons, All-head, All-map, All-nil, All-push, All-tail, All-weaker}
+use Rattle.std.proofs.lemmas.List.Elements.{All-map, All-push}
 use Rattle.std.proofs.lemmas.List.Kept.{AllPairs-cons}
 use Rattle.std.proofs.lemmas.List.Quantifiers.{all_pairs_push}
-use Rattle.std.specs.List.{list_all}
 use Rattle.sc_ids.specs.Changes.{change_at}
 use Rattle.sc_ids.specs.Graphs.{StageData}
 use Rattle.sc_ids.specs.declared.failures.FailureCause.{FailureCause}
 use Rattle.sc_ids.specs.declared.limits.Limits.{Limits}
-use Rattle.sc_taskset.specs.Lookups.{are_finished, change_first, is_finish, is_finished, is_task_of, with_task}
+use Rattle.sc_taskset.specs.Lookups.{are_finished, change_first, is_finished, is_task_of, with_task}
 use Rattle.sc_taskset.specs.Offers.{handed, handed_task}
-use Rattle.sc_taskset.specs.Reports.{after_end, after_failure, after_held, after_success, as_zombie, ended_task, failed_task, finish_by, held_task, is_counted_in, is_failure, noted_task, succeeded_task}
+use Rattle.sc_taskset.specs.Reports.{after_end, after_failure, after_held, after_success, as_zombie, ended_task, failed_task, held_task, is_counted_in, is_failure, noted_task, succeeded_task}
 use Rattle.sc_taskset.specs.TaskSetData.{TaskData, TaskSetData, with_tasks}
 use Rattle.sc_tracker.specs.TrackerData.{TrackerData}
 use Rattle.sc_dag.specs.Births.{AreCharged, is_given_up}
@@ -98,8 +97,11 @@ pub spares_success :
     (p : ℕ) (nth : Option ℕ) (now : ℕ) (set : TaskSetData)
     → Spares set (after_success set p nth now)
 spares_success p nth now set =
-    record { born = refl; given_up = λ e. by (both_right (after_success set p nth now).is_zombie _ e)
-    (both_left _ _ e) }
+    record {
+      born = refl;
+      given_up = λ e. by (both_right (after_success set p nth now).is_zombie _ e)
+          (both_left _ _ e);
+    }
   where
     tasks : List TaskData
     tasks = with_task p (succeeded_task nth) set.tasks
