@@ -277,6 +277,11 @@ openings_by calls opening settles graph limits saved plan last c job fits sound 
         settles o.dag (this_stage (result_stage o.dag)) c.dag first.0
         (settled_by o.dag (this_stage (result_stage o.dag)) first.1) dead o.submits
 
+    placed : AreOnExecutors o.dag.tracker
+    placed =
+        subst AreOnExecutors (sym o.opens.tracker)
+        (all_sized_placed graph (tracker_behind last limits) (behind_placed last limits sound))
+
     sound_job : IsSoundJob c
     sound_job =
         record {
@@ -286,9 +291,8 @@ openings_by calls opening settles graph limits saved plan last c job fits sound 
           running = subst (λ rs. All (RunsWell c) rs) (sym o.running)
               (λ i r l. absurd (omega (arith, l)));
           known = λ a exec r. absurd (search (rules, r, runs a));
-          placed = (submitted_carries o.dag c.dag (this_stage (result_stage o.dag)) o.submits).placed
-              (subst AreOnExecutors (sym o.opens.tracker)
-              (all_sized_placed graph (tracker_behind last limits) (behind_placed last limits sound)));
+          placed = (submitted_carries o.dag c.dag (this_stage (result_stage o.dag))
+              o.submits).placed placed;
           apart = subst (λ rs. AllPairs AreTwo rs) (sym o.running)
               (λ i j r lt l. absurd (omega (arith, l)));
           unheld = calm.unheld unheld;

@@ -213,7 +213,8 @@ result_keeps calls results others c after r answer sound job well fit (says, is)
     by : (s : Success) → result_success_of c.dag a ≡ s → IsSoundJob (after_result s told a)
     by successes.Repeated e =
         told_sound c (with_result_of told a) a sound (result_moves c.dag a c.now)
-        (result_carries c.dag a c.now) refl refl ((calls c.dag sound.dag).3 a r.exec c.now kind well.in_set)
+        (result_carries c.dag a c.now) refl refl
+        ((calls c.dag sound.dag).3 a r.exec c.now kind well.in_set)
         (λ h. goes_same c (with_result_of told a) sound (sound.goes_on job)
         (result_moves c.dag a c.now).stages same goes)
         (λ h. absurd (clash job (ap is_running_job h)))
