@@ -1,5 +1,5 @@
 #!/usr/bin/env bash
-# Times the core of the scheduler, which no program uses yet:
+# Times the core of the scheduler alone:
 #
 #     bench/core.sh
 #

@@ -57,7 +57,7 @@ pub enum Answer {
         /// Its attempt.
         held: AttemptId,
     },
-    /// The executor was told lost.
+    /// The executor was told lost, or is none of the run.
     Lost,
     /// An executor left early.
     Stopped {

@@ -28,7 +28,7 @@ pub enum Taken<W: Naming> {
         /// Its attempt.
         held: AttemptId,
     },
-    /// The executor was told lost.
+    /// The executor was told lost, or is none of the run.
     Lost,
     /// An executor left early.
     Stopped {
