@@ -35,7 +35,8 @@ impl Dag {
     }
 
     /// An attempt of a stage failed. Unless too many did, the stage is submitted again. It takes no
-    /// memory.
+    /// memory. It is told of the newest attempt alone, and only for an event that came after that
+    /// began: that keeps what holds of every job.
     pub fn stage_failed(&mut self, stage: StageId, number: u64) -> Verdict
         requires { self.old.1 ≡ true }
         ensures { FailsStage self.old.0 stage number result self.new.0 }
