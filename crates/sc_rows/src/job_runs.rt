@@ -113,6 +113,29 @@ fn one_wipe_is_too_many(rt: HostRuntime) {
     assert_eq!(rt; journal.core().job(), Job::Aborted(why));
 }
 
+/// Both tasks of an attempt find the same wipe: that is one failed attempt of their stage.
+const ONE_WIPE_FOUND_TWICE: &str = "\
+0 take: task 1.0.0.0, epoch 0, from 0@0 1@0
+1 take: task 1.0.1.0, epoch 0, from 0@0 1@0
+1 post 1.0.1.0 failed: gone 0@0 found 1: resubmitted
+0 post 1.0.0.0 failed: gone 0@0 found 1: again
+1 take: task 0.1.0.0, epoch 1
+1 post 0.1.0.0 map at 1@0: registered
+0 take: task 1.1.0.0, epoch 1, from 1@0 1@0
+";
+
+#[test]
+fn one_wipe_fails_one_attempt(rt: HostRuntime) {
+    let limits = Limits {
+        stage_attempts: 2,
+        ..Limits::default()
+    };
+    let mut journal = counting(&rt, limits);
+    assert_transcript(&rt, &mut journal, MAPS);
+    assert_transcript(&rt, &mut journal, ONE_WIPE_FOUND_TWICE);
+    assert_eq!(rt; journal.core().job(), Job::Running);
+}
+
 /// Both stores are wiped one after the other. An output of a task from before, or one that was
 /// wiped away, isn't registered: it is made again by the next attempt of its stage.
 const WIPED_TWICE: &str = "\
