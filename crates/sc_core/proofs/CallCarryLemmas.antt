@@ -1,34 +1,33 @@
 -- What each call that changes the stages of a job leaves of what was handed out.
-use Rattle.std.proofs.Common.{◌≡◌, ℕ, ◌-◌, ◌<◌, ◌≤◌, ◌==◌, Bool, true, false, if◌then◌else◌, [], ◌∷◌, ◌++◌, length, Option, Some, None, option_map, slice_get, refl, ap, sym, subst, ◌∙◌, arith, true≢false}
-use Rattle.sc_ids.specs.Changes.{change_at}
+use Rattle.std.proofs.Common.{◌≡◌, ℕ, ◌<◌, ◌≤◌, ◌==◌, Bool, true, false, if◌then◌else◌, [], ◌∷◌, length, Option, Some, None, option_map, slice_get, refl, ap, sym, subst, ◌∙◌, arith, true≢false}
 use Rattle.sc_ids.specs.declared.attempts.AttemptId.{AttemptId}
 use Rattle.sc_ids.specs.declared.blocks.Loc.{Loc}
 use Rattle.sc_ids.specs.declared.blocks.Target.{Target}
 use Rattle.sc_ids.specs.declared.blocks.Target.TheVariants as targets
 use Rattle.sc_ids.specs.declared.failures.FailureCause.{FailureCause}
 use Rattle.sc_taskset.specs.Offers.{handed}
-use Rattle.sc_taskset.specs.Reports.{after_end, after_failure, after_held, after_loss, after_success, as_zombie}
+use Rattle.sc_taskset.specs.Reports.{after_end, after_failure, after_held, after_loss, after_success}
 use Rattle.sc_taskset.specs.TaskSetData.{TaskSetData}
 use Rattle.sc_taskset.specs.declared.tasks.Verdict.{Verdict}
 use Rattle.sc_taskset.specs.declared.tasks.Verdict.TheVariants as verdicts
 use Rattle.sc_tracker.specs.TrackerData.{outputs_of}
 use Rattle.sc_tracker.specs.Tracking.{is_bogus}
 use Rattle.sc_tracker.specs.Trust.{is_live}
-use Rattle.sc_dag.specs.Births.{births_of}
-use Rattle.sc_dag.specs.DagData.{DagData, StageState, changed_newest, changed_set, newest_at, place_of_attempt, stage_at, stage_attempt, with_set, with_state, with_tracker}
+use Rattle.sc_dag.specs.DagData.{DagData, StageState, changed_newest, changed_set, newest_at, place_of_attempt, stage_at, with_state, with_tracker}
 use Rattle.sc_dag.specs.Losses.{after_lost}
 use Rattle.sc_dag.specs.Offers.{handed_out}
 use Rattle.sc_dag.specs.Outputs.{block_of, has_inputs, is_complete}
 use Rattle.sc_dag.specs.Reports.{CompletesMap, FailsStage, after_failed, after_hold, after_map_success, after_result_success, block_by, completed, completed_if, ended_in_own, failed_attempt, forgiven, in_own_set, is_of_newest, is_repeat, registered_by, set_of, succeeded_in_both, succeeded_in_own, wants_in, with_failed, with_output, with_result}
 use Rattle.sc_dag.specs.Sound.{IsSoundDag, runner_of}
-use Rattle.sc_dag.specs.Submission.{IsSubmitted, as_waiting, by_number, is_map, moved_if, new_set, started, waiting_stages}
-use Rattle.sc_dag.proofs.Births.{births_changed, births_mapped, births_newest, births_own, births_pushed}
+use Rattle.sc_dag.specs.Submission.{IsSubmitted, as_waiting, by_number, is_map, moved_if, started, waiting_stages}
+use Rattle.sc_dag.proofs.Births.{births_changed, births_mapped, births_newest, births_own}
 use Rattle.sc_dag.proofs.Items.{by_number_at}
 use Rattle.sc_dag.proofs.Runners.{within}
 use Rattle.sc_dag.proofs.Tests.{not_false}
 use Rattle.sc_core.proofs.CarryLemmas.{Carries, Lasts, carries_state, carries_states, carries_then, lasts_more, lasts_same}
 use Rattle.sc_core.proofs.TrackerCarryLemmas.{lost_event, registered_carries}
 use Rattle.sc_core.proofs.LossLemmas.{lost_set}
+use Rattle.sc_dag.proofs.SoundSubmissions.{births_started}
 
 -- ---- one set changed
 
@@ -153,23 +152,13 @@ submitted_carries d after submitted (looked, are, is) =
     (carries_states d (by_number (moved_if d looked) 0 d.states)
     (λ s. rw (by_number_at (moved_if d looked) d.states s) (by s (slice_get d.states s))))
   where
-    begun : (s : ℕ) (state : StageState)
-        → births_of (started d.tracker d.limits (stage_at d s) state).attempts
-        ≡ births_of state.attempts ++ d.tracker.epoch ∷ []
-    begun s state =
-        births_pushed (change_at state.attempts (length state.attempts - 1) (with_set as_zombie))
-        (stage_attempt (new_set d.tracker d.limits (stage_at d s) state.results) false)
-        ∙ ap (λ bs. bs ++ d.tracker.epoch ∷ [])
-        (births_changed state.attempts (length state.attempts - 1) (with_set as_zombie)
-        (λ a. refl))
-
     moved : (s : ℕ) (state : StageState) (a b : Bool)
         → Lasts (Some state)
         (Some (if a then (if b then started d.tracker d.limits (stage_at d s) state
         else as_waiting state) else state))
     moved s state true true =
         lasts_more state (started d.tracker d.limits (stage_at d s) state)
-        (d.tracker.epoch ∷ []) refl (begun s state)
+        (d.tracker.epoch ∷ []) refl (births_started d.tracker d.limits (stage_at d s) state)
     moved s state true false = λ n b e. e
     moved s state false b = λ n b e. e
 

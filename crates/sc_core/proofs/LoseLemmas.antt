@@ -37,6 +37,7 @@ use Rattle.sc_core.proofs.ShelfLemmas.{all_left as all_without, fits_still}
 use Rattle.sc_core.proofs.ToldLemmas.{under_kept}
 use Rattle.sc_core.proofs.CarryLemmas.{Carries, carries_same, carries_then, handed_still}
 use Rattle.sc_core.proofs.CallCarryLemmas.{lost_carries}
+use Rattle.sc_core.proofs.TrackerCarryLemmas.{live_there}
 
 -- ---- grants that are freed one after the other
 
@@ -381,18 +382,8 @@ lose_less c exec sound may =
 
     there : ((trust_of c.dag.tracker exec).lost ≡ false)
         × ((trust_of (after_lost c.dag exec).tracker exec).lost ≡ true)
-    there = (was c.dag.tracker.trust exec live, rw live (now c.dag.tracker.trust exec live))
+    there = ((live_there c.dag.tracker.trust exec live).1, rw live (now c.dag.tracker.trust exec live))
       where
-        was : (trust : List Trust) (e : ℕ) → is_live (slice_get trust e) ≡ true
-            → (at_or trust e untold).lost ≡ false
-        was [] e h = absurd (true≢false (sym h))
-        was (t ∷ ts) zero h = flip t.lost h
-          where
-            flip : (b : Bool) → not b ≡ true → b ≡ false
-            flip true f = absurd (true≢false (sym f))
-            flip false f = refl
-        was (t ∷ ts) (suc e) h = was ts e h
-
         now : (trust : List Trust) (e : ℕ) → is_live (slice_get trust e) ≡ true
             → (at_or (change_at trust e (lost_at c.dag.tracker.epoch)) e untold).lost ≡ true
         now [] e h = absurd (true≢false (sym h))

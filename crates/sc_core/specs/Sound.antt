@@ -35,7 +35,8 @@ born_of d a = option_map (λ set. set.born) (set_of d a)
 
 -- An input of an attempt that was handed out in an epoch, whose task set began in another one.
 -- Where it lay, on an executor of the run, it was of no generation below the one that is seen there
--- now, unless an event came there since. Where it was missing, it was lost since the set began.
+-- now, unless an event came there since. Where it was missing, an event had come since the set
+-- began.
 abbrev pub IsInput : TrackerData → ℕ → ℕ → Location → Type 0
 IsInput t born epoch (Here loc) =
     (loc.exec < length t.trust)

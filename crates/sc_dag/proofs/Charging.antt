@@ -22,6 +22,7 @@ use Rattle.sc_dag.proofs.Charges.{IsBefore, IsGivenUp, IsPast, pairs_changed, pa
 use Rattle.sc_dag.proofs.Items.{all_changed, last_is}
 use Rattle.sc_dag.proofs.SoundAttempts.{newest_changed, newest_kept}
 use Rattle.sc_dag.proofs.Tests.{both_left, both_right, clash, left_only, not_true}
+use Rattle.sc_ids.specs.declared.attempts.AttemptId.{AttemptId}
 
 -- ---- task sets
 
@@ -182,6 +183,27 @@ module _ (epoch : ℕ) where
   charged_newest g spares state are =
       charged_changed state.attempts (length state.attempts - 1) (with_set g)
       (keeps_charge g spares) are
+
+  -- a success told to its own set, and to the newest one too
+  pub charged_success :
+      (a : AttemptId) (now : ℕ) (state : StageState) → AreCharged epoch state.attempts
+      → AreCharged epoch (changed_set a.stage_attempt
+      (λ set. after_success set a.partition (Some a.nth) now) state).attempts
+  charged_success a now state are =
+      charged_own a.stage_attempt (λ set. after_success set a.partition (Some a.nth) now)
+      (spares_success a.partition (Some a.nth) now) state are
+
+  pub charged_both :
+      (a : AttemptId) (now : ℕ) (state : StageState) → AreCharged epoch state.attempts
+      → AreCharged epoch (changed_newest (λ set. after_success set a.partition None now)
+      (changed_set a.stage_attempt
+      (λ set. after_success set a.partition (Some a.nth) now) state)).attempts
+  charged_both a now state are =
+      charged_newest (λ set. after_success set a.partition None now)
+      (spares_success a.partition None now)
+      (changed_set a.stage_attempt
+      (λ set. after_success set a.partition (Some a.nth) now) state)
+      (charged_success a now state are)
 
   -- the newest attempt failed
   pub charged_failed :

@@ -19,8 +19,7 @@ use Rattle.sc_dag.proofs.Runners.{newest_place, older_place, runs_in, wanted_in}
 use Rattle.sc_dag.proofs.SoundStages.{HasPlaces, sound_with}
 use Rattle.sc_dag.proofs.Successes.{SucceedsTo, success_in_both, success_in_newest}
 use Rattle.sc_dag.proofs.Tests.{clash, not_false}
-use Rattle.sc_dag.specs.Births.{AreCharged}
-use Rattle.sc_dag.proofs.Charging.{charged_newest, charged_own, spares_success}
+use Rattle.sc_dag.proofs.Charging.{charged_both, charged_success}
 
 -- an attempt that runs, of a partition that its stage's newest set wants
 module _ (d : DagData) (a : AttemptId) (exec now : ℕ) (sound : IsSoundDag d)
@@ -45,19 +44,6 @@ module _ (d : DagData) (a : AttemptId) (exec now : ℕ) (sound : IsSoundDag d)
       own_births =
           births_own a.stage_attempt (λ set. after_success set a.partition (Some a.nth) now)
           (λ set. refl)
-
-      own_charged : (state : StageState) → AreCharged d.tracker.epoch state.attempts
-          → AreCharged d.tracker.epoch (own_set state).attempts
-      own_charged state are =
-          charged_own d.tracker.epoch a.stage_attempt
-          (λ set. after_success set a.partition (Some a.nth) now)
-          (spares_success a.partition (Some a.nth) now) state are
-
-      both_charged : (state : StageState) → AreCharged d.tracker.epoch state.attempts
-          → AreCharged d.tracker.epoch (newest_too (own_set state)).attempts
-      both_charged state are =
-          charged_newest d.tracker.epoch (λ set. after_success set a.partition None now)
-          (spares_success a.partition None now) (own_set state) (own_charged state are)
 
       results : StageState → List Bool
       results state = change_at state.results a.partition (λ _. true)
@@ -100,7 +86,7 @@ module _ (d : DagData) (a : AttemptId) (exec now : ℕ) (sound : IsSoundDag d)
           subst (λ states. IsSoundDag (dag_data d.stages states d.tracker d.limits))
           (sym (change_twice d.states a.stage own_set (with_result a.partition)))
           (sound_with d a.stage (λ state. with_result a.partition (own_set state)) own_births
-          (λ state are at. own_charged state are) sound
+          (λ state are at. charged_success d.tracker.epoch a now state are) sound
           (λ state at is.
           success_in_newest d.tracker d.tracker stage state (results state) a exec now is
           (runs_in d a exec state at runs) (wanted_in d a exec now sound runs wants state at)
@@ -115,7 +101,7 @@ module _ (d : DagData) (a : AttemptId) (exec now : ℕ) (sound : IsSoundDag d)
           (sound_with d a.stage
           (λ state. with_result a.partition (newest_too (own_set state)))
           (λ state. births_newest (λ set. after_success set a.partition None now) (λ set. refl)
-          (own_set state) ∙ own_births state) (λ state are at. both_charged state are) sound
+          (own_set state) ∙ own_births state) (λ state are at. charged_both d.tracker.epoch a now state are) sound
           (λ state at is.
           success_in_both d.tracker d.tracker stage state (results state) a exec now is
           (wanted_in d a exec now sound runs wants state at)

@@ -204,6 +204,17 @@ module _ (t : TrackerData) (limits : Limits) (stage : StageData) (state : StageS
       fresh : StageAttempt
       fresh = stage_attempt (new_set t limits stage state.results) false
 
+-- it begins now
+pub births_started :
+    (t : TrackerData) (limits : Limits) (stage : StageData) (state : StageState)
+    → births_of (started t limits stage state).attempts
+    ≡ births_of state.attempts ++ t.epoch ∷ []
+births_started t limits stage state =
+    births_pushed (change_at state.attempts (length state.attempts - 1) (with_set as_zombie))
+    (stage_attempt (new_set t limits stage state.results) false)
+    ∙ ap (λ bs. bs ++ t.epoch ∷ [])
+    (births_changed state.attempts (length state.attempts - 1) (with_set as_zombie) (λ a. refl))
+
 -- ---- all stages
 
 pub looking_sound :
@@ -233,16 +244,6 @@ looking_sound d submitted looked sound are =
         rw (state_after d looked s)
         (charged_in s (slice_get d.states s) (looked s) (has_inputs d s) (sound.charged s))
 
-    begun : (s : ℕ) (state : StageState)
-        → births_of (started d.tracker d.limits (stage_at d s) state).attempts
-        ≡ births_of state.attempts ++ d.tracker.epoch ∷ []
-    begun s state =
-        births_pushed (change_at state.attempts (length state.attempts - 1) (with_set as_zombie))
-        (stage_attempt (new_set d.tracker d.limits (stage_at d s) state.results) false)
-        ∙ ap (λ bs. bs ++ d.tracker.epoch ∷ [])
-        (births_changed state.attempts (length state.attempts - 1) (with_set as_zombie)
-        (λ a. refl))
-
     more : (s : ℕ) (o : Option StageState) (b c : Bool) → has_inputs d s ≡ c
         → (births_of (attempts_in (option_map (λ state.
         if b then (if c then started d.tracker d.limits (stage_at d s) state
@@ -252,7 +253,8 @@ looking_sound d submitted looked sound are =
         else as_waiting state) else state) o))
         ≡ births_of (attempts_in o) ++ d.tracker.epoch ∷ []) × (has_inputs d s ≡ true))
     more s None b c e = inl refl
-    more s (Some state) true true e = inr (begun s state, e)
+    more s (Some state) true true e =
+        inr (births_started d.tracker d.limits (stage_at d s) state, e)
     more s (Some state) true false e = inl refl
     more s (Some state) false c e = inl refl
 

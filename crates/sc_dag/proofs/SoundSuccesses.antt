@@ -27,8 +27,7 @@ use Rattle.sc_dag.proofs.SoundStages.{IsSoundAt, IsSoundState, sound_changed, so
 use Rattle.sc_dag.proofs.Successes.{SucceedsTo, success_in_both, success_in_newest, success_in_older}
 use Rattle.sc_dag.proofs.Tests.{clash, not_false}
 use Rattle.sc_dag.proofs.Trackers.{done_alike, other_outputs, registered_room, sound_alike, which_block}
-use Rattle.sc_dag.specs.Births.{AreCharged}
-use Rattle.sc_dag.proofs.Charging.{charged_newest, charged_own, spares_success}
+use Rattle.sc_dag.proofs.Charging.{charged_both, charged_success}
 
 -- an attempt that runs, of a partition that its stage's newest set wants
 module _ (d : DagData) (a : AttemptId) (exec now : ℕ) (sound : IsSoundDag d)
@@ -43,9 +42,7 @@ module _ (d : DagData) (a : AttemptId) (exec now : ℕ) (sound : IsSoundDag d)
       sound_with d a.stage _
       (births_own a.stage_attempt (λ set. after_success set a.partition (Some a.nth) now)
       (λ set. refl))
-      (λ state are at. charged_own d.tracker.epoch a.stage_attempt
-      (λ set. after_success set a.partition (Some a.nth) now)
-      (spares_success a.partition (Some a.nth) now) state are) sound
+      (λ state are at. charged_success d.tracker.epoch a now state are) sound
       (λ state at is. by state at is (is_of_newest d a) refl)
     where
       to : (state : StageState) → slice_get d.states a.stage ≡ Some state
@@ -165,19 +162,6 @@ module _ (d : DagData) (a : AttemptId) (exec now : ℕ) (sound : IsSoundDag d)
           births_own a.stage_attempt (λ set. after_success set a.partition (Some a.nth) now)
           (λ set. refl)
 
-      own_charged : (state : StageState) → AreCharged d.tracker.epoch state.attempts
-          → AreCharged d.tracker.epoch (own_set state).attempts
-      own_charged state are =
-          charged_own d.tracker.epoch a.stage_attempt
-          (λ set. after_success set a.partition (Some a.nth) now)
-          (spares_success a.partition (Some a.nth) now) state are
-
-      both_charged : (state : StageState) → AreCharged d.tracker.epoch state.attempts
-          → AreCharged d.tracker.epoch (newest_too (own_set state)).attempts
-      both_charged state are =
-          charged_newest d.tracker.epoch (λ set. after_success set a.partition None now)
-          (spares_success a.partition None now) (own_set state) (own_charged state are)
-
       has_room : HasRoomFor d.tracker block
       has_room =
           let has : a.partition < stage.tasks = within d a exec now sound runs wants in
@@ -195,7 +179,7 @@ module _ (d : DagData) (a : AttemptId) (exec now : ℕ) (sound : IsSoundDag d)
           → IsSoundDag (if b then succeeded_in_own with_u a now
           else with_state (succeeded_in_own with_u a now) a.stage newest_too)
       by true e =
-          sound_changed d u a.stage own_set own_births (λ state are at. own_charged state are)
+          sound_changed d u a.stage own_set own_births (λ state are at. charged_success d.tracker.epoch a now state are)
           ages sound tracker room others
           (λ state at is. success_in_newest d.tracker u stage state state.results a exec now is
           (runs_in d a exec state at runs) (wanted_in d a exec now sound runs wants state at)
@@ -206,7 +190,7 @@ module _ (d : DagData) (a : AttemptId) (exec now : ℕ) (sound : IsSoundDag d)
           (sym (change_twice d.states a.stage own_set newest_too))
           (sound_changed d u a.stage (λ state. newest_too (own_set state))
           (λ state. births_newest (λ set. after_success set a.partition None now) (λ set. refl)
-          (own_set state) ∙ own_births state) (λ state are at. both_charged state are)
+          (own_set state) ∙ own_births state) (λ state are at. charged_both d.tracker.epoch a now state are)
           ages sound tracker room others
           (λ state at is. success_in_both d.tracker u stage state state.results a exec now is
           (wanted_in d a exec now sound runs wants state at)
