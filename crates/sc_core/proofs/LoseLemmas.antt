@@ -382,7 +382,10 @@ lose_less c exec sound may =
 
     there : ((trust_of c.dag.tracker exec).lost ≡ false)
         × ((trust_of (after_lost c.dag exec).tracker exec).lost ≡ true)
-    there = ((live_there c.dag.tracker.trust exec live).1, rw live (now c.dag.tracker.trust exec live))
+    there = (
+      (live_there c.dag.tracker.trust exec live).1,
+      rw live (now c.dag.tracker.trust exec live),
+    )
       where
         now : (trust : List Trust) (e : ℕ) → is_live (slice_get trust e) ≡ true
             → (at_or (change_at trust e (lost_at c.dag.tracker.epoch)) e untold).lost ≡ true

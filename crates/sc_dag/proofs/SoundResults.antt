@@ -101,7 +101,8 @@ module _ (d : DagData) (a : AttemptId) (exec now : ℕ) (sound : IsSoundDag d)
           (sound_with d a.stage
           (λ state. with_result a.partition (newest_too (own_set state)))
           (λ state. births_newest (λ set. after_success set a.partition None now) (λ set. refl)
-          (own_set state) ∙ own_births state) (λ state are at. charged_both d.tracker.epoch a now state are) sound
+          (own_set state) ∙ own_births state)
+          (λ state are at. charged_both d.tracker.epoch a now state are) sound
           (λ state at is.
           success_in_both d.tracker d.tracker stage state (results state) a exec now is
           (wanted_in d a exec now sound runs wants state at)

@@ -179,7 +179,8 @@ module _ (d : DagData) (a : AttemptId) (exec now : ℕ) (sound : IsSoundDag d)
           → IsSoundDag (if b then succeeded_in_own with_u a now
           else with_state (succeeded_in_own with_u a now) a.stage newest_too)
       by true e =
-          sound_changed d u a.stage own_set own_births (λ state are at. charged_success d.tracker.epoch a now state are)
+          sound_changed d u a.stage own_set own_births
+          (λ state are at. charged_success d.tracker.epoch a now state are)
           ages sound tracker room others
           (λ state at is. success_in_newest d.tracker u stage state state.results a exec now is
           (runs_in d a exec state at runs) (wanted_in d a exec now sound runs wants state at)
@@ -190,7 +191,8 @@ module _ (d : DagData) (a : AttemptId) (exec now : ℕ) (sound : IsSoundDag d)
           (sym (change_twice d.states a.stage own_set newest_too))
           (sound_changed d u a.stage (λ state. newest_too (own_set state))
           (λ state. births_newest (λ set. after_success set a.partition None now) (λ set. refl)
-          (own_set state) ∙ own_births state) (λ state are at. charged_both d.tracker.epoch a now state are)
+          (own_set state) ∙ own_births state)
+          (λ state are at. charged_both d.tracker.epoch a now state are)
           ages sound tracker room others
           (λ state at is. success_in_both d.tracker u stage state state.results a exec now is
           (wanted_in d a exec now sound runs wants state at)
