@@ -23,7 +23,7 @@ use Rattle.sc_core.specs.declared.answers.Answer.{Answer}
 use Rattle.sc_core.specs.declared.answers.Job.TheVariants as jobs
 use Rattle.sc_core.specs.declared.entries.Entry.{Entry}
 use Rattle.sc_core.specs.declared.events.Event.{Event}
-use Rattle.sc_core.specs.declared.events.Event.TheVariants.{Post, Release, Take, TellLost}
+use Rattle.sc_core.specs.declared.events.Event.TheVariants.{Post, Release, Side, Take, TellLost}
 use Rattle.sc_core.specs.declared.events.Outcome.{Outcome}
 use Rattle.sc_core.specs.declared.events.Outcome.TheVariants as outcomes
 use Rattle.sc_core.specs.declared.journals.JobHistory.{JobHistory}
@@ -73,6 +73,7 @@ told_event work job c (Release key) answer h = by (shelved_of c key) h
     by None k = All-nil (IsHeardFor work job)
     by (Some s) k =
         one (IsHeardFor work job) (telling s.attempt s.outcome answer) (λ is. (c.told, k))
+told_event work job c (Side event) answer h = All-nil (IsHeardFor work job)
 told_event work job c (TellLost exec) answer h = All-nil (IsHeardFor work job)
 
 -- each report that a journal tells and that is heard has its evidence

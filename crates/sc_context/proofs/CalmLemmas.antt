@@ -1,5 +1,5 @@
 -- Where the plan has no line, no report misses an input, and no stage is given up.
-use Rattle.std.proofs.Common.{◌≡◌, ◌≢◌, inl, inr, ℕ, zero, suc, ◌<◌, ◌≤◌, ◌==◌, ◌&&◌, All, Bool, true, false, if◌then◌else◌, List, [], ◌∷◌, ◌++◌, Contains, Option, Some, None, IfSome, length, nat_lt, not, replicate, refl, ap, sym, subst, ◌∙◌, arith, rules, true≢false}
+use Rattle.std.proofs.Common.{◌≡◌, ◌≢◌, inl, inr, ℕ, zero, suc, ◌<◌, ◌≤◌, ◌==◌, ◌&&◌, All, Bool, true, false, if◌then◌else◌, List, [], ◌∷◌, ◌++◌, Contains, Option, Some, None, IfSome, length, nat_lt, not, replicate, refl, ap, sym, subst, ◌∙◌, arith, rules, true≢false, ◌⊎◌}
 use Rattle.std.specs.List.{filter, list_any}
 use Rattle.std.proofs.lemmas.Bool.{and_parts}
 use Rattle.std.proofs.lemmas.Bool.Decides.{nat_tests}
@@ -34,7 +34,7 @@ use Rattle.sc_core.specs.declared.answers.Answer.{Answer}
 use Rattle.sc_core.specs.declared.answers.Answer.TheVariants as says
 use Rattle.sc_core.specs.declared.entries.Entry.{Entry}
 use Rattle.sc_core.specs.declared.events.Event.{Event}
-use Rattle.sc_core.specs.declared.events.Event.TheVariants.{Post, Release, Take, TellLost}
+use Rattle.sc_core.specs.declared.events.Event.TheVariants.{Post, Release, Side, Take, TellLost}
 use Rattle.sc_core.specs.declared.events.Outcome.{Outcome}
 use Rattle.sc_core.specs.declared.events.Outcome.TheVariants as outcomes
 use Rattle.sc_core.specs.declared.running.Running.{Running}
@@ -51,10 +51,13 @@ use Rattle.sc_desk.specs.Begins.{FitsLast}
 use Rattle.sc_desk.specs.Dues.{wipes_due}
 use Rattle.sc_desk.specs.Sound.{AreEvident, EndedFor, IsEvident}
 use Rattle.sc_desk.proofs.AnswerLemmas.{is_now, tells_now}
-use Rattle.sc_desk.proofs.PassLemmas.{Passes, ReleaseShows, losses_pass, posts_pass, releases_pass, takes_pass}
+use Rattle.sc_desk.proofs.PassLemmas.{Passes, ReleaseShows, aside_pass, losses_pass, posts_pass, releases_pass, takes_pass}
 use Rattle.sc_desk.proofs.TrackLemmas.{SeenWithin, ShowsWithin}
 use Rattle.sc_context.proofs.ReadyLemmas.{opened_tracker, sized_all_trust}
 use Rattle.sc_context.proofs.WholeLemmas.{IsThere, IsWhole, all_there}
+use Rattle.sc_core.proofs.TakeCases.{TakesSo, takes_so}
+use Rattle.sc_core.specs.Sides.{IsAside}
+use Rattle.sc_core.proofs.SideLemmas.{steps_aside}
 
 -- what is heard is not ignored
 pub not_ignored : (answer : Answer) → is_heard answer ≡ true → answer ≢ says.Ignored
@@ -257,37 +260,28 @@ module _ (work : WorkData) (job : JobData) (empty : work.plan ≡ [])
 
   taken_inputs : (c after : CoreData) (exec : ℕ) (answer : Answer) → IsCalm c
       → Takes c exec answer after → All HasInputs after.running
-  taken_inputs c after exec answer calm step = by answer step
+  taken_inputs c after exec answer calm step = by (takes_so c after exec answer step)
     where
-      same : after ≡ c → All HasInputs after.running
-      same is = subst (λ (x : CoreData). All HasInputs x.running) (sym is) calm.inputs
+      by : TakesSo c after exec answer → All HasInputs after.running
+      by (inl t) =
+          let there = all_there c.dag.tracker calm.sound.job.dag.tracker (whole_of c calm)
+          t.task.inputs (missing c exec t.task calm.sound t.out) in
+          subst (λ (x : CoreData). All HasInputs x.running) (sym t.is)
+          (All-append HasInputs c.running (running_on t.task exec ∷ []) calm.inputs
+          (All-cons HasInputs (running_on t.task exec) [] there (All-nil HasInputs)))
+      by (inr (inl b)) = subst (λ (x : CoreData). All HasInputs x.running) (sym b.is) calm.inputs
+      by (inr (inr same)) =
+          subst (λ (x : CoreData). All HasInputs x.running) (sym same.is) calm.inputs
 
-      by : (answer : Answer) → Takes c exec answer after → All HasInputs after.running
-      by (says.Task h) (asking, out, below, is) =
-          let there = all_there c.dag.tracker calm.sound.job.dag.tracker (whole_of c calm) h.inputs
-          (missing c exec h calm.sound out) in
-          subst (λ (x : CoreData). All HasInputs x.running) (sym is)
-          (All-append HasInputs c.running (running_on h exec ∷ []) calm.inputs
-          (All-cons HasInputs (running_on h exec) [] there (All-nil HasInputs)))
-      by (says.Wait out) (asking, none, way, is) = same is
-      by (says.Busy held) (runs, stays, live, has, is) = same is
-      by says.Lost (runs, stays, lost, is) = same is
-      by (says.Stopped first) (runs, left, is) = same is
-      by says.Ended (runs, is) = same is
-      by (says.Aborted aborts.Budget) (a, asking, offer, le, is) =
-          subst (λ (x : CoreData). All HasInputs x.running) (sym is) calm.inputs
-      by (says.Aborted (aborts.TaskLimit s n p)) k = absurd k
-      by (says.Aborted (aborts.StageLimit s)) k = absurd k
-      by (says.Aborted aborts.NoExecutor) k = absurd k
-      by says.Ignored k = absurd k
-      by says.Shelved k = absurd k
-      by says.Told k = absurd k
-      by says.Repeated k = absurd k
-      by says.Registered k = absurd k
-      by says.Bogus k = absurd k
-      by says.Finished k = absurd k
-      by says.Again k = absurd k
-      by says.Resubmitted k = absurd k
+  -- attempts that have come further have the same inputs
+  aside_inputs : (c after : CoreData) → IsAside c after → All HasInputs c.running
+      → All HasInputs after.running
+  aside_inputs c after is all =
+      subst (λ rs. All HasInputs rs) (sym is.running)
+      (All-map HasInputs is.further c.running
+      (All-weaker HasInputs (λ r. HasInputs (is.further r))
+      (λ r h. subst (λ (x : HandOutData). All IsThere x.inputs) (sym (is.each r).hand_out) h)
+      c.running all))
 
   -- the greatest generation that a report speaks of
   abbrev greatest : FailureCause → ℕ
@@ -362,6 +356,11 @@ module _ (work : WorkData) (job : JobData) (empty : work.plan ≡ [])
       posts_calm c after a outcome answer calm evident step
   step_calm c after (Release key) answer calm evident step =
       releases_calm c after key answer calm evident step
+  step_calm c after (Side event) answer calm evident step =
+      let is = steps_aside c after event answer step in
+      after_of c after (Side event) answer calm step
+      (aside_pass (λ exec. 0) c after is).passes
+      (aside_inputs c after is calm.inputs)
   step_calm c after (TellLost exec) answer calm evident step =
       after_of c after (TellLost exec) answer calm step
       (losses_pass (λ exec. 0) c after exec answer step).passes
@@ -435,6 +434,7 @@ module _ (work : WorkData) (job : JobData) (empty : work.plan ≡ [])
           (λ heard. misses_none s.outcome (release_newer c after key answer s calm heard e step)
           (ended_within c.told s.attempt s.outcome h))
           (All-nil IsCalmTelling)
+  step_tells c after (Side event) answer calm evident step = All-nil IsCalmTelling
   step_tells c after (TellLost exec) answer calm evident step = All-nil IsCalmTelling
 
   -- ---- journals

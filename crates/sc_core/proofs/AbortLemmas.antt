@@ -31,7 +31,7 @@ use Rattle.sc_core.specs.Sound.{IsSoundCore, IsSoundJob}
 use Rattle.sc_core.specs.Tells.{FailsBy, FailsOrAborts, IsGone, Misses, MissesIf, Tells, TellsFailureIf, TellsTo, after_failure, is_zombie_in, success_answer}
 use Rattle.sc_core.specs.declared.answers.Abort.TheVariants.{TaskLimit}
 use Rattle.sc_core.specs.declared.answers.Answer.TheVariants as says
-use Rattle.sc_core.specs.declared.events.Event.TheVariants.{Post, Release, Take, TellLost}
+use Rattle.sc_core.specs.declared.events.Event.TheVariants.{Post, Release, Side, Take, TellLost}
 use Rattle.sc_core.specs.declared.events.Outcome.{Outcome}
 use Rattle.sc_core.specs.declared.events.Outcome.TheVariants as outcomes
 use Rattle.sc_core.specs.declared.running.Running.{Running}
@@ -225,6 +225,8 @@ task_limits_by steps c after (Release key) stage number p sound step = by (job_r
         → HasFailedAt after.dag stage number p
     by false (told, is) = absurd (search (rules, told))
     by true h = of (shelved_of c key) h
+task_limits_by steps c after (Side event) stage number p sound (said, told, step) =
+    absurd (search (rules, told))
 task_limits_by steps c after (TellLost exec) stage number p sound (may, step) =
     by (are_lost (without_executor c exec).dag.tracker.trust) step
   where

@@ -29,7 +29,7 @@ use Rattle.sc_core.specs.Releases.{ReleasesIf, ReleasesOf}
 use Rattle.sc_core.specs.Sound.{IsShelvedWell, IsSoundJob}
 use Rattle.sc_core.specs.Tells.{FailsBy, FailsOrAborts, FollowsUp, IsGone, LooksAgain, Misses, MissesIf, Tells, TellsFailure, TellsFailureIf, TellsMap, TellsTo, after_failure, is_zombie_in}
 use Rattle.sc_core.specs.declared.answers.Answer.{Answer}
-use Rattle.sc_core.specs.declared.events.Event.TheVariants.{Post, Release, Take, TellLost}
+use Rattle.sc_core.specs.declared.events.Event.TheVariants.{Post, Release, Side, Take, TellLost}
 use Rattle.sc_core.specs.declared.events.Outcome.{Outcome}
 use Rattle.sc_core.specs.declared.events.Outcome.TheVariants as outcomes
 use Rattle.sc_core.specs.declared.running.Running.{Running}
@@ -39,6 +39,7 @@ use Rattle.sc_core.proofs.TakeAgreeLemmas.{takes_agree}
 use Rattle.sc_core.proofs.StepLemmas.{posted, shelved_runs}
 use Rattle.sc_core.proofs.ShelfLemmas.{awaits_it, fits_still}
 use Rattle.sc_core.proofs.ResultLemmas.{frees}
+use Rattle.sc_core.proofs.SideCases.{steps_aside_agree}
 
 -- two answers and what they leave are one
 abbrev Same : Answer → Answer → CoreData → CoreData → Type 0
@@ -253,6 +254,8 @@ steps_agree_by calls others one c (Release key) a b x y sound s t = by (job_runs
         → Same a b x y
     by false e (u, is) (v, is') = (u ∙ sym v, is ∙ sym is')
     by true e u v = of (shelved_of c key) refl e u v
+steps_agree_by calls others one c (Side event) a b x y sound s t =
+    steps_aside_agree c x y event a b s t
 steps_agree_by calls others one c (TellLost exec) a b x y sound (may, s) (may', t) =
     by (are_lost (without_executor c exec).dag.tracker.trust) s t
   where

@@ -30,7 +30,7 @@ use Rattle.sc_core.specs.declared.answers.Abort.TheVariants as aborts
 use Rattle.sc_core.specs.declared.answers.Answer.{Answer}
 use Rattle.sc_core.specs.declared.answers.Answer.TheVariants as says
 use Rattle.sc_core.specs.declared.answers.Job.TheVariants as jobs
-use Rattle.sc_core.specs.declared.events.Event.TheVariants.{Post, Release, Take, TellLost}
+use Rattle.sc_core.specs.declared.events.Event.TheVariants.{Post, Release, Side, Take, TellLost}
 use Rattle.sc_core.specs.declared.events.Outcome.{Outcome}
 use Rattle.sc_core.specs.declared.events.Outcome.TheVariants as outcomes
 use Rattle.sc_core.specs.declared.running.Running.{Running}
@@ -41,6 +41,7 @@ use Rattle.sc_core.proofs.StepLemmas.{posted, shelved_runs}
 use Rattle.sc_core.proofs.ShelfLemmas.{awaits_it, fits_still}
 use Rattle.sc_core.proofs.SubmitLemmas.{completes, fails, submits}
 use Rattle.sc_core.proofs.TakeAnswerLemmas.{takes_there}
+use Rattle.sc_core.proofs.SideCases.{steps_aside_there}
 
 -- ---- a report
 
@@ -229,6 +230,7 @@ answered_by calls others waits c (Post a outcome) sound enabled =
     posts_there calls others c a outcome sound enabled
 answered_by calls others waits c (Release key) sound enabled =
     releases_there calls others c key sound enabled
+answered_by calls others waits c (Side event) sound enabled = steps_aside_there c event
 answered_by calls others waits c (TellLost exec) sound enabled =
     by (are_lost (without_executor c exec).dag.tracker.trust) refl
   where

@@ -23,7 +23,7 @@ use Rattle.sc_core.specs.declared.answers.Abort.{Abort}
 use Rattle.sc_core.specs.declared.answers.Abort.TheVariants as aborts
 use Rattle.sc_core.specs.declared.answers.Answer.TheVariants as says
 use Rattle.sc_core.specs.declared.events.Event.{Event}
-use Rattle.sc_core.specs.declared.events.Event.TheVariants.{Post, Release, Take, TellLost}
+use Rattle.sc_core.specs.declared.events.Event.TheVariants.{Post, Release, Side, Take, TellLost}
 use Rattle.sc_core.specs.declared.events.Outcome.{Outcome}
 use Rattle.sc_core.specs.declared.events.Outcome.TheVariants as outcomes
 use Rattle.sc_core.specs.declared.running.Running.{Running}
@@ -133,6 +133,7 @@ steps_end c after (Release key) why step = by (job_runs c) step
     by : (b : Bool) → ReleasesIf b c key (says.Aborted why) after → EndsAs why after.dag
     by false (e, is) = absurd (search (rules, e))
     by true h = of (shelved_of c key) h
+steps_end c after (Side event) why (said, told, step) = absurd (search (rules, told))
 steps_end c after (TellLost exec) why (may, step) =
     by (are_lost next.dag.tracker.trust) refl step
   where

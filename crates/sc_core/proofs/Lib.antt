@@ -22,6 +22,9 @@ pub mod ChargeLemmas
 pub mod RunningLemmas
 pub mod LeftLemmas
 pub mod ShelfLemmas
+pub mod SideLemmas
+pub mod SideCases
+pub mod TakeCases
 pub mod PlannedLemmas
 pub mod ToldLemmas
 pub mod TakeLemmas

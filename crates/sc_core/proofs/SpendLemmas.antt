@@ -1,5 +1,5 @@
 -- Every answer but those that only say how things are leaves less to do.
-use Rattle.std.proofs.Common.{◌≡◌, ◌≢◌, ℕ, ◌==◌, filter_map, slice_get, ◌+◌, ◌-◌, ◌*◌, ◌<◌, ◌≤◌, not, Bool, true, false, cond, if◌then◌else◌, List, [], ◌∷◌, ◌++◌, length, map, Option, Some, None, find, option_map, refl, ap, sym, subst, ◌∙◌, arith, rules, true≢false, length-append}
+use Rattle.std.proofs.Common.{◌≡◌, ◌≢◌, ℕ, ◌==◌, filter_map, slice_get, ◌+◌, ◌-◌, ◌*◌, ◌<◌, ◌≤◌, not, Bool, true, false, cond, if◌then◌else◌, List, [], ◌∷◌, ◌++◌, length, map, Option, Some, None, find, option_map, refl, ap, sym, subst, ◌∙◌, arith, rules, true≢false, length-append, ◌⊎◌, inl, inr}
 use Rattle.std.specs.List.{filter}
 use Rattle.sc_ids.specs.declared.attempts.AttemptId.{AttemptId}
 use Rattle.std.proofs.lemmas.Bool.Decides.{nat_tests}
@@ -15,13 +15,14 @@ use Rattle.sc_tracker.specs.Trust.{are_lost, is_live}
 use Rattle.sc_tracker.specs.TrackerData.{TrackerData, trust_of}
 use Rattle.sc_core.specs.Losses.{LosesOrAborts, is_due_after, may_be_lost, runs_on, without_executor}
 use Rattle.sc_core.specs.Sound.{IsSoundCore}
+use Rattle.sc_core.proofs.TakeCases.{TakesSo, takes_so}
 use Rattle.sc_core.proofs.LoseLemmas.{IsLessOne, lose_less}
 use Rattle.sc_core.specs.Releases.{ReleasesIf, ReleasesOf}
 use Rattle.sc_core.specs.Takes.{running_on}
 use Rattle.sc_core.specs.Tells.{Tells, TellsTo}
 use Rattle.sc_core.specs.declared.answers.Abort.TheVariants as aborts
 use Rattle.sc_core.specs.declared.answers.Answer.TheVariants as says
-use Rattle.sc_core.specs.declared.events.Event.TheVariants.{Post, Release, Take, TellLost}
+use Rattle.sc_core.specs.declared.events.Event.TheVariants.{Post, Release, Side, Take, TellLost}
 use Rattle.sc_core.specs.declared.running.Running.{Running}
 use Rattle.sc_core.specs.declared.running.Shelved.{Shelved}
 use Rattle.sc_core.proofs.RunningLemmas.{shorter}
@@ -387,6 +388,7 @@ steps_are_spent c after (Release key) answer sound step spends runs = by (job_ru
         → left_to_do after < left_to_do c
     by false e (says, is) = absurd (clash (ap job_runs (sym is) ∙ runs) e)
     by true e h = of (shelved_of c key) refl h
+steps_are_spent c after (Side event) answer sound step spends runs = absurd (true≢false spends)
 steps_are_spent c after (TellLost exec) answer sound (may, step) spends runs =
     by (are_lost (without_executor c exec).dag.tracker.trust) step
   where
@@ -397,34 +399,14 @@ steps_are_spent c after (TellLost exec) answer sound (may, step) spends runs =
     by true (says, is) = absurd (true≢false (sym runs ∙ ap job_runs is))
     by false (says, is) =
         subst (λ x. left_to_do x < left_to_do c) (sym is) (lost_less c exec sound may)
-steps_are_spent c after (Take exec) (says.Task h) sound (asks, out, below, is) changes runs =
-    subst (λ x. left_to_do x < left_to_do c) (sym is)
-    (rw (outs_push h exec c.running)
-    (task_less c.dag.limits.hand_outs (length (outs c.running)) (length c.shelf)
-    (length (filter (is_untold c.dag.tracker) c.plan)) c.handed below))
-steps_are_spent c after (Take exec) (says.Aborted aborts.Budget) sound (a, asks, o, le, is)
-    changes runs =
-    absurd (true≢false (sym runs ∙ ap job_runs is))
-steps_are_spent c after (Take exec) says.Ended sound step changes runs = absurd (true≢false changes)
-steps_are_spent c after (Take exec) (says.Stopped first) sound step changes runs =
-    absurd (true≢false changes)
-steps_are_spent c after (Take exec) says.Lost sound step changes runs = absurd (true≢false changes)
-steps_are_spent c after (Take exec) (says.Busy held) sound step changes runs =
-    absurd (true≢false changes)
-steps_are_spent c after (Take exec) (says.Wait out) sound step changes runs =
-    absurd (true≢false changes)
-steps_are_spent c after (Take exec) (says.Aborted (aborts.TaskLimit s k p)) sound bad changes runs =
-    absurd bad
-steps_are_spent c after (Take exec) (says.Aborted (aborts.StageLimit s)) sound bad changes runs =
-    absurd bad
-steps_are_spent c after (Take exec) (says.Aborted aborts.NoExecutor) sound bad changes runs =
-    absurd bad
-steps_are_spent c after (Take exec) says.Ignored sound bad changes runs = absurd bad
-steps_are_spent c after (Take exec) says.Shelved sound bad changes runs = absurd bad
-steps_are_spent c after (Take exec) says.Told sound bad changes runs = absurd bad
-steps_are_spent c after (Take exec) says.Repeated sound bad changes runs = absurd bad
-steps_are_spent c after (Take exec) says.Registered sound bad changes runs = absurd bad
-steps_are_spent c after (Take exec) says.Bogus sound bad changes runs = absurd bad
-steps_are_spent c after (Take exec) says.Finished sound bad changes runs = absurd bad
-steps_are_spent c after (Take exec) says.Again sound bad changes runs = absurd bad
-steps_are_spent c after (Take exec) says.Resubmitted sound bad changes runs = absurd bad
+steps_are_spent c after (Take exec) answer sound step changes runs =
+    by (takes_so c after exec answer step)
+  where
+    by : TakesSo c after exec answer → left_to_do after < left_to_do c
+    by (inl t) =
+        subst (λ x. left_to_do x < left_to_do c) (sym t.is)
+        (rw (outs_push t.task exec c.running)
+        (task_less c.dag.limits.hand_outs (length (outs c.running)) (length c.shelf)
+        (length (filter (is_untold c.dag.tracker) c.plan)) c.handed t.below))
+    by (inr (inl b)) = absurd (true≢false (sym runs ∙ ap job_runs b.is))
+    by (inr (inr same)) = absurd (true≢false (sym same.told ∙ changes))

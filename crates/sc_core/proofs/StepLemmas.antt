@@ -14,7 +14,7 @@ use Rattle.sc_core.specs.Losses.{LosesOrAborts, without_executor}
 use Rattle.sc_core.specs.Releases.{ReleasesIf, ReleasesOf}
 use Rattle.sc_core.specs.Sound.{AreLostAsPlanned, IsShelvedWell, IsSoundCore, IsSoundJob, RunsWell, is_shelved}
 use Rattle.sc_core.specs.Tells.{Tells, TellsTo}
-use Rattle.sc_core.specs.declared.events.Event.TheVariants.{Post, Release, Take, TellLost}
+use Rattle.sc_core.specs.declared.events.Event.TheVariants.{Post, Release, Side, Take, TellLost}
 use Rattle.sc_core.specs.declared.events.Outcome.{Outcome}
 use Rattle.sc_core.specs.declared.events.Outcome.TheVariants as outcomes
 use Rattle.sc_core.specs.declared.answers.Answer.{Answer}
@@ -29,6 +29,7 @@ use Rattle.sc_core.proofs.TakeLemmas.{aborted_sound, calm_sound, takes_keep}
 use Rattle.sc_core.proofs.FailureLemmas.{failure_keeps}
 use Rattle.sc_core.proofs.MapLemmas.{map_keeps}
 use Rattle.sc_core.proofs.ResultLemmas.{result_keeps}
+use Rattle.sc_core.proofs.SideLemmas.{aside_sound, steps_aside}
 
 -- what a report of a running attempt is told of
 pub record IsPosted (c : CoreData) (a : AttemptId) (r : Running) : Type 0 where
@@ -219,6 +220,8 @@ steps_keep_by calls maps results failures others c after (Release key) answer so
     by : (b : Bool) → job_runs c ≡ b → ReleasesIf b c key answer after → IsSoundCore after
     by false e (says, is) = subst IsSoundCore (sym is) sound
     by true e h = of (shelved_of c key) refl e h
+steps_keep_by calls maps results failures others c after (Side event) answer sound step =
+    aside_sound c after (steps_aside c after event answer step) sound
 steps_keep_by calls maps results failures others c after (TellLost exec) answer sound (may, step) =
     by (are_lost (without_executor c exec).dag.tracker.trust) step
   where

@@ -1,5 +1,5 @@
 -- What holds of every core holds once an executor has asked for a task.
-use Rattle.std.proofs.Common.{◌≡◌, ◌≢◌, ℕ, ◌<◌, ◌==◌, All, Bool, true, false, if◌then◌else◌, List, [], ◌∷◌, Option, Some, None, find, option_map, refl, ap, sym, subst, ◌∙◌, arith, rules, true≢false, slice_get}
+use Rattle.std.proofs.Common.{◌≡◌, ◌≢◌, ℕ, ◌<◌, ◌==◌, ◌⊎◌, inl, inr, All, Bool, true, false, if◌then◌else◌, List, [], ◌∷◌, Option, Some, None, find, option_map, refl, ap, sym, subst, ◌∙◌, arith, rules, true≢false, slice_get}
 use Rattle.std.specs.List.{AllPairs}
 use Rattle.std.specs.Option.{option_or}
 use Rattle.std.proofs.lemmas.Bool.Decides.{nat_tests}
@@ -31,6 +31,7 @@ use Rattle.sc_core.proofs.MoveLemmas.{Moves, state_results}
 use Rattle.sc_core.proofs.OfferLemmas.{IsOffered, handed_out_moves, offered, offered_may}
 use Rattle.sc_core.proofs.RunningLemmas.{none_passes, same_sym}
 use Rattle.sc_core.proofs.ShelfLemmas.{task_shelf}
+use Rattle.sc_core.proofs.TakeCases.{TakesSo, takes_so}
 use Rattle.sc_core.proofs.ToldLemmas.{goes_same}
 use Rattle.sc_core.proofs.CarryLemmas.{Carries, handed_still}
 use Rattle.sc_core.proofs.TrackerCarryLemmas.{live_there}
@@ -236,34 +237,17 @@ task_sound c exec h calls others sound asks out below =
 pub takes_keep :
     CallsKeepSound → OthersGoOn → (c after : CoreData) (exec : ℕ) (answer : Answer)
     → IsSoundCore c → Takes c exec answer after → IsSoundCore after
-takes_keep calls others c after exec (says.Task h) sound (asks, out, below, is) =
-    subst IsSoundCore (sym is)
-    (record {
-      job = task_sound c exec h calls others sound.job asks out below;
-      shelf = λ r. task_shelf c exec h sound.job asks out (sound.shelf asks.runs);
-      lost = sound.lost;
-      told = sound.told;
-    })
-takes_keep calls others c after exec (says.Aborted aborts.Budget) sound (a, asks, o, above, is) =
-    subst IsSoundCore (sym is) (aborted_sound c aborts.Budget sound)
-takes_keep calls others c after exec says.Ended sound (e, is) = subst IsSoundCore (sym is) sound
-takes_keep calls others c after exec (says.Stopped first) sound (e, f, is) =
-    subst IsSoundCore (sym is) sound
-takes_keep calls others c after exec says.Lost sound (e, f, g, is) =
-    subst IsSoundCore (sym is) sound
-takes_keep calls others c after exec (says.Busy held) sound (e, f, g, h, is) =
-    subst IsSoundCore (sym is) sound
-takes_keep calls others c after exec (says.Wait out) sound (e, f, g, is) =
-    subst IsSoundCore (sym is) sound
-takes_keep calls others c after exec (says.Aborted (aborts.TaskLimit s k p)) sound bad = absurd bad
-takes_keep calls others c after exec (says.Aborted (aborts.StageLimit s)) sound bad = absurd bad
-takes_keep calls others c after exec (says.Aborted aborts.NoExecutor) sound bad = absurd bad
-takes_keep calls others c after exec says.Ignored sound bad = absurd bad
-takes_keep calls others c after exec says.Shelved sound bad = absurd bad
-takes_keep calls others c after exec says.Told sound bad = absurd bad
-takes_keep calls others c after exec says.Repeated sound bad = absurd bad
-takes_keep calls others c after exec says.Registered sound bad = absurd bad
-takes_keep calls others c after exec says.Bogus sound bad = absurd bad
-takes_keep calls others c after exec says.Finished sound bad = absurd bad
-takes_keep calls others c after exec says.Again sound bad = absurd bad
-takes_keep calls others c after exec says.Resubmitted sound bad = absurd bad
+takes_keep calls others c after exec answer sound step = by (takes_so c after exec answer step)
+  where
+    by : TakesSo c after exec answer → IsSoundCore after
+    by (inl t) =
+        subst IsSoundCore (sym t.is)
+        (record {
+          job = task_sound c exec t.task calls others sound.job t.asking t.out t.below;
+          shelf = λ r. task_shelf c exec t.task sound.job t.asking t.out
+              (sound.shelf t.asking.runs);
+          lost = sound.lost;
+          told = sound.told;
+        })
+    by (inr (inl b)) = subst IsSoundCore (sym b.is) (aborted_sound c aborts.Budget sound)
+    by (inr (inr same)) = subst IsSoundCore (sym same.is) sound

@@ -17,6 +17,7 @@ use Rattle.sc_tracker.specs.Trust.{are_lost}
 use Rattle.sc_core.specs.CoreData.{CoreData, job_runs, result_stage, running_of, under_way}
 use Rattle.sc_core.specs.Journals.{Replays}
 use Rattle.sc_core.specs.Openings.{IsOpening, tracker_behind}
+use Rattle.sc_core.specs.Sides.{IsAside}
 use Rattle.sc_core.specs.Sound.{IsSoundCore}
 use Rattle.sc_core.specs.Steps.{Steps, is_enabled}
 use Rattle.sc_core.specs.Takes.{IsAsking}
@@ -26,7 +27,8 @@ use Rattle.sc_core.specs.declared.answers.Answer.TheVariants as says
 use Rattle.sc_core.specs.declared.answers.Job.TheVariants as jobs
 use Rattle.sc_core.specs.declared.entries.Entry.{Entry}
 use Rattle.sc_core.specs.declared.events.Event.{Event}
-use Rattle.sc_core.specs.declared.events.Event.TheVariants.{Post, Release, Take, TellLost}
+use Rattle.sc_core.specs.declared.events.Event.TheVariants.{Post, Side, Take}
+use Rattle.sc_core.specs.declared.events.SideEvent.{SideEvent}
 use Rattle.sc_core.specs.declared.running.Running.{Running}
 
 -- an event has one answer in a state, and leaves one state
@@ -155,8 +157,8 @@ changes_nothing says.Ended = true
 changes_nothing says.Ignored = true
 changes_nothing answer = false
 
--- an event only asks how things are, or is a report that nobody waits for: what isn't out has
--- reported before
+-- an event only asks how things are, happens beside the reports, or is a report that nobody waits
+-- for: what isn't out has reported before
 abbrev pub spends_nothing : CoreData → Event → Answer → Bool
 spends_nothing c (Take exec) answer = changes_nothing answer
 spends_nothing c (Post a outcome) answer = not (is_out_in (running_of c a))
@@ -164,8 +166,8 @@ spends_nothing c (Post a outcome) answer = not (is_out_in (running_of c a))
     is_out_in : Option Running → Bool
     is_out_in None = false
     is_out_in (Some r) = r.is_out
-spends_nothing c (Release key) answer = false
-spends_nothing c (TellLost exec) answer = false
+spends_nothing c (Side event) answer = true
+spends_nothing c event answer = false
 
 -- in a job that goes on, every other event leaves less to do
 abbrev pub StepsAreSpent : Type 0
@@ -173,3 +175,9 @@ StepsAreSpent =
     (c after : CoreData) (event : Event) (answer : Answer) → IsSoundCore c
     → Steps c event answer after → spends_nothing c event answer ≡ false → job_runs after ≡ true
     → left_to_do after < left_to_do c
+
+-- What happens beside the reports changes nothing else, and leaves as much to do.
+abbrev pub SideEventsStayAside : Type 0
+SideEventsStayAside =
+    (c after : CoreData) (event : SideEvent) (answer : Answer) → Steps c (Side event) answer after
+    → IsAside c after × (left_to_do after ≡ left_to_do c)

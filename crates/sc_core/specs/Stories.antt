@@ -8,7 +8,7 @@ use Rattle.sc_core.specs.declared.answers.Answer.{Answer}
 use Rattle.sc_core.specs.declared.answers.Answer.TheVariants as says
 use Rattle.sc_core.specs.declared.entries.Entry.{Entry}
 use Rattle.sc_core.specs.declared.events.Event.{Event}
-use Rattle.sc_core.specs.declared.events.Event.TheVariants.{Post, Release, Take, TellLost}
+use Rattle.sc_core.specs.declared.events.Event.TheVariants.{Post, Take}
 
 -- an answer hands the attempt out
 abbrev pub hands_out : Answer → AttemptId → Bool
@@ -19,8 +19,7 @@ hands_out answer a = false
 abbrev pub is_told_of : AttemptId → Event → Answer → Bool
 is_told_of a (Take exec) answer = hands_out answer a
 is_told_of a (Post attempt outcome) answer = is_same attempt a
-is_told_of a (Release key) answer = false
-is_told_of a (TellLost exec) answer = false
+is_told_of a event answer = false
 
 abbrev pub is_entry_of : AttemptId → Entry → Bool
 is_entry_of a e = is_told_of a e.event e.answer

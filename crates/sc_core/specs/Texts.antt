@@ -15,9 +15,13 @@ use Rattle.sc_core.specs.declared.answers.Abort.{Abort}
 use Rattle.sc_core.specs.declared.answers.Abort.TheVariants as aborts
 use Rattle.sc_core.specs.declared.answers.Answer.{Answer}
 use Rattle.sc_core.specs.declared.answers.Answer.TheVariants as says
+use Rattle.sc_core.specs.declared.answers.SideAnswer.{SideAnswer}
+use Rattle.sc_core.specs.declared.answers.SideAnswer.TheVariants as sides
 use Rattle.sc_core.specs.declared.entries.Entry.{Entry}
 use Rattle.sc_core.specs.declared.events.Event.{Event}
-use Rattle.sc_core.specs.declared.events.Event.TheVariants.{Post, Release, Take, TellLost}
+use Rattle.sc_core.specs.declared.events.Event.TheVariants.{Post, Release, Side, Take, TellLost}
+use Rattle.sc_core.specs.declared.events.SideEvent.{SideEvent}
+use Rattle.sc_core.specs.declared.events.SideEvent.TheVariants.{Leave}
 use Rattle.sc_core.specs.declared.events.Outcome.{Outcome}
 use Rattle.sc_core.specs.declared.events.Outcome.TheVariants as outcomes
 
@@ -68,12 +72,16 @@ outcome_text (outcomes.Map loc) = codes "map at " ++ loc_text loc
 outcome_text outcomes.Result = codes "result"
 outcome_text (outcomes.Failed cause) = codes "failed: " ++ cause_text cause
 
+abbrev pub side_event_text : SideEvent → List ℕ
+side_event_text (Leave exec) = codes "leave " ++ decimal exec
+
 abbrev pub event_text : Event → List ℕ
 event_text (Take exec) = codes "take"
 event_text (Post attempt outcome) =
     codes "post " ++ attempt_text attempt ++ codes " " ++ outcome_text outcome
 event_text (Release key) = codes "release " ++ decimal key
 event_text (TellLost exec) = codes "lost " ++ decimal exec
+event_text (Side event) = side_event_text event
 
 -- a partition that failed as often as is allowed in an attempt of its stage
 abbrev pub limit_text : ℕ → ℕ → ℕ → List ℕ
@@ -86,6 +94,10 @@ abort_text (aborts.TaskLimit stage number partition) = limit_text stage number p
 abort_text (aborts.StageLimit stage) = codes "stage limit of " ++ decimal stage
 abort_text aborts.NoExecutor = codes "no executor"
 abort_text aborts.Budget = codes "budget"
+
+abbrev pub side_answer_text : SideAnswer → List ℕ
+side_answer_text sides.Ignored = codes "ignored"
+side_answer_text sides.Left = codes "left"
 
 abbrev pub answer_text : Answer → List ℕ
 answer_text (says.Task h) = task_text h
@@ -104,6 +116,7 @@ answer_text says.Bogus = codes "bogus"
 answer_text says.Finished = codes "finished"
 answer_text says.Again = codes "again"
 answer_text says.Resubmitted = codes "resubmitted"
+answer_text (says.Side said) = side_answer_text said
 
 abbrev pub mark_text : Mark → List ℕ
 mark_text (marks.Exec exec) = decimal exec

@@ -42,6 +42,15 @@ pub enum Job {
     Aborted(Abort),
 }
 
+/// What is answered to what happens beside the reports.
+#[derive(Clone, Copy, Debug, PartialEq, Eq)]
+pub enum SideAnswer {
+    /// The job has ended, and nothing changes.
+    Ignored,
+    /// The executor has left. Whoever asks from now on is stopped.
+    Left,
+}
+
 /// What a core answers.
 #[derive(Drop)]
 pub enum Answer {
@@ -86,6 +95,8 @@ pub enum Answer {
     Again,
     /// The attempt of the stage failed, and the stage was submitted again.
     Resubmitted,
+    /// What happened beside the reports is answered so.
+    Side(SideAnswer),
 }
 
 /// The answer to an event that isn't enabled: a report that doesn't fit its running attempt, a
@@ -127,6 +138,7 @@ fn copied(answer: &Answer) -> Answer
         Answer::Finished => Answer::Finished,
         Answer::Again => Answer::Again,
         Answer::Resubmitted => Answer::Resubmitted,
+        Answer::Side(said) => Answer::Side(*said),
     }
 }
 

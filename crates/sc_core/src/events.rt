@@ -14,6 +14,16 @@ pub enum Outcome {
     Failed(FailureCause),
 }
 
+/// What happens to a core beside the reports: it changes no stage, no task set and no result.
+#[derive(Clone, Copy, Debug, PartialEq, Eq)]
+pub enum SideEvent {
+    /// An executor leaves early, and takes part in this job no more.
+    Leave {
+        /// The executor.
+        exec: ExecId,
+    },
+}
+
 /// What happens to a core.
 #[derive(Clone, Copy, Debug, PartialEq, Eq)]
 pub enum Event {
@@ -39,4 +49,6 @@ pub enum Event {
         /// The executor.
         exec: ExecId,
     },
+    /// Something happens beside the reports.
+    Side(SideEvent),
 }

@@ -1,7 +1,7 @@
 //! Laws of cores, as functions that do nothing.
 #![tactic(auto)]
 
-ghost use Rattle.sc_core.specs.Laws.{DoneJobsAreWhole, EventsAreAnswered, NeverStuck, NoExecutorsAreLeft, OpeningsAreSound, ReplaysAgree, ReplaysKeepSound, StageLimitsAreReached, StepsAgree, StepsAreSpent, StepsKeepSound, TaskLimitsAreReached, WaitsHaveCause};
+ghost use Rattle.sc_core.specs.Laws.{DoneJobsAreWhole, EventsAreAnswered, NeverStuck, NoExecutorsAreLeft, OpeningsAreSound, ReplaysAgree, ReplaysKeepSound, SideEventsStayAside, StageLimitsAreReached, StepsAgree, StepsAreSpent, StepsKeepSound, TaskLimitsAreReached, WaitsHaveCause};
 
 /// An event has one answer and leaves one state, and so a journal does. A call does nothing.
 pub fn steps_have_one_answer()
@@ -32,4 +32,9 @@ pub fn ends_are_as_told()
     ensures task_limit { TaskLimitsAreReached }
     ensures stage_limit { StageLimitsAreReached }
     ensures no_executor { NoExecutorsAreLeft }
+{}
+
+/// What happens beside the reports changes none of what they rest on. A call does nothing.
+pub fn side_events_stay_aside()
+    ensures { SideEventsStayAside }
 {}

@@ -19,7 +19,7 @@ impl Entry {
         match self.event {
             Event::Take { .. } => hands_out(&self.answer, attempt),
             Event::Post { attempt: of, .. } => is_same(of, attempt),
-            Event::Release { .. } | Event::TellLost { .. } => false,
+            _ => false,
         }
     }
 }

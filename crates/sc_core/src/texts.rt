@@ -1,9 +1,9 @@
 //! How entries of a journal are written: one line each.
 #![tactic(auto)]
 
-use crate::answers::{Abort, Answer};
+use crate::answers::{Abort, Answer, SideAnswer};
 use crate::entries::Entry;
-use crate::events::{Event, Outcome};
+use crate::events::{Event, Outcome, SideEvent};
 use crate::inputs::Inputs;
 use crate::running::HandOut;
 use crate::words::{By, Often, Places, Store, Why};
@@ -73,6 +73,34 @@ impl fmt::Display for Event {
             Event::Post { attempt, outcome } => write!(f, "post {attempt} {outcome}"),
             Event::Release { key } => write!(f, "release {key}"),
             Event::TellLost { exec } => write!(f, "lost {exec}"),
+            Event::Side(event) => write!(f, "{event}"),
+        }
+    }
+}
+
+impl fmt::Display for SideEvent {
+    ghost use Rattle.std.specs.Prelude.{Some};
+    ghost use Rattle.sc_core.specs.Texts.{side_event_text};
+
+    ghost output = { λ event. Some (side_event_text event) };
+
+    fn fmt<W: fmt::Write>(&self, f: &mut fmt::Formatter<W>) -> fmt::Result {
+        match *self {
+            SideEvent::Leave { exec } => write!(f, "leave {exec}"),
+        }
+    }
+}
+
+impl fmt::Display for SideAnswer {
+    ghost use Rattle.std.specs.Prelude.{Some};
+    ghost use Rattle.sc_core.specs.Texts.{side_answer_text};
+
+    ghost output = { λ said. Some (side_answer_text said) };
+
+    fn fmt<W: fmt::Write>(&self, f: &mut fmt::Formatter<W>) -> fmt::Result {
+        match *self {
+            SideAnswer::Ignored => write!(f, "ignored"),
+            SideAnswer::Left => write!(f, "left"),
         }
     }
 }
@@ -128,6 +156,7 @@ impl fmt::Display for Answer {
             Answer::Finished => write!(f, "finished"),
             Answer::Again => write!(f, "again"),
             Answer::Resubmitted => write!(f, "resubmitted"),
+            Answer::Side(said) => write!(f, "{said}"),
         }
     }
 }

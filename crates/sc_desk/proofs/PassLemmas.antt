@@ -1,5 +1,5 @@
 -- What each event leaves of the plan, of how many were told, of who was seen, and of the shelf.
-use Rattle.std.proofs.Common.{◌≡◌, ◌≢◌, inl, inr, ℕ, ◌+◌, ◌<◌, ◌≤◌, ◌^◌, ◌++◌, not, All, Bool, true, false, List, [], ◌∷◌, length, filter, Option, Some, None, refl, ap, sym, subst, ◌∙◌, arith, true≢false}
+use Rattle.std.proofs.Common.{◌≡◌, ◌≢◌, inl, inr, ℕ, ◌+◌, ◌<◌, ◌≤◌, ◌^◌, ◌++◌, not, All, Bool, true, false, List, [], ◌∷◌, length, filter, Option, Some, None, refl, ap, sym, subst, ◌∙◌, arith, true≢false, ◌⊎◌}
 use Rattle.std.proofs.lemmas.List.{append-nil, append_assoc}
 use Rattle.std.proofs.lemmas.List.Elements.{All-cons, All-nil}
 use Rattle.sc_ids.specs.declared.attempts.AttemptId.{AttemptId}
@@ -22,6 +22,8 @@ use Rattle.sc_core.specs.declared.running.Shelved.{Shelved}
 use Rattle.sc_core.proofs.LeftLemmas.{Left, left_same, left_then, released_left, tells_left}
 use Rattle.sc_core.proofs.PlannedLemmas.{counted_more}
 use Rattle.sc_desk.proofs.TrackLemmas.{Sees, ShowsWithin, StaysOrDrops, Tracks, all_released_trust, lost_sees, sees_same, sees_then, tells_track}
+use Rattle.sc_core.proofs.TakeCases.{TakesSo, takes_so}
+use Rattle.sc_core.specs.Sides.{IsAside}
 
 -- the shelf of a job that has ended is empty
 abbrev pub EndsEmpty : CoreData → Type 0
@@ -95,18 +97,11 @@ telling bound c after (Some r) a outcome answer runs few shows h =
 pub takes_pass :
     (bound : ℕ → ℕ) (c after : CoreData) (exec : ℕ) (answer : Answer) → Takes c exec answer after
     → Telling bound c after
-takes_pass bound c after exec answer step = by answer step
+takes_pass bound c after exec answer step = by (takes_so c after exec answer step)
   where
-    same : after ≡ c → Telling bound c after
-    same is =
-        record {
-          passes = passes_same bound c after is;
-          shelf = λ r. ap (λ (x : CoreData). x.shelf) is;
-        }
-
-    by : (answer : Answer) → Takes c exec answer after → Telling bound c after
-    by (says.Task h) (asking, out, below, is) =
-        subst (λ x. Telling bound c x) (sym is)
+    by : TakesSo c after exec answer → Telling bound c after
+    by (inl t) =
+        subst (λ x. Telling bound c x) (sym t.is)
         (record {
           passes =
               record {
@@ -117,13 +112,8 @@ takes_pass bound c after exec answer step = by answer step
               };
           shelf = λ r. refl;
         })
-    by (says.Wait out) (asking, none, way, is) = same is
-    by (says.Busy held) (runs, stays, live, has, is) = same is
-    by says.Lost (runs, stays, lost, is) = same is
-    by (says.Stopped first) (runs, left, is) = same is
-    by says.Ended (runs, is) = same is
-    by (says.Aborted aborts.Budget) (a, asking, offer, le, is) =
-        subst (λ x. Telling bound c x) (sym is)
+    by (inr (inl b)) =
+        subst (λ x. Telling bound c x) (sym b.is)
         (record {
           passes =
               record {
@@ -134,18 +124,25 @@ takes_pass bound c after exec answer step = by answer step
               };
           shelf = λ r. absurd (true≢false (sym r));
         })
-    by (says.Aborted (aborts.TaskLimit s n p)) k = absurd k
-    by (says.Aborted (aborts.StageLimit s)) k = absurd k
-    by (says.Aborted aborts.NoExecutor) k = absurd k
-    by says.Ignored k = absurd k
-    by says.Shelved k = absurd k
-    by says.Told k = absurd k
-    by says.Repeated k = absurd k
-    by says.Registered k = absurd k
-    by says.Bogus k = absurd k
-    by says.Finished k = absurd k
-    by says.Again k = absurd k
-    by says.Resubmitted k = absurd k
+    by (inr (inr same)) =
+        record {
+          passes = passes_same bound c after same.is;
+          shelf = λ r. ap (λ (x : CoreData). x.shelf) same.is;
+        }
+
+-- what happens beside the reports
+pub aside_pass : (bound : ℕ → ℕ) (c after : CoreData) → IsAside c after → Telling bound c after
+aside_pass bound c after is =
+    record {
+      passes =
+          record {
+            plan = is.plan;
+            told = rw is.told (omega arith);
+            sees = sees_same bound c.dag after.dag is.dag;
+            ends = λ h over. is.shelf ∙ h (ap is_running_job (sym is.job) ∙ over);
+          };
+      shelf = λ r. is.shelf;
+    }
 
 -- ---- losses
 

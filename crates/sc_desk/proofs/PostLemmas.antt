@@ -246,6 +246,7 @@ finished_is says.Registered e = absurd (true≢false (sym e))
 finished_is says.Bogus e = absurd (true≢false (sym e))
 finished_is says.Again e = absurd (true≢false (sym e))
 finished_is says.Resubmitted e = absurd (true≢false (sym e))
+finished_is (says.Side said) e = absurd (true≢false (sym e))
 finished_is says.Shelved e = absurd (true≢false (sym e))
 finished_is says.Told e = absurd (true≢false (sym e))
 

@@ -1,5 +1,5 @@
 -- What becomes of the stages and the results of a job, by what happens to its core.
-use Rattle.std.proofs.Common.{◌≡◌, ◌≢◌, ℕ, ◌<◌, ◌&&◌, not, Bool, true, false, if◌then◌else◌, List, [], ◌∷◌, inl, inr, true≢false, Option, Some, None, slice_get, refl, ap, sym, subst, ◌∙◌, rules}
+use Rattle.std.proofs.Common.{◌≡◌, ◌≢◌, ℕ, ◌<◌, ◌&&◌, not, Bool, true, false, if◌then◌else◌, List, [], ◌∷◌, inl, inr, true≢false, Option, Some, None, slice_get, refl, ap, sym, subst, ◌∙◌, rules, ◌⊎◌}
 use Rattle.sc_ids.specs.Changes.{change_at}
 use Rattle.sc_ids.specs.declared.attempts.AttemptId.{AttemptId}
 use Rattle.sc_ids.specs.declared.blocks.Loc.{Loc}
@@ -52,6 +52,7 @@ use Rattle.sc_history.proofs.Events.{Comes, losses_come, posts_come, releases_co
 use Rattle.sc_history.proofs.StageRoomLemmas.{result_tracker}
 use Rattle.sc_desk.proofs.RoomLemmas.{completes_rooms, fails_rooms, lost_rooms, map_rooms, rooms, seen_rooms, submitted_rooms}
 use Rattle.sc_desk.proofs.DagLemmas.{Leaves, SameJob, hold_wants, leaves_itself, leaves_of, leaves_then, new_result, repeated_result, same_of, same_then, with_one, within_stage}
+use Rattle.sc_core.proofs.TakeCases.{TakesSo, takes_so}
 
 -- a core whose stages are those of another one, or leave what they leave
 left_with : (c after : CoreData) (d : DagData) → Leaves c.dag d → after.dag ≡ d
@@ -326,34 +327,20 @@ outcome_told (t ∷ ts) = t.outcome
 
 pub takes_leave : (c after : CoreData) (exec : ℕ) (answer : Answer) → Takes c exec answer after
     → Leaves c.dag after.dag
-takes_leave c after exec (says.Task h) (asking, out, lt, is) =
-    left_with c after (handed_out c.dag h.attempt exec c.now)
-    (record {
-      job = record { stages = refl; limits = refl; rooms = refl };
-      results = state_results c.dag h.attempt.stage
-          (changed_newest (λ set. handed set h.attempt.partition exec c.now)) (λ state. refl);
-    })
-    (ap (λ (x : CoreData). x.dag) is)
-takes_leave c after exec (says.Wait out) (asking, none, way, is) = left_as c after c refl is
-takes_leave c after exec (says.Busy held) (runs, stays, live, has, is) =
-    left_as c after c refl is
-takes_leave c after exec says.Lost (runs, stays, lost, is) = left_as c after c refl is
-takes_leave c after exec (says.Stopped first) (runs, left, is) = left_as c after c refl is
-takes_leave c after exec says.Ended (runs, is) = left_as c after c refl is
-takes_leave c after exec (says.Aborted aborts.Budget) (a, asking, offer, le, is) =
-    left_as c after _ refl is
-takes_leave c after exec (says.Aborted (aborts.TaskLimit s n p)) h = absurd h
-takes_leave c after exec (says.Aborted (aborts.StageLimit s)) h = absurd h
-takes_leave c after exec (says.Aborted aborts.NoExecutor) h = absurd h
-takes_leave c after exec says.Ignored h = absurd h
-takes_leave c after exec says.Repeated h = absurd h
-takes_leave c after exec says.Registered h = absurd h
-takes_leave c after exec says.Bogus h = absurd h
-takes_leave c after exec says.Finished h = absurd h
-takes_leave c after exec says.Again h = absurd h
-takes_leave c after exec says.Resubmitted h = absurd h
-takes_leave c after exec says.Shelved h = absurd h
-takes_leave c after exec says.Told h = absurd h
+takes_leave c after exec answer h = by (takes_so c after exec answer h)
+  where
+    by : TakesSo c after exec answer → Leaves c.dag after.dag
+    by (inl t) =
+        left_with c after (handed_out c.dag t.task.attempt exec c.now)
+        (record {
+          job = record { stages = refl; limits = refl; rooms = refl };
+          results = state_results c.dag t.task.attempt.stage
+              (changed_newest (λ set. handed set t.task.attempt.partition exec c.now))
+              (λ state. refl);
+        })
+        (ap (λ (x : CoreData). x.dag) t.is)
+    by (inr (inl b)) = left_as c after _ refl b.is
+    by (inr (inr same)) = left_as c after c refl same.is
 
 -- no report that isn't answered so wins a result
 tells_leave :

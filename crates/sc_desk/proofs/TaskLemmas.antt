@@ -183,6 +183,7 @@ givable job c after exec says.Bogus numbered sound h = absurd h
 givable job c after exec says.Finished numbered sound h = absurd h
 givable job c after exec says.Again numbered sound h = absurd h
 givable job c after exec says.Resubmitted numbered sound h = absurd h
+givable job c after exec (says.Side said) numbered sound h = absurd h
 givable job c after exec says.Shelved numbered sound h = absurd h
 givable job c after exec says.Told numbered sound h = absurd h
 

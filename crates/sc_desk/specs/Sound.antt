@@ -24,7 +24,7 @@ use Rattle.sc_core.specs.declared.answers.Answer.{Answer}
 use Rattle.sc_core.specs.declared.answers.Answer.TheVariants as says
 use Rattle.sc_core.specs.declared.entries.Entry.{Entry}
 use Rattle.sc_core.specs.declared.events.Event.{Event}
-use Rattle.sc_core.specs.declared.events.Event.TheVariants.{Post, Release, Take, TellLost}
+use Rattle.sc_core.specs.declared.events.Event.TheVariants.{Post, Release}
 use Rattle.sc_core.specs.declared.events.Outcome.{Outcome}
 use Rattle.sc_core.specs.declared.events.Outcome.TheVariants as outcomes
 use Rattle.sc_jobs.specs.Fitting.{FitsWork}
@@ -87,12 +87,11 @@ EndedFor work job told a (outcomes.Failed cause) = FailedFor work job told a cau
 -- what happens in a state has its evidence: a report that is posted, and not ignored, is true of
 -- its attempt, and so is one that is told late
 abbrev pub IsEvident : WorkData → JobData → CoreData → Event → Answer → Type 0
-IsEvident work job c (Take exec) answer = Unit {0}
 IsEvident work job c (Post a outcome) answer =
     answer ≢ says.Ignored → EndedFor work job c.told a outcome
 IsEvident work job c (Release key) answer =
     IfSome (shelved_of c key) (λ s. EndedFor work job c.told s.attempt s.outcome)
-IsEvident work job c (TellLost exec) answer = Unit {0}
+IsEvident work job c event answer = Unit {0}
 
 -- each entry of a journal has its evidence, by the state before it
 abbrev pub AreEvident : (work : WorkData) (job : JobData) (c : CoreData) (entries : List Entry)

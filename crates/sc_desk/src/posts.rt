@@ -229,6 +229,7 @@ fn is_finished(answer: &Answer) -> bool
         Answer::Stopped { .. } | Answer::Ended | Answer::Aborted(_) => false,
         Answer::Ignored | Answer::Repeated | Answer::Registered | Answer::Bogus => false,
         Answer::Again | Answer::Resubmitted | Answer::Shelved | Answer::Told => false,
+        Answer::Side(_) => false,
     }
 }
 

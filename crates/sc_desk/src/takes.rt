@@ -99,6 +99,6 @@ fn told<W: Naming>(work: SharedWork<W>, job: Job<W>, answer: Answer) -> Taken<W>
         Answer::Aborted(why) => Taken::Aborted(why),
         Answer::Ignored | Answer::Repeated | Answer::Registered => unreachable!(),
         Answer::Bogus | Answer::Finished | Answer::Again | Answer::Resubmitted => unreachable!(),
-        Answer::Shelved | Answer::Told => unreachable!(),
+        Answer::Shelved | Answer::Told | Answer::Side(_) => unreachable!(),
     }
 }

@@ -22,11 +22,13 @@ use Rattle.sc_core.specs.declared.answers.Answer.TheVariants as says
 use Rattle.sc_core.specs.declared.answers.Job.TheVariants as jobs
 use Rattle.sc_core.specs.declared.entries.Entry.{Entry}
 use Rattle.sc_core.specs.declared.events.Event.{Event}
-use Rattle.sc_core.specs.declared.events.Event.TheVariants.{Post, Release, Take, TellLost}
+use Rattle.sc_core.specs.declared.events.Event.TheVariants.{Post, Release, Side, Take, TellLost}
 use Rattle.sc_core.proofs.LeftLemmas.{Left, released_left, tells_left}
 use Rattle.sc_history.specs.Budgets.{BudgetsAreShown, HandOutsAreCounted, LimitsStay, gives_task, is_hand_out}
-use Rattle.sc_history.proofs.Events.{Comes, IsLoss, losses_come, posts_come, releases_come}
+use Rattle.sc_history.proofs.Events.{Comes, IsLoss, losses_come, posts_come, releases_come, sides_come}
 use Rattle.sc_history.proofs.JobLemmas.{EndsBy, tells_ends}
+use Rattle.sc_core.specs.Owners.{has_task}
+use Rattle.sc_core.proofs.TakeCases.{TakesSo, takes_so}
 
 -- a job that was aborted by its budget has handed out all that it may
 abbrev IsSpent : CoreData → Type 0
@@ -48,37 +50,29 @@ unchanged c after is =
 
 takes_count : (c after : CoreData) (exec : ℕ) (answer : Answer) → Takes c exec answer after
     → Counts c after (gives_task (Take exec) answer)
-takes_count c after exec (says.Task h) (asking, out, below, is) =
-    subst (λ x. Counts c x true) (sym is)
-    (record {
-      handed = refl;
-      limits = refl;
-      within = λ le. omega (arith, below);
-      spent = λ spent e. absurd (running asking.runs e);
-    })
+takes_count c after exec answer h = by (takes_so c after exec answer h)
   where
     running : job_runs c ≡ true → c.job ≡ jobs.Aborted aborts.Budget → ⊥
     running runs e = search (rules, runs, e)
-takes_count c after exec (says.Wait out) (asking, none, way, is) = unchanged c after is
-takes_count c after exec (says.Busy held) (runs, stays, live, has, is) = unchanged c after is
-takes_count c after exec says.Lost (runs, stays, lost, is) = unchanged c after is
-takes_count c after exec (says.Stopped first) (runs, left, is) = unchanged c after is
-takes_count c after exec says.Ended (runs, is) = unchanged c after is
-takes_count c after exec (says.Aborted aborts.Budget) (a, asking, offer, le, is) =
-    subst (λ x. Counts c x false) (sym is)
-    (record { handed = omega arith; limits = refl; within = λ h. h; spent = λ spent e. le })
-takes_count c after exec (says.Aborted (aborts.TaskLimit s n p)) h = absurd h
-takes_count c after exec (says.Aborted (aborts.StageLimit s)) h = absurd h
-takes_count c after exec (says.Aborted aborts.NoExecutor) h = absurd h
-takes_count c after exec says.Ignored h = absurd h
-takes_count c after exec says.Shelved h = absurd h
-takes_count c after exec says.Told h = absurd h
-takes_count c after exec says.Repeated h = absurd h
-takes_count c after exec says.Registered h = absurd h
-takes_count c after exec says.Bogus h = absurd h
-takes_count c after exec says.Finished h = absurd h
-takes_count c after exec says.Again h = absurd h
-takes_count c after exec says.Resubmitted h = absurd h
+
+    gives : (b : Bool) → has_task answer ≡ b → Counts c after b → Counts c after (has_task answer)
+    gives b e counts = subst (Counts c after) (sym e) counts
+
+    by : TakesSo c after exec answer → Counts c after (has_task answer)
+    by (inl t) =
+        gives true (ap has_task t.told)
+        (subst (λ x. Counts c x true) (sym t.is)
+        (record {
+          handed = refl;
+          limits = refl;
+          within = λ le. (let below = t.below in omega (arith, below));
+          spent = λ spent e. absurd (running t.asking.runs e);
+        }))
+    by (inr (inl b)) =
+        gives false (ap has_task b.told)
+        (subst (λ x. Counts c x false) (sym b.is)
+        (record { handed = omega arith; limits = refl; within = λ h. h; spent = λ spent e. b.most }))
+    by (inr (inr same)) = gives false same.plain (unchanged c after same.is)
 
 -- ---- reports
 
@@ -150,6 +144,8 @@ steps_count c after (Post a outcome) answer step =
     comes_count c after (Post a outcome) answer (posts_come c after a outcome answer step)
 steps_count c after (Release key) answer step =
     comes_count c after (Release key) answer (releases_come c after key answer step)
+steps_count c after (Side event) answer step =
+    comes_count c after (Side event) answer (sides_come c after event answer step)
 steps_count c after (TellLost exec) answer step = losses_count c after exec answer step
 
 -- ---- journals

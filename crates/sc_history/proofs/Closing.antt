@@ -27,11 +27,13 @@ use Rattle.sc_core.specs.declared.answers.Answer.{Answer}
 use Rattle.sc_core.specs.declared.answers.Answer.TheVariants as says
 use Rattle.sc_core.specs.declared.answers.Job.TheVariants as jobs
 use Rattle.sc_core.specs.declared.events.Event.{Event}
-use Rattle.sc_core.specs.declared.events.Event.TheVariants.{Post, Release, Take, TellLost}
+use Rattle.sc_core.specs.declared.events.Event.TheVariants.{Post, Release, Side, Take, TellLost}
 use Rattle.sc_core.specs.declared.events.Outcome.{Outcome}
 use Rattle.sc_core.specs.declared.events.Outcome.TheVariants as outcomes
 use Rattle.sc_core.specs.declared.running.Running.{Running}
-use Rattle.sc_history.proofs.Events.{Comes, losses_come, posts_come, releases_come}
+use Rattle.sc_history.proofs.Events.{Comes, losses_come, posts_come, releases_come, sides_come}
+use Rattle.sc_core.proofs.SideCases.{ended_aside}
+use Rattle.sc_core.proofs.TakeCases.{TakesSo, takes_so}
 
 -- a stage isn't complete, and failed as often as is allowed
 pub record IsClosed (d : DagData) (s : ℕ) : Type 0 where
@@ -145,31 +147,15 @@ tells_close c after r (outcomes.Failed cause) answer runs h =
 -- once a job has ended nothing changes
 pub ended_stays : (c after : CoreData) (event : Event) (answer : Answer) → job_runs c ≡ false
     → Steps c event answer after → after ≡ c
-ended_stays c after (Take exec) answer ended step = by answer step
+ended_stays c after (Take exec) answer ended step = by (takes_so c after exec answer step)
   where
     never : job_runs c ≡ true → after ≡ c
     never runs = absurd (search (rules, runs, ended))
 
-    by : (answer : Answer) → Takes c exec answer after → after ≡ c
-    by (says.Task h) (asking, out, below, is) = never asking.runs
-    by (says.Wait out) (asking, none, way, is) = is
-    by (says.Busy held) (runs, stays, live, has, is) = is
-    by says.Lost (runs, stays, lost, is) = is
-    by (says.Stopped first) (runs, left, is) = is
-    by says.Ended (runs, is) = is
-    by (says.Aborted aborts.Budget) (a, asking, offer, le, is) = never asking.runs
-    by (says.Aborted (aborts.TaskLimit s n p)) k = absurd k
-    by (says.Aborted (aborts.StageLimit s)) k = absurd k
-    by (says.Aborted aborts.NoExecutor) k = absurd k
-    by says.Ignored k = absurd k
-    by says.Shelved k = absurd k
-    by says.Told k = absurd k
-    by says.Repeated k = absurd k
-    by says.Registered k = absurd k
-    by says.Bogus k = absurd k
-    by says.Finished k = absurd k
-    by says.Again k = absurd k
-    by says.Resubmitted k = absurd k
+    by : TakesSo c after exec answer → after ≡ c
+    by (inl t) = never t.asking.runs
+    by (inr (inl b)) = never b.asking.runs
+    by (inr (inr same)) = same.is
 ended_stays c after (Post a outcome) answer ended step = by (job_runs c) ended step
   where
     by : (b : Bool) → b ≡ false → PostsIf b c a outcome answer after → after ≡ c
@@ -180,6 +166,7 @@ ended_stays c after (Release key) answer ended step = by (job_runs c) ended step
     by : (b : Bool) → b ≡ false → ReleasesIf b c key answer after → after ≡ c
     by false e (told, is) = is
     by true e h = absurd (search (rules, e))
+ended_stays c after (Side event) answer ended step = ended_aside c after event answer ended step
 ended_stays c after (TellLost exec) answer ended step =
     absurd (clash (losses_come c after exec answer step).runs ended)
 
@@ -191,37 +178,19 @@ comes_close c after event answer runs (inr h) =
 
 running_closes : (c after : CoreData) (event : Event) (answer : Answer) → job_runs c ≡ true
     → Steps c event answer after → HasClosed after
-running_closes c after (Take exec) answer runs step = by answer step
+running_closes c after (Take exec) answer runs step = by (takes_so c after exec answer step)
   where
-    same : after ≡ c → HasClosed after
-    same is = runs_on c after runs (ap (λ (x : CoreData). x.job) is)
-
-    by : (answer : Answer) → Takes c exec answer after → HasClosed after
-    by (says.Task h) (asking, out, below, is) =
-        runs_on c after runs (ap (λ (x : CoreData). x.job) is)
-    by (says.Wait out) (asking, none, way, is) = same is
-    by (says.Busy held) (yes_runs, stays, live, has, is) = same is
-    by says.Lost (yes_runs, stays, lost, is) = same is
-    by (says.Stopped first) (yes_runs, left, is) = same is
-    by says.Ended (no_runs, is) = same is
-    by (says.Aborted aborts.Budget) (a, asking, offer, le, is) =
-        λ s j. absurd (let job = ap (λ (x : CoreData). x.job) is in search (rules, job, j))
-    by (says.Aborted (aborts.TaskLimit s n p)) k = absurd k
-    by (says.Aborted (aborts.StageLimit s)) k = absurd k
-    by (says.Aborted aborts.NoExecutor) k = absurd k
-    by says.Ignored k = absurd k
-    by says.Shelved k = absurd k
-    by says.Told k = absurd k
-    by says.Repeated k = absurd k
-    by says.Registered k = absurd k
-    by says.Bogus k = absurd k
-    by says.Finished k = absurd k
-    by says.Again k = absurd k
-    by says.Resubmitted k = absurd k
+    by : TakesSo c after exec answer → HasClosed after
+    by (inl t) = runs_on c after runs (ap (λ (x : CoreData). x.job) t.is)
+    by (inr (inl b)) =
+        λ s j. absurd (let job = ap (λ (x : CoreData). x.job) b.is in search (rules, job, j))
+    by (inr (inr same)) = runs_on c after runs (ap (λ (x : CoreData). x.job) same.is)
 running_closes c after (Post a outcome) answer runs step =
     comes_close c after (Post a outcome) answer runs (posts_come c after a outcome answer step)
 running_closes c after (Release key) answer runs step =
     comes_close c after (Release key) answer runs (releases_come c after key answer step)
+running_closes c after (Side event) answer runs step =
+    comes_close c after (Side event) answer runs (sides_come c after event answer step)
 running_closes c after (TellLost exec) answer runs step =
     by (losses_come c after exec answer step).job
   where

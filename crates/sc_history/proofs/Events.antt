@@ -19,7 +19,7 @@ use Rattle.sc_core.specs.declared.answers.Answer.{Answer}
 use Rattle.sc_core.specs.declared.answers.Answer.TheVariants as says
 use Rattle.sc_core.specs.declared.answers.Job.TheVariants as jobs
 use Rattle.sc_core.specs.declared.events.Event.{Event}
-use Rattle.sc_core.specs.declared.events.Event.TheVariants.{Post, Release}
+use Rattle.sc_core.specs.declared.events.Event.TheVariants.{Post, Release, Side}
 use Rattle.sc_core.specs.declared.events.Outcome.{Outcome}
 use Rattle.sc_core.specs.declared.running.Running.{Running}
 use Rattle.sc_core.specs.declared.running.Shelved.{Shelved}
@@ -27,6 +27,9 @@ use Rattle.sc_core.proofs.ShelfLemmas.{awaits_it, find_in, fits_in}
 use Rattle.sc_core.proofs.StepLemmas.{posted}
 use Rattle.sc_history.specs.Results.{is_finish}
 use Rattle.sc_history.specs.Tellings.{is_heard, telling, tellings_in, told_late}
+use Rattle.sc_core.specs.Sides.{StepsAside}
+use Rattle.sc_core.specs.declared.events.SideEvent.{SideEvent}
+use Rattle.sc_core.proofs.SideLemmas.{steps_aside}
 
 -- ---- reports
 
@@ -209,6 +212,19 @@ releases_come c after key answer step = by (job_runs c) refl step
         → Comes c after (Release key) answer
     by false runs (told, is) = inl (quiet c after c answer _ refl refl refl refl refl told is)
     by true runs h = of (shelved_of c key) refl runs h
+
+-- what happens beside the reports is no report that is heard
+pub sides_come : (c after : CoreData) (event : SideEvent) (answer : Answer)
+    → StepsAside c event answer after → Comes c after (Side event) answer
+sides_come c after event answer step =
+    let is = steps_aside c after event answer step in
+    inl (record {
+      dag = is.dag;
+      job = is.job;
+      handed = is.handed;
+      unheard = ap is_heard step.1;
+      unfinished = ap is_finish step.1;
+    })
 
 -- ---- losses
 

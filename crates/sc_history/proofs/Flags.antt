@@ -26,13 +26,13 @@ use Rattle.sc_core.specs.Steps.{Steps}
 use Rattle.sc_core.specs.Tells.{FailsBy, FailsOrAborts, IsGone, Misses, MissesIf, Tells, TellsFailureIf, after_failure, is_zombie_in}
 use Rattle.sc_core.specs.declared.answers.Answer.{Answer}
 use Rattle.sc_core.specs.declared.events.Event.{Event}
-use Rattle.sc_core.specs.declared.events.Event.TheVariants.{Post, Release, Take, TellLost}
+use Rattle.sc_core.specs.declared.events.Event.TheVariants.{Post, Release, Side, Take, TellLost}
 use Rattle.sc_core.specs.declared.events.Outcome.{Outcome}
 use Rattle.sc_core.specs.declared.events.Outcome.TheVariants as outcomes
 use Rattle.sc_core.specs.declared.running.Running.{Running}
 use Rattle.sc_history.specs.StageEvidence.{is_miss_of, number_of}
 use Rattle.sc_history.specs.Tellings.{Telling, is_heard, telling, tellings_in}
-use Rattle.sc_history.proofs.Events.{Comes, posts_come, releases_come}
+use Rattle.sc_history.proofs.Events.{Comes, posts_come, releases_come, sides_come}
 use Rattle.sc_history.proofs.Growing.{IsCalm, Slot, attempt_among, dag_submitted, numbered_slot}
 use Rattle.sc_history.proofs.GrowingCalls.{Grows, failed_grows, losses_grow, maps_grow, results_grow, takes_grow}
 use Rattle.sc_history.proofs.Picking.{is_there}
@@ -302,6 +302,8 @@ steps_flag c after (Post a outcome) answer sound step s k e =
     e
 steps_flag c after (Release key) answer sound step s k e =
     comes_flag c after (Release key) answer sound (releases_come c after key answer step) s k e
+steps_flag c after (Side event) answer sound step s k e =
+    comes_flag c after (Side event) answer sound (sides_come c after event answer step) s k e
 steps_flag c after (TellLost exec) answer sound step s k e =
     inl (flags_fewer c.dag after.dag s k
     (losses_grow FewerFlags NoFlag c.dag.limits (flags_calm c.dag.limits) c after exec answer step)

@@ -32,7 +32,7 @@ use Rattle.sc_core.specs.declared.answers.Answer.{Answer}
 use Rattle.sc_core.specs.declared.answers.Answer.TheVariants as says
 use Rattle.sc_core.specs.declared.entries.Entry.{Entry}
 use Rattle.sc_core.specs.declared.events.Event.{Event}
-use Rattle.sc_core.specs.declared.events.Event.TheVariants.{Post, Release, Take, TellLost}
+use Rattle.sc_core.specs.declared.events.Event.TheVariants.{Post, Release, Side, Take, TellLost}
 use Rattle.sc_core.proofs.LawLemmas.{steps_keep_sound}
 use Rattle.sc_core.proofs.ShelfLemmas.{find_mapped}
 use Rattle.sc_core.proofs.LookupLemmas.{set_among, set_holds, set_of_newest}
@@ -325,6 +325,7 @@ fresh_kept entries e c after h step = by e.event refl step
         by says.Bogus z k = none (gives says.Bogus z)
         by says.Finished z k = none (gives says.Finished z)
         by says.Again z k = none (gives says.Again z)
+        by (says.Side said) z k = none (gives (says.Side said) z)
         by says.Resubmitted z k = none (gives says.Resubmitted z)
 
     by : (event : Event) → e.event ≡ event → Steps c event e.answer after
@@ -332,6 +333,8 @@ fresh_kept entries e c after h step = by e.event refl step
     by (Post a outcome) x s =
         none_given entries e c after h step (ap (λ v. given_by v e.answer) x)
     by (Release key) x s =
+        none_given entries e c after h step (ap (λ v. given_by v e.answer) x)
+    by (Side event) x s =
         none_given entries e c after h step (ap (λ v. given_by v e.answer) x)
     by (TellLost exec) x s =
         none_given entries e c after h step (ap (λ v. given_by v e.answer) x)

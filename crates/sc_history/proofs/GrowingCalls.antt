@@ -1,5 +1,5 @@
 -- What reports do to each attempt of each stage, for any relation that calls keep.
-use Rattle.std.proofs.Common.{◌≡◌, inl, inr, ℕ, ◌-◌, ◌&&◌, not, Bool, true, false, if◌then◌else◌, List, [], ◌∷◌, length, Option, Some, None, option_map, slice_get, refl, ap, subst, sym, ◌∙◌}
+use Rattle.std.proofs.Common.{◌≡◌, inl, inr, ℕ, ◌-◌, ◌&&◌, not, Bool, true, false, if◌then◌else◌, List, [], ◌∷◌, length, Option, Some, None, option_map, slice_get, refl, ap, subst, sym, ◌∙◌, ◌⊎◌}
 use Rattle.std.proofs.lemmas.Option.{slice_get-map}
 use Rattle.sc_ids.specs.declared.attempts.AttemptId.{AttemptId}
 use Rattle.sc_ids.specs.declared.blocks.Loc.{Loc}
@@ -35,13 +35,14 @@ use Rattle.sc_core.specs.declared.answers.Abort.TheVariants as aborts
 use Rattle.sc_core.specs.declared.answers.Answer.{Answer}
 use Rattle.sc_core.specs.declared.answers.Answer.TheVariants as says
 use Rattle.sc_core.specs.declared.events.Event.{Event}
-use Rattle.sc_core.specs.declared.events.Event.TheVariants.{Post, Release, Take, TellLost}
+use Rattle.sc_core.specs.declared.events.Event.TheVariants.{Post, Release, Side, Take, TellLost}
 use Rattle.sc_core.specs.declared.events.Outcome.{Outcome}
 use Rattle.sc_core.specs.declared.events.Outcome.TheVariants as outcomes
 use Rattle.sc_core.specs.declared.running.Running.{Running}
 use Rattle.sc_core.proofs.TaskCallLemmas.{map_moves}
-use Rattle.sc_history.proofs.Events.{Comes, losses_come, posts_come, releases_come}
+use Rattle.sc_history.proofs.Events.{Comes, losses_come, posts_come, releases_come, sides_come}
 use Rattle.sc_history.proofs.Growing.{GrownDag, GrownIn, IsCalm, dag_is, dag_same, dag_submitted, dag_then, dag_with, grown_map, grown_same, state_with}
+use Rattle.sc_core.proofs.TakeCases.{TakesSo, takes_so}
 
 -- the attempts of all stages of a job
 abbrev pub Grows : (StageAttempt → StageAttempt → Type 0) → (StageAttempt → Type 0) → DagData
@@ -388,37 +389,18 @@ pub takes_grow : (A : StageAttempt → StageAttempt → Type 0) (New : StageAtte
     (L : Limits) → IsCalm A New L
     → (c after : CoreData) (exec : ℕ) (answer : Answer) → Takes c exec answer after
     → Grows A New c.dag after.dag
-takes_grow A New L calm c after exec answer h = by answer h
+takes_grow A New L calm c after exec answer h = by (takes_so c after exec answer h)
   where
-    same : after ≡ c → Grows A New c.dag after.dag
-    same is =
-        subst (λ (x : CoreData). Grows A New c.dag x.dag) (sym is)
+    by : TakesSo c after exec answer → Grows A New c.dag after.dag
+    by (inl t) =
+        subst (λ (x : CoreData). Grows A New c.dag x.dag) (sym t.is)
+        (handed_grows A New L calm c.dag t.task.attempt exec c.now)
+    by (inr (inl b)) =
+        subst (λ (x : CoreData). Grows A New c.dag x.dag) (sym b.is)
         (dag_same A New L calm c.dag.states)
-
-    by : (answer : Answer) → Takes c exec answer after → Grows A New c.dag after.dag
-    by (says.Task h) (asking, out, below, is) =
-        subst (λ (x : CoreData). Grows A New c.dag x.dag) (sym is)
-        (handed_grows A New L calm c.dag h.attempt exec c.now)
-    by (says.Wait out) (asking, none, way, is) = same is
-    by (says.Busy held) (runs, stays, live, has, is) = same is
-    by says.Lost (runs, stays, lost, is) = same is
-    by (says.Stopped first) (runs, left, is) = same is
-    by says.Ended (runs, is) = same is
-    by (says.Aborted aborts.Budget) (a, asking, offer, le, is) =
-        subst (λ (x : CoreData). Grows A New c.dag x.dag) (sym is)
+    by (inr (inr same)) =
+        subst (λ (x : CoreData). Grows A New c.dag x.dag) (sym same.is)
         (dag_same A New L calm c.dag.states)
-    by (says.Aborted (aborts.TaskLimit s n p)) k = absurd k
-    by (says.Aborted (aborts.StageLimit s)) k = absurd k
-    by (says.Aborted aborts.NoExecutor) k = absurd k
-    by says.Ignored k = absurd k
-    by says.Shelved k = absurd k
-    by says.Told k = absurd k
-    by says.Repeated k = absurd k
-    by says.Registered k = absurd k
-    by says.Bogus k = absurd k
-    by says.Finished k = absurd k
-    by says.Again k = absurd k
-    by says.Resubmitted k = absurd k
 
 -- ---- losses
 
@@ -487,5 +469,8 @@ steps_grow A New L calm marks fails c after (Post a outcome) answer same step =
 steps_grow A New L calm marks fails c after (Release key) answer same step =
     comes_grow A New L calm marks fails c after (Release key) answer same
     (releases_come c after key answer step)
+steps_grow A New L calm marks fails c after (Side event) answer same step =
+    comes_grow A New L calm marks fails c after (Side event) answer same
+    (sides_come c after event answer step)
 steps_grow A New L calm marks fails c after (TellLost exec) answer same step =
     losses_grow A New L calm c after exec answer step

@@ -1,5 +1,5 @@
 -- A job that is aborted for want of executors has lost each of them.
-use Rattle.std.proofs.Common.{◌≡◌, inl, inr, ℕ, Bool, true, false, List, [], ◌∷◌, refl, ap, sym, subst, ◌∙◌, rules}
+use Rattle.std.proofs.Common.{◌≡◌, inl, inr, ℕ, Bool, true, false, List, [], ◌∷◌, refl, ap, sym, subst, ◌∙◌, rules, ◌⊎◌}
 use Rattle.sc_ids.specs.declared.attempts.AttemptId.{AttemptId}
 use Rattle.sc_tracker.specs.Trust.{are_lost}
 use Rattle.sc_dag.specs.DagData.{DagData}
@@ -16,10 +16,11 @@ use Rattle.sc_core.specs.declared.answers.Answer.TheVariants as says
 use Rattle.sc_core.specs.declared.answers.Job.TheVariants as jobs
 use Rattle.sc_core.specs.declared.entries.Entry.{Entry}
 use Rattle.sc_core.specs.declared.events.Event.{Event}
-use Rattle.sc_core.specs.declared.events.Event.TheVariants.{Post, Release, Take, TellLost}
+use Rattle.sc_core.specs.declared.events.Event.TheVariants.{Post, Release, Side, Take, TellLost}
 use Rattle.sc_history.specs.Losses.{NoExecutorsAreShown}
-use Rattle.sc_history.proofs.Events.{Comes, all_job, posts_come, releases_come}
+use Rattle.sc_history.proofs.Events.{Comes, all_job, posts_come, releases_come, sides_come}
 use Rattle.sc_history.proofs.JobLemmas.{EndsBy, tells_ends}
+use Rattle.sc_core.proofs.TakeCases.{TakesSo, takes_so}
 
 -- a job that was aborted for want of executors has none left
 abbrev HasLost : CoreData → Type 0
@@ -33,33 +34,14 @@ not_running c runs e = search (rules, runs, e)
 
 takes_lost : (c after : CoreData) (exec : ℕ) (answer : Answer) → Takes c exec answer after
     → HasLost c → HasLost after
-takes_lost c after exec answer h lost = by answer h
+takes_lost c after exec answer h lost = by (takes_so c after exec answer h)
   where
-    same : after ≡ c → HasLost after
-    same is = subst (λ x. HasLost x) (sym is) lost
-
-    by : (answer : Answer) → Takes c exec answer after → HasLost after
-    by (says.Task h) (asking, out, below, is) =
-        λ e. absurd (not_running c asking.runs (ap (λ (x : CoreData). x.job) (sym is) ∙ e))
-    by (says.Wait out) (asking, none, way, is) = same is
-    by (says.Busy held) (runs, stays, live, has, is) = same is
-    by says.Lost (runs, stays, gone, is) = same is
-    by (says.Stopped first) (runs, left, is) = same is
-    by says.Ended (runs, is) = same is
-    by (says.Aborted aborts.Budget) (a, asking, offer, le, is) =
-        λ e. absurd (let j = ap (λ (x : CoreData). x.job) is in search (rules, j, e))
-    by (says.Aborted (aborts.TaskLimit s n p)) k = absurd k
-    by (says.Aborted (aborts.StageLimit s)) k = absurd k
-    by (says.Aborted aborts.NoExecutor) k = absurd k
-    by says.Ignored k = absurd k
-    by says.Shelved k = absurd k
-    by says.Told k = absurd k
-    by says.Repeated k = absurd k
-    by says.Registered k = absurd k
-    by says.Bogus k = absurd k
-    by says.Finished k = absurd k
-    by says.Again k = absurd k
-    by says.Resubmitted k = absurd k
+    by : TakesSo c after exec answer → HasLost after
+    by (inl t) =
+        λ e. absurd (not_running c t.asking.runs (ap (λ (x : CoreData). x.job) (sym t.is) ∙ e))
+    by (inr (inl b)) =
+        λ e. absurd (let j = ap (λ (x : CoreData). x.job) b.is in search (rules, j, e))
+    by (inr (inr same)) = subst (λ x. HasLost x) (sym same.is) lost
 
 -- ---- reports
 
@@ -110,6 +92,8 @@ steps_lost c after (Post a outcome) answer step lost =
     comes_lost c after (Post a outcome) answer (posts_come c after a outcome answer step) lost
 steps_lost c after (Release key) answer step lost =
     comes_lost c after (Release key) answer (releases_come c after key answer step) lost
+steps_lost c after (Side event) answer step lost =
+    comes_lost c after (Side event) answer (sides_come c after event answer step) lost
 steps_lost c after (TellLost exec) answer step lost = losses_lost c after exec answer step
 
 -- ---- journals

@@ -1,5 +1,5 @@
 -- Each report that is heard was posted.
-use Rattle.std.proofs.Common.{◌≡◌, ℕ, Bool, true, false, not, List, [], ◌∷◌, ◌++◌, All, Contains, Option, Some, None, refl, ap, sym, subst, ◌∙◌, append_assoc, true≢false}
+use Rattle.std.proofs.Common.{◌≡◌, ℕ, Bool, true, false, not, List, [], ◌∷◌, ◌++◌, All, Contains, Option, Some, None, refl, ap, sym, subst, ◌∙◌, append_assoc, true≢false, ◌⊎◌, inl, inr}
 use Rattle.std.proofs.lemmas.List.Elements.{All-append, All-cons, All-filter, All-nil, All-push, All-weaker, Contains-append_left, Contains-push}
 use Rattle.sc_ids.specs.declared.attempts.AttemptId.{AttemptId}
 use Rattle.sc_commit.specs.declared.committers.Ending.TheVariants as endings
@@ -20,12 +20,15 @@ use Rattle.sc_core.specs.declared.answers.Answer.{Answer}
 use Rattle.sc_core.specs.declared.answers.Answer.TheVariants as says
 use Rattle.sc_core.specs.declared.entries.Entry.{Entry}
 use Rattle.sc_core.specs.declared.events.Event.{Event}
-use Rattle.sc_core.specs.declared.events.Event.TheVariants.{Post, Release, Take, TellLost}
+use Rattle.sc_core.specs.declared.events.Event.TheVariants.{Post, Release, Side, Take, TellLost}
 use Rattle.sc_core.specs.declared.events.Outcome.{Outcome}
 use Rattle.sc_core.specs.declared.running.Running.{Running}
 use Rattle.sc_core.specs.declared.running.Shelved.{Shelved}
 use Rattle.sc_core.proofs.LeftLemmas.{tells_left}
 use Rattle.sc_history.specs.Tellings.{IsPosted, ReportsArePosted, Telling, is_heard, telling, tellings, tellings_in, told_late}
+use Rattle.sc_core.specs.CoreData.{is_running_job}
+use Rattle.sc_core.proofs.SideLemmas.{steps_aside}
+use Rattle.sc_core.proofs.TakeCases.{TakesSo, takes_so}
 
 -- ---- what is to be told later
 
@@ -50,32 +53,12 @@ tells_shelf P c after (Some r) a outcome answer all tells =
 takes_shelf :
     (P : Shelved → Type 0) (c after : CoreData) (exec : ℕ) (answer : Answer)
     → Takes c exec answer after → OfShelf P c → OfShelf P after
-takes_shelf P c after exec answer h all = by answer h
+takes_shelf P c after exec answer h all = by (takes_so c after exec answer h)
   where
-    same : after ≡ c → OfShelf P after
-    same is = subst (λ x. OfShelf P x) (sym is) all
-
-    by : (answer : Answer) → Takes c exec answer after → OfShelf P after
-    by (says.Task h) (asking, out, below, is) = subst (λ x. OfShelf P x) (sym is) all
-    by (says.Wait out) (asking, none, way, is) = same is
-    by (says.Busy held) (runs, stays, live, has, is) = same is
-    by says.Lost (runs, stays, lost, is) = same is
-    by (says.Stopped first) (runs, left, is) = same is
-    by says.Ended (runs, is) = same is
-    by (says.Aborted aborts.Budget) (a, asking, offer, le, is) =
-        λ runs. absurd (true≢false (sym runs ∙ ap job_runs is))
-    by (says.Aborted (aborts.TaskLimit s n p)) k = absurd k
-    by (says.Aborted (aborts.StageLimit s)) k = absurd k
-    by (says.Aborted aborts.NoExecutor) k = absurd k
-    by says.Ignored k = absurd k
-    by says.Shelved k = absurd k
-    by says.Told k = absurd k
-    by says.Repeated k = absurd k
-    by says.Registered k = absurd k
-    by says.Bogus k = absurd k
-    by says.Finished k = absurd k
-    by says.Again k = absurd k
-    by says.Resubmitted k = absurd k
+    by : TakesSo c after exec answer → OfShelf P after
+    by (inl t) = subst (λ x. OfShelf P x) (sym t.is) all
+    by (inr (inl b)) = λ runs. absurd (true≢false (sym runs ∙ ap job_runs b.is))
+    by (inr (inr same)) = subst (λ x. OfShelf P x) (sym same.is) all
 
 posts_shelf :
     (P : Shelved → Type 0) (c after : CoreData) (a : AttemptId) (outcome : Outcome)
@@ -140,6 +123,10 @@ steps_shelf P c after (Post a outcome) answer step all new =
     posts_shelf P c after a outcome answer step all new
 steps_shelf P c after (Release key) answer step all new =
     releases_shelf P c after key answer step all
+steps_shelf P c after (Side event) answer step all new =
+    let is = steps_aside c after event answer step in
+    λ runs. subst (λ shelf. All P shelf) (sym is.shelf)
+    (all (ap is_running_job (sym is.job) ∙ runs))
 steps_shelf P c after (TellLost exec) answer (may, step) all new =
     by (are_lost next.dag.tracker.trust) step
   where
@@ -215,6 +202,7 @@ entry_told before c after e all step = by e.event refl step
         All-cons (IfHeard new) (telling a outcome e.answer) []
         (λ heard. (e, Contains-push before e, is)) (All-nil (IfHeard new))
     by (Release key) is h = late key (shelved_of c key) refl h
+    by (Side event) is h = All-nil (IfHeard new)
     by (TellLost exec) is h = All-nil (IfHeard new)
 
 posted_along : (before : List Entry) (c : CoreData) → OfShelf (WasPosted before) c

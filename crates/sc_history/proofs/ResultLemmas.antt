@@ -36,7 +36,7 @@ use Rattle.sc_core.specs.declared.answers.Abort.TheVariants as aborts
 use Rattle.sc_core.specs.declared.answers.Answer.{Answer}
 use Rattle.sc_core.specs.declared.answers.Answer.TheVariants as says
 use Rattle.sc_core.specs.declared.events.Event.{Event}
-use Rattle.sc_core.specs.declared.events.Event.TheVariants.{Post, Release, Take, TellLost}
+use Rattle.sc_core.specs.declared.events.Event.TheVariants.{Post, Release, Side, Take, TellLost}
 use Rattle.sc_core.specs.declared.events.Outcome.{Outcome}
 use Rattle.sc_core.specs.declared.events.Outcome.TheVariants as outcomes
 use Rattle.sc_core.specs.declared.running.Running.{Running}
@@ -49,9 +49,10 @@ use Rattle.sc_core.proofs.LossLemmas.{lost_results}
 use Rattle.sc_core.proofs.TaskCallLemmas.{ended_results}
 use Rattle.sc_history.specs.Results.{ResultsAreOnce, finishes, is_finish, times_finished}
 use Rattle.sc_history.specs.Tellings.{Telling, telling, tellings, tellings_in, told_late}
-use Rattle.sc_history.proofs.Events.{Comes, losses_come, posts_come, releases_come}
+use Rattle.sc_history.proofs.Events.{Comes, losses_come, posts_come, releases_come, sides_come}
 use Rattle.sc_history.proofs.Journals.{tellings_induct}
 use Rattle.sc_history.proofs.ResultCalls.{GivesNone, failures_give_none, freed_repeat, freed_results, maps_give_none, results_of, won_others, won_results}
+use Rattle.sc_core.proofs.TakeCases.{TakesSo, takes_so}
 
 abbrev one_if : Bool → ℕ
 one_if b = cond b 1 0
@@ -237,35 +238,15 @@ result_counts m after r answer sound runs kind (told, is) = by (is_repeat m.dag 
 
 takes_count : (c after : CoreData) (exec : ℕ) (answer : Answer) → Takes c exec answer after
     → SameResults c.dag after.dag
-takes_count c after exec answer h = by answer h
+takes_count c after exec answer h = by (takes_so c after exec answer h)
   where
-    same : after ≡ c → SameResults c.dag after.dag
-    same is s = ap (λ (x : CoreData). results_of x.dag s) is
-
-    by : (answer : Answer) → Takes c exec answer after → SameResults c.dag after.dag
-    by (says.Task t) (asking, out, below, is) =
-        λ s. ap (λ (x : CoreData). results_of x.dag s) is
-        ∙ state_results c.dag t.attempt.stage
-        (changed_newest (λ set. handed set t.attempt.partition exec c.now)) (λ state. refl) s
-    by (says.Wait out) (asking, none, way, is) = same is
-    by (says.Busy held) (runs, stays, live, has, is) = same is
-    by says.Lost (runs, stays, lost, is) = same is
-    by (says.Stopped first) (runs, left, is) = same is
-    by says.Ended (runs, is) = same is
-    by (says.Aborted aborts.Budget) (a, asking, offer, le, is) =
-        λ s. ap (λ (x : CoreData). results_of x.dag s) is
-    by (says.Aborted (aborts.TaskLimit s n p)) k = absurd k
-    by (says.Aborted (aborts.StageLimit s)) k = absurd k
-    by (says.Aborted aborts.NoExecutor) k = absurd k
-    by says.Ignored k = absurd k
-    by says.Shelved k = absurd k
-    by says.Told k = absurd k
-    by says.Repeated k = absurd k
-    by says.Registered k = absurd k
-    by says.Bogus k = absurd k
-    by says.Finished k = absurd k
-    by says.Again k = absurd k
-    by says.Resubmitted k = absurd k
+    by : TakesSo c after exec answer → SameResults c.dag after.dag
+    by (inl t) =
+        λ s. ap (λ (x : CoreData). results_of x.dag s) t.is
+        ∙ state_results c.dag t.task.attempt.stage
+        (changed_newest (λ set. handed set t.task.attempt.partition exec c.now)) (λ state. refl) s
+    by (inr (inl b)) = λ s. ap (λ (x : CoreData). results_of x.dag s) b.is
+    by (inr (inr same)) = λ s. ap (λ (x : CoreData). results_of x.dag s) same.is
 
 tells_count : (c m after : CoreData) (r : Running) (outcome : Outcome) (answer : Answer)
     → m.dag ≡ c.dag → IsSoundDag c.dag → runner_of c.dag r.hand_out.attempt ≡ Some r.exec
@@ -299,6 +280,7 @@ unfinished c (Release key) answer quiet s p = by (shelved_of c key)
     by (Some x) =
         one_told (telling x.attempt x.outcome answer) s p
         ∙ none_finished (telling x.attempt x.outcome answer) s p quiet
+unfinished c (Side event) answer quiet s p = refl
 unfinished c (TellLost exec) answer quiet s p = refl
 
 comes_count : (c after : CoreData) (event : Event) (answer : Answer) → IsSoundCore c
@@ -349,6 +331,8 @@ steps_count c after (Post a outcome) answer sound step s p =
     comes_count c after (Post a outcome) answer sound (posts_come c after a outcome answer step) s p
 steps_count c after (Release key) answer sound step s p =
     comes_count c after (Release key) answer sound (releases_come c after key answer step) s p
+steps_count c after (Side event) answer sound step s p =
+    comes_count c after (Side event) answer sound (sides_come c after event answer step) s p
 steps_count c after (TellLost exec) answer sound step s p =
     same_count c.dag after.dag (losses_count c after exec answer step) s p
 

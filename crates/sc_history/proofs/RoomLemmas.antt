@@ -1,5 +1,5 @@
 -- No event changes for how many outputs of a shuffle there is room.
-use Rattle.std.proofs.Common.{◌≡◌, inl, inr, ℕ, List, ◌&&◌, not, Bool, true, false, if◌then◌else◌, [], ◌∷◌, slice_get, refl, ap, sym, subst, ◌∙◌}
+use Rattle.std.proofs.Common.{◌≡◌, inl, inr, ℕ, List, ◌&&◌, not, Bool, true, false, if◌then◌else◌, [], ◌∷◌, slice_get, refl, ap, sym, subst, ◌∙◌, ◌⊎◌}
 use Rattle.sc_ids.specs.declared.attempts.AttemptId.{AttemptId}
 use Rattle.sc_ids.specs.declared.blocks.Loc.{Loc}
 use Rattle.sc_ids.specs.declared.failures.FailureCause.{FailureCause}
@@ -25,13 +25,14 @@ use Rattle.sc_core.specs.declared.answers.Abort.TheVariants as aborts
 use Rattle.sc_core.specs.declared.answers.Answer.{Answer}
 use Rattle.sc_core.specs.declared.answers.Answer.TheVariants as says
 use Rattle.sc_core.specs.declared.events.Event.{Event}
-use Rattle.sc_core.specs.declared.events.Event.TheVariants.{Post, Release, Take, TellLost}
+use Rattle.sc_core.specs.declared.events.Event.TheVariants.{Post, Release, Side, Take, TellLost}
 use Rattle.sc_core.specs.declared.events.Outcome.{Outcome}
 use Rattle.sc_core.specs.declared.events.Outcome.TheVariants as outcomes
 use Rattle.sc_core.specs.declared.running.Running.{Running}
 use Rattle.sc_history.specs.Rooms.{KeepsRoom, ReplaysKeepRoom, SameRoom, StepsKeepRoom}
-use Rattle.sc_history.proofs.Events.{Comes, losses_come, posts_come, releases_come}
+use Rattle.sc_history.proofs.Events.{Comes, losses_come, posts_come, releases_come, sides_come}
 use Rattle.sc_history.proofs.StageRoomLemmas.{LeavesRoom, fails_room, follows_room, lost_room, map_room, result_tracker, room_itself, room_then, same_room, seen_room}
+use Rattle.sc_core.proofs.TakeCases.{TakesSo, takes_so}
 
 -- ---- reports
 
@@ -179,26 +180,12 @@ at_state c after d same is = at_once c after d same (dag_is after d is)
 
 takes_room : (c after : CoreData) (exec : ℕ) (answer : Answer) → Takes c exec answer after
     → KeepsRoom c after
-takes_room c after exec (says.Task h) (asking, out, lt, is) = at_state c after _ refl is
-takes_room c after exec (says.Wait out) (asking, none, way, is) = at_state c after c refl is
-takes_room c after exec (says.Busy held) (runs, stays, live, has, is) = at_state c after c refl is
-takes_room c after exec says.Lost (runs, stays, lost, is) = at_state c after c refl is
-takes_room c after exec (says.Stopped first) (runs, left, is) = at_state c after c refl is
-takes_room c after exec says.Ended (runs, is) = at_state c after c refl is
-takes_room c after exec (says.Aborted aborts.Budget) (a, asking, offer, le, is) =
-    at_state c after _ refl is
-takes_room c after exec (says.Aborted (aborts.TaskLimit s n p)) h = absurd h
-takes_room c after exec (says.Aborted (aborts.StageLimit s)) h = absurd h
-takes_room c after exec (says.Aborted aborts.NoExecutor) h = absurd h
-takes_room c after exec says.Ignored h = absurd h
-takes_room c after exec says.Shelved h = absurd h
-takes_room c after exec says.Told h = absurd h
-takes_room c after exec says.Repeated h = absurd h
-takes_room c after exec says.Registered h = absurd h
-takes_room c after exec says.Bogus h = absurd h
-takes_room c after exec says.Finished h = absurd h
-takes_room c after exec says.Again h = absurd h
-takes_room c after exec says.Resubmitted h = absurd h
+takes_room c after exec answer h = by (takes_so c after exec answer h)
+  where
+    by : TakesSo c after exec answer → KeepsRoom c after
+    by (inl t) = at_state c after _ refl t.is
+    by (inr (inl b)) = at_state c after _ refl b.is
+    by (inr (inr same)) = at_state c after c refl same.is
 
 comes_room : (c after : CoreData) (event : Event) (answer : Answer) → Comes c after event answer
     → KeepsRoom c after
@@ -219,6 +206,8 @@ steps_keep_room c after (Post a outcome) answer step =
     comes_room c after (Post a outcome) answer (posts_come c after a outcome answer step)
 steps_keep_room c after (Release key) answer step =
     comes_room c after (Release key) answer (releases_come c after key answer step)
+steps_keep_room c after (Side event) answer step =
+    comes_room c after (Side event) answer (sides_come c after event answer step)
 steps_keep_room c after (TellLost exec) answer step =
     room_then c.dag.tracker from.dag.tracker after.dag.tracker (lost_room c.dag exec)
     (at_once from after (all_released these from) (all_tracker these from)

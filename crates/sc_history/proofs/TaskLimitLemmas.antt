@@ -1,5 +1,5 @@
 -- A job that is aborted for the failures of a partition shows them.
-use Rattle.std.proofs.Common.{◌≡◌, ◌≢◌, ◌⊎◌, inl, inr, ℕ, ◌≤◌, true, List, [], ◌++◌, length, Option, Some, None, refl, ap, sym, subst, ◌∙◌, arith, rules, true≢false, slice_get}
+use Rattle.std.proofs.Common.{◌≡◌, ◌≢◌, ◌⊎◌, inl, inr, ℕ, ◌≤◌, true, List, [], ◌++◌, length, Option, Some, None, refl, ap, sym, subst, ◌∙◌, arith, rules, true≢false, slice_get, Bool, false}
 use Rattle.std.specs.List.{AllPairs}
 use Rattle.std.proofs.lemmas.List.{length-map}
 use Rattle.sc_ids.specs.Graphs.{StageData}
@@ -25,13 +25,13 @@ use Rattle.sc_core.specs.declared.answers.Answer.{Answer}
 use Rattle.sc_core.specs.declared.answers.Answer.TheVariants as says
 use Rattle.sc_core.specs.declared.answers.Job.TheVariants as jobs
 use Rattle.sc_core.specs.declared.events.Event.{Event}
-use Rattle.sc_core.specs.declared.events.Event.TheVariants.{Post, Release, Take, TellLost}
+use Rattle.sc_core.specs.declared.events.Event.TheVariants.{Post, Release, Side, Take, TellLost}
 use Rattle.sc_core.proofs.LawLemmas.{steps_keep_sound, task_limits_are_reached}
 use Rattle.sc_core.proofs.LookupLemmas.{attempt, set_among}
 use Rattle.sc_history.specs.Evidence.{ShowsTaskLimit, TaskLimitsAreShown, is_failure_of, nth_of}
 use Rattle.sc_history.specs.Tellings.{Telling, tellings, tellings_in}
 use Rattle.sc_history.proofs.BudgetLemmas.{opening_limits, step_limits}
-use Rattle.sc_history.proofs.Events.{Comes, IsLoss, losses_come, posts_come, releases_come}
+use Rattle.sc_history.proofs.Events.{Comes, IsLoss, losses_come, posts_come, releases_come, sides_come}
 use Rattle.sc_history.proofs.Growing.{attempt_among}
 use Rattle.sc_history.proofs.JobLemmas.{Aborts, EndsBy, tells_ends}
 use Rattle.sc_history.proofs.Journals.{tellings_induct}
@@ -40,6 +40,7 @@ use Rattle.sc_history.proofs.Picking.{all_picked}
 use Rattle.sc_history.proofs.SetLimits.{HaveLimits, limits_begin, limits_kept, limits_of_set}
 use Rattle.sc_history.proofs.Starting.{opening_slot}
 use Rattle.sc_history.proofs.ToldFailures.{AreTold, event_tells}
+use Rattle.sc_core.proofs.TakeCases.{TakesSo, takes_so}
 
 -- what a failed set shows of its failures
 reached : (told : List Telling) (end : CoreData) (a : AttemptId) (p : ℕ) (L : Limits)
@@ -107,34 +108,15 @@ not_running c s k p runs e = search (rules, runs, e)
 
 takes_count : (c after : CoreData) (exec : ℕ) (answer : Answer) → Takes c exec answer after
     → HasCounted c → HasCounted after
-takes_count c after exec answer h counted = by answer h
+takes_count c after exec answer h counted = by (takes_so c after exec answer h)
   where
-    same : after ≡ c → HasCounted after
-    same is = subst (λ x. HasCounted x) (sym is) counted
-
-    by : (answer : Answer) → Takes c exec answer after → HasCounted after
-    by (says.Task h) (asking, out, below, is) =
+    by : TakesSo c after exec answer → HasCounted after
+    by (inl t) =
         λ s k p e.
-        absurd (not_running c s k p asking.runs (ap (λ (x : CoreData). x.job) (sym is) ∙ e))
-    by (says.Wait out) (asking, none, way, is) = same is
-    by (says.Busy held) (runs, stays, live, has, is) = same is
-    by says.Lost (runs, stays, lost, is) = same is
-    by (says.Stopped first) (runs, left, is) = same is
-    by says.Ended (runs, is) = same is
-    by (says.Aborted aborts.Budget) (a, asking, offer, le, is) =
-        λ s k p e. absurd (let j = ap (λ (x : CoreData). x.job) is in search (rules, j, e))
-    by (says.Aborted (aborts.TaskLimit s n p)) k = absurd k
-    by (says.Aborted (aborts.StageLimit s)) k = absurd k
-    by (says.Aborted aborts.NoExecutor) k = absurd k
-    by says.Ignored k = absurd k
-    by says.Shelved k = absurd k
-    by says.Told k = absurd k
-    by says.Repeated k = absurd k
-    by says.Registered k = absurd k
-    by says.Bogus k = absurd k
-    by says.Finished k = absurd k
-    by says.Again k = absurd k
-    by says.Resubmitted k = absurd k
+        absurd (not_running c s k p t.asking.runs (ap (λ (x : CoreData). x.job) (sym t.is) ∙ e))
+    by (inr (inl b)) =
+        λ s k p e. absurd (let j = ap (λ (x : CoreData). x.job) b.is in search (rules, j, e))
+    by (inr (inr same)) = subst (λ x. HasCounted x) (sym same.is) counted
 
 comes_count : (c after : CoreData) (event : Event) (answer : Answer) → IsSoundCore c
     → Steps c event answer after → Comes c after event answer → HasCounted c → HasCounted after
@@ -181,6 +163,9 @@ steps_counted c after (Post a outcome) answer sound step counted =
     (posts_come c after a outcome answer step) counted
 steps_counted c after (Release key) answer sound step counted =
     comes_count c after (Release key) answer sound step (releases_come c after key answer step)
+    counted
+steps_counted c after (Side event) answer sound step counted =
+    comes_count c after (Side event) answer sound step (sides_come c after event answer step)
     counted
 steps_counted c after (TellLost exec) answer sound step counted =
     losses_count c after exec answer (losses_come c after exec answer step)

@@ -18,13 +18,13 @@ use Rattle.sc_core.specs.Steps.{Steps}
 use Rattle.sc_core.specs.Tells.{FailsBy, Tells, TellsFailureIf, after_failure, is_zombie_in}
 use Rattle.sc_core.specs.declared.answers.Answer.{Answer}
 use Rattle.sc_core.specs.declared.events.Event.{Event}
-use Rattle.sc_core.specs.declared.events.Event.TheVariants.{Post, Release, Take, TellLost}
+use Rattle.sc_core.specs.declared.events.Event.TheVariants.{Post, Release, Side, Take, TellLost}
 use Rattle.sc_core.specs.declared.events.Outcome.{Outcome}
 use Rattle.sc_core.specs.declared.events.Outcome.TheVariants as outcomes
 use Rattle.sc_core.specs.declared.running.Running.{Running}
 use Rattle.sc_history.specs.Evidence.{is_failure_of, nth_of}
 use Rattle.sc_history.specs.Tellings.{Telling, is_heard, telling, tellings_in}
-use Rattle.sc_history.proofs.Events.{Comes, posts_come, releases_come}
+use Rattle.sc_history.proofs.Events.{Comes, posts_come, releases_come, sides_come}
 use Rattle.sc_history.proofs.GrowingCalls.{Grows, failures_grow, losses_grow, maps_grow, results_grow, takes_grow}
 use Rattle.sc_history.proofs.Keeping.{IsNew, NoFailures, SameFailures, failed_in, failures_at, failures_calm, failures_marked, failures_same}
 
@@ -160,6 +160,8 @@ steps_tell c after (Post a outcome) answer sound step s k p n e =
     p n e
 steps_tell c after (Release key) answer sound step s k p n e =
     comes_tell c after (Release key) answer sound (releases_come c after key answer step) s k p n e
+steps_tell c after (Side event) answer sound step s k p n e =
+    comes_tell c after (Side event) answer sound (sides_come c after event answer step) s k p n e
 steps_tell c after (TellLost exec) answer sound step s k p n e =
     inl (same c.dag after.dag
     (losses_grow SameFailures NoFailures c.dag.limits (failures_calm c.dag.limits) c after exec

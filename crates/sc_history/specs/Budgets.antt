@@ -12,14 +12,12 @@ use Rattle.sc_core.specs.declared.answers.Answer.{Answer}
 use Rattle.sc_core.specs.declared.answers.Job.TheVariants as jobs
 use Rattle.sc_core.specs.declared.entries.Entry.{Entry}
 use Rattle.sc_core.specs.declared.events.Event.{Event}
-use Rattle.sc_core.specs.declared.events.Event.TheVariants.{Post, Release, Take, TellLost}
+use Rattle.sc_core.specs.declared.events.Event.TheVariants.{Take}
 
 -- an executor asked and got a task
 abbrev pub gives_task : Event → Answer → Bool
 gives_task (Take exec) answer = has_task answer
-gives_task (Post attempt outcome) answer = false
-gives_task (Release key) answer = false
-gives_task (TellLost exec) answer = false
+gives_task event answer = false
 
 abbrev pub is_hand_out : Entry → Bool
 is_hand_out e = gives_task e.event e.answer

@@ -13,7 +13,7 @@ use Rattle.sc_core.specs.declared.answers.Answer.{Answer}
 use Rattle.sc_core.specs.declared.answers.Answer.TheVariants as says
 use Rattle.sc_core.specs.declared.entries.Entry.{Entry}
 use Rattle.sc_core.specs.declared.events.Event.{Event}
-use Rattle.sc_core.specs.declared.events.Event.TheVariants.{Post, Release, Take, TellLost}
+use Rattle.sc_core.specs.declared.events.Event.TheVariants.{Take}
 
 -- the attempt that an answer hands out
 abbrev pub given_with : Answer → List AttemptId
@@ -22,9 +22,7 @@ given_with answer = []
 
 abbrev pub given_by : Event → Answer → List AttemptId
 given_by (Take exec) answer = given_with answer
-given_by (Post attempt outcome) answer = []
-given_by (Release key) answer = []
-given_by (TellLost exec) answer = []
+given_by event answer = []
 
 -- the attempts that some entries hand out, in order
 abbrev pub attempts_given : List Entry → List AttemptId

@@ -7,7 +7,7 @@ use Rattle.sc_core.specs.declared.answers.Answer.{Answer}
 use Rattle.sc_core.specs.declared.answers.Answer.TheVariants as says
 use Rattle.sc_core.specs.declared.entries.Entry.{Entry}
 use Rattle.sc_core.specs.declared.events.Event.{Event}
-use Rattle.sc_core.specs.declared.events.Event.TheVariants.{Post, Release, Take, TellLost}
+use Rattle.sc_core.specs.declared.events.Event.TheVariants.{Post, Release}
 use Rattle.sc_core.specs.declared.events.Outcome.{Outcome}
 use Rattle.sc_core.specs.declared.running.Shelved.{Shelved}
 
@@ -25,6 +25,7 @@ telling attempt outcome answer =
 abbrev pub is_heard : Answer → Bool
 is_heard says.Ignored = false
 is_heard says.Shelved = false
+is_heard (says.Side said) = false
 is_heard answer = true
 
 -- a report that was to be told later
@@ -34,10 +35,9 @@ told_late (Some s) answer = telling s.attempt s.outcome answer ∷ []
 
 -- the report that an event in a state is of, if any: one that is posted, or that is told late
 abbrev pub tellings_in : CoreData → Event → Answer → List Telling
-tellings_in c (Take exec) answer = []
 tellings_in c (Post attempt outcome) answer = telling attempt outcome answer ∷ []
 tellings_in c (Release key) answer = told_late (shelved_of c key) answer
-tellings_in c (TellLost exec) answer = []
+tellings_in c event answer = []
 
 -- those that the entries of a journal are of, in order
 abbrev pub tellings : (opening : CoreData) (entries : List Entry) (end : CoreData)

@@ -136,6 +136,7 @@ given_desk w exec desk says.Bogus = refl
 given_desk w exec desk says.Finished = refl
 given_desk w exec desk says.Again = refl
 given_desk w exec desk says.Resubmitted = refl
+given_desk w exec desk (says.Side said) = refl
 
 pub takes_on : (work : WorkData) (w after : WorldData) (exec : ℕ) (answer : Answer)
     → exec < length w.held → Takes w exec answer after → GoesOn work w after

@@ -170,6 +170,7 @@ asks_well c after exec says.Bogus runs stays live free waits step = absurd step
 asks_well c after exec says.Finished runs stays live free waits step = absurd step
 asks_well c after exec says.Again runs stays live free waits step = absurd step
 asks_well c after exec says.Resubmitted runs stays live free waits step = absurd step
+asks_well c after exec (says.Side said) runs stays live free waits step = absurd step
 
 -- ---- how much is left
 
@@ -255,6 +256,7 @@ asks_in work w after exec answer core sound runs rests due live r =
     by says.Finished other differs = rests other
     by says.Again other differs = rests other
     by says.Resubmitted other differs = rests other
+    by (says.Side said) other differs = rests other
 
 -- what is fetched is one of the inputs
 fetch_within : (block : Option BlockId) (inputs : List Location) (got : ℕ) (b : BlockId) (loc : Loc)

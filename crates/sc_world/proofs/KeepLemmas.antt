@@ -87,6 +87,7 @@ takes_keep work w exec answer after h place takes desk_after =
     by says.Resubmitted bad d s = absurd bad
     by says.Shelved bad d s = absurd bad
     by says.Told bad d s = absurd bad
+    by (says.Side said) bad d s = absurd bad
 
 posts_keep : (work : WorkData) (w : WorldData) (exec : ℕ) (answer : Answer) (after : WorldData)
     → IsWorld work w → Posts work w exec answer after → IsSoundDesk work after.desk

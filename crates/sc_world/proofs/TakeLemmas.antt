@@ -222,3 +222,4 @@ takes_sound work w exec answer after sound core numbered place takes later =
     by says.Resubmitted bad = absurd bad
     by says.Shelved bad = absurd bad
     by says.Told bad = absurd bad
+    by (says.Side said) bad = absurd bad

@@ -1,7 +1,8 @@
-use Rattle.sc_core.specs.declared.events.Event.TheVariants.{Post, Release, Take, TellLost}
+use Rattle.sc_core.specs.declared.events.Event.TheVariants.{Post, Release, Side, Take, TellLost}
 use Rattle.sc_core.proofs.CoreLemmas.{stepped_sound}
 use Rattle.sc_core.proofs.LawLemmas.{waits_have_cause}
 use Rattle.sc_core.proofs.cores.Core.step.Goals as goal
+use Rattle.sc_core.proofs.LawLemmas.{steps_keep_sound}
 
 pub take-requires : goal.take-requires
 take-requires c = waits_have_cause c.self.inside.state.0 c.in-Take.exec c.self.invariant
@@ -21,6 +22,11 @@ pub invariant_of-self-in-Release : goal.invariant_of-self-in-Release
 invariant_of-self-in-Release c =
     stepped_sound c.self.inside.state.0 c.release_key.new.self.0 (Release c.in-Release.key)
     c.release_key.result c.self.invariant c.release_key.ensures.ok c.release_key.ensures.err
+
+pub invariant_of-self-in-Side : goal.invariant_of-self-in-Side
+invariant_of-self-in-Side c =
+    steps_keep_sound c.self.inside.state.0 c.step_aside.new.self.0 (Side c.in-Side.field-0)
+    c.step_aside.result.answer c.self.invariant c.step_aside.ensures.steps
 
 pub invariant_of-self-in-TellLost : goal.invariant_of-self-in-TellLost
 invariant_of-self-in-TellLost c =

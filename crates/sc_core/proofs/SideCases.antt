@@ -1,0 +1,52 @@
+-- What happens beside the reports is always answered, in one way.
+use Rattle.std.proofs.Common.{◌≡◌, Bool, true, false, refl, ap, sym, ◌∙◌, true≢false}
+use Rattle.sc_core.specs.CoreData.{CoreData, job_runs}
+use Rattle.sc_core.specs.Sides.{Sides, StepsAside, with_leaver}
+use Rattle.sc_core.specs.declared.answers.Answer.{Answer}
+use Rattle.sc_core.specs.declared.answers.Answer.TheVariants as says
+use Rattle.sc_core.specs.declared.answers.SideAnswer.{SideAnswer}
+use Rattle.sc_core.specs.declared.answers.SideAnswer.TheVariants.{Ignored, Left}
+use Rattle.sc_core.specs.declared.events.SideEvent.{SideEvent}
+use Rattle.sc_core.specs.declared.events.SideEvent.TheVariants.{Leave}
+use Rattle.sc_dag.proofs.Tests.{clash}
+
+-- one answer, and one state that is left
+sides_agree : (c x y : CoreData) (event : SideEvent) (a b : SideAnswer) → Sides c event a x
+    → Sides c event b y → (a ≡ b) × (x ≡ y)
+sides_agree c x y (Leave exec) Ignored Ignored (runs, is) (still, also) = (refl, is ∙ sym also)
+sides_agree c x y (Leave exec) Left Left (runs, is) (still, also) = (refl, is ∙ sym also)
+sides_agree c x y (Leave exec) Ignored Left (ended, is) (runs, also) = absurd (clash runs ended)
+sides_agree c x y (Leave exec) Left Ignored (runs, is) (ended, also) = absurd (clash runs ended)
+
+pub steps_aside_agree : (c x y : CoreData) (event : SideEvent) (a b : Answer)
+    → StepsAside c event a x → StepsAside c event b y → (a ≡ b) × (x ≡ y)
+steps_aside_agree c x y event a b (said, told, step) (also, told_too, step_too) =
+    let same = sides_agree c x y event said also step step_too in
+    (told ∙ ap says.Side same.0 ∙ sym told_too, same.1)
+
+-- there is an answer
+sides_there : (c : CoreData) (event : SideEvent)
+    → (said : SideAnswer) × (after : CoreData) × Sides c event said after
+sides_there c (Leave exec) = by (job_runs c) refl
+  where
+    by : (b : Bool) → job_runs c ≡ b
+        → (said : SideAnswer) × (after : CoreData) × Sides c (Leave exec) said after
+    by true e = (Left, with_leaver c exec, (e, refl))
+    by false e = (Ignored, c, (e, refl))
+
+pub steps_aside_there : (c : CoreData) (event : SideEvent)
+    → (answer : Answer) × (after : CoreData) × StepsAside c event answer after
+steps_aside_there c event =
+    let there = sides_there c event in
+    (says.Side there.0, there.1, (there.0, refl, there.2))
+
+-- after the end of the job nothing changes
+ended_sides : (c after : CoreData) (event : SideEvent) (said : SideAnswer) → job_runs c ≡ false
+    → Sides c event said after → after ≡ c
+ended_sides c after (Leave exec) Ignored ended (e, is) = is
+ended_sides c after (Leave exec) Left ended (runs, is) = absurd (clash runs ended)
+
+pub ended_aside : (c after : CoreData) (event : SideEvent) (answer : Answer) → job_runs c ≡ false
+    → StepsAside c event answer after → after ≡ c
+ended_aside c after event answer ended (said, told, step) =
+    ended_sides c after event said ended step

@@ -1,0 +1,253 @@
+-- What happens beside the reports leaves what holds of every core, and as much to do.
+use Rattle.std.proofs.Common.{◌≡◌, ◌≢◌, ℕ, ◌<◌, All, Bool, true, false, cond, List, [], ◌∷◌, map, Option, Some, None, find, length, option_map, refl, ap, sym, subst, ◌∙◌, arith, rules, true≢false}
+use Rattle.std.specs.List.{AllPairs, filter}
+use Rattle.std.proofs.lemmas.List.{map-id}
+use Rattle.std.proofs.lemmas.List.Elements.{All-map, All-weaker}
+use Rattle.std.proofs.lemmas.List.Kept.{AllPairs-cons}
+use Rattle.sc_ids.specs.declared.attempts.AttemptId.{AttemptId}
+use Rattle.sc_ids.specs.declared.failures.FailureCause.{FailureCause}
+use Rattle.sc_ids.specs.declared.failures.FailureCause.TheVariants as causes
+use Rattle.sc_commit.specs.Committing.{is_same}
+use Rattle.sc_taskset.proofs.FindLemmas.{pairs_head, pairs_tail}
+use Rattle.sc_dag.specs.DagData.{DagData}
+use Rattle.sc_dag.specs.Sound.{runner_of}
+use Rattle.sc_core.specs.CoreData.{CoreData, is_of, is_running_job, job_runs}
+use Rattle.sc_core.specs.HandOuts.{HandOutData}
+use Rattle.sc_core.specs.Laws.{left_to_do, is_untold}
+use Rattle.sc_core.specs.Posts.{fits, is_save}
+use Rattle.sc_core.specs.Sides.{IsAside, IsFurther, Sides, StepsAside}
+use Rattle.sc_core.specs.Sound.{AreLostAsPlanned, AreOnExecutors, AreTwo, AwaitsTelling, GoesOn, IsShelvedWell, IsSoundCore, IsSoundJob, IsSoundShelf, RunsWell, WasHandedOut, is_shelved}
+use Rattle.sc_core.specs.declared.answers.Answer.{Answer}
+use Rattle.sc_core.specs.declared.answers.SideAnswer.{SideAnswer}
+use Rattle.sc_core.specs.declared.answers.SideAnswer.TheVariants.{Ignored, Left}
+use Rattle.sc_core.specs.declared.events.Outcome.{Outcome}
+use Rattle.sc_core.specs.declared.events.Outcome.TheVariants as outcomes
+use Rattle.sc_core.specs.declared.events.SideEvent.{SideEvent}
+use Rattle.sc_core.specs.declared.events.SideEvent.TheVariants.{Leave}
+use Rattle.sc_core.specs.declared.running.Running.{Running}
+use Rattle.sc_core.specs.declared.running.Shelved.{Shelved}
+use Rattle.sc_core.proofs.ShelfLemmas.{find_mapped, fits_still}
+
+-- ---- each event is one
+
+itself : (r : Running) → IsFurther r r
+itself r = record { hand_out = refl; exec = refl; is_out = refl; phase = λ h. refl }
+
+same_aside : (c after : CoreData) → after ≡ c → IsAside c after
+same_aside c after is =
+    subst (IsAside c) (sym is)
+    (record {
+      told = refl;
+      handed = refl;
+      job = refl;
+      further = λ r. r;
+      each = itself;
+      running = sym (map-id c.running);
+      shelf = refl;
+      next_key = refl;
+      saves = refl;
+      dag = refl;
+      plan = refl;
+    })
+
+sides_aside : (c after : CoreData) (event : SideEvent) (said : SideAnswer)
+    → Sides c event said after → IsAside c after
+sides_aside c after (Leave exec) Ignored (runs, is) = same_aside c after is
+sides_aside c after (Leave exec) Left (runs, is) =
+    subst (IsAside c) (sym is)
+    (record {
+      told = refl;
+      handed = refl;
+      job = refl;
+      further = λ r. r;
+      each = itself;
+      running = sym (map-id c.running);
+      shelf = refl;
+      next_key = refl;
+      saves = refl;
+      dag = refl;
+      plan = refl;
+    })
+
+pub steps_aside : (c after : CoreData) (event : SideEvent) (answer : Answer)
+    → StepsAside c event answer after → IsAside c after
+steps_aside c after event answer (said, told, step) = sides_aside c after event said step
+
+-- ---- what runs
+
+-- an attempt that has come further is of the same numbers
+further_of : (a : AttemptId) (r next : Running) → IsFurther r next → is_of a next ≡ is_of a r
+further_of a r next f = ap (λ (h : HandOutData). is_same h.attempt a) f.hand_out
+
+runs_further : (c after : CoreData) (r next : Running) → after.dag ≡ c.dag → IsFurther r next
+    → RunsWell c r → RunsWell after next
+runs_further c after r next dag f w =
+    record {
+      in_set = rw (dag, f.hand_out, f.exec) w.in_set;
+      there = rw (dag, f.exec) w.there;
+      live = rw (dag, f.exec) w.live;
+      handed_out = subst (λ d. WasHandedOut d next.hand_out) (sym dag)
+          (subst (λ h. WasHandedOut c.dag h) (sym f.hand_out) w.handed_out);
+    }
+
+two_further : (q r q' r' : Running) → IsFurther q q' → IsFurther r r' → AreTwo q r → AreTwo q' r'
+two_further q r q' r' f g t =
+    record {
+      attempts = rw (f.hand_out, g.hand_out) t.attempts;
+      execs = λ a b same. t.execs (sym f.is_out ∙ a) (sym g.is_out ∙ b)
+          (sym f.exec ∙ same ∙ g.exec);
+    }
+
+pairs_further : (further : Running → Running) → ((r : Running) → IsFurther r (further r))
+    → (rs : List Running) → AllPairs AreTwo rs → AllPairs AreTwo (map further rs)
+pairs_further further each [] h = λ i j d lt l. absurd (omega (arith, l))
+pairs_further further each (r ∷ rs) h =
+    AllPairs-cons AreTwo (further r) (map further rs)
+    (All-map (AreTwo (further r)) further rs
+    (All-weaker (AreTwo r) (λ q. AreTwo (further r) (further q))
+    (λ q t. two_further r q (further r) (further q) (each r) (each q) t) rs
+    (pairs_head AreTwo r rs h)))
+    (pairs_further further each rs (pairs_tail AreTwo r rs h))
+
+aside_job : (c after : CoreData) → IsAside c after → IsSoundJob c → IsSoundJob after
+aside_job c after is sound =
+    record {
+      dag = rw is.dag sound.dag;
+      result = rw is.dag sound.result;
+      maps = rw is.dag sound.maps;
+      running = subst (λ rs. All (RunsWell after) rs) (sym is.running)
+          (All-map (RunsWell after) is.further c.running
+          (All-weaker (RunsWell c) (λ r. RunsWell after (is.further r))
+          (λ r w. runs_further c after r (is.further r) is.dag (is.each r) w) c.running
+          sound.running));
+      known = λ a exec h. subst (λ rs. find (is_of a) rs ≢ None) (sym is.running)
+          (known a (sound.known a exec (ap (λ d. runner_of d a) (sym is.dag) ∙ h)));
+      placed = subst (λ (d : DagData). AreOnExecutors d.tracker) (sym is.dag) sound.placed;
+      apart = subst (λ rs. AllPairs AreTwo rs) (sym is.running)
+          (pairs_further is.further is.each c.running sound.apart);
+      unheld = rw is.dag sound.unheld;
+      budget = rw (is.handed, is.dag) sound.budget;
+      goes_on = λ h. goes (sound.goes_on (ap is_running_job (sym is.job) ∙ h));
+      done = λ h. rw is.dag (sound.done (sym is.job ∙ h));
+    }
+  where
+    some : (o : Option Running) → o ≢ None → option_map is.further o ≢ None
+    some None not_none = λ n. not_none refl
+    some (Some r) not_none = λ n. search (rules, n)
+
+    known : (a : AttemptId) → find (is_of a) c.running ≢ None
+        → find (is_of a) (map is.further c.running) ≢ None
+    known a h =
+        rw (find_mapped (is_of a) is.further
+        (λ r. further_of a r (is.further r) (is.each r)) c.running)
+        (some (find (is_of a) c.running) h)
+
+    goes : GoesOn c → GoesOn after
+    goes g = record { settled = rw is.dag g.settled; result = rw is.dag g.result }
+
+-- ---- what is to be told later
+
+-- what fits an attempt that isn't out goes on fitting
+fits_further : (c after : CoreData) (r next : Running) (outcome : Outcome) → IsAside c after
+    → IsFurther r next → r.is_out ≡ false → fits c r outcome ≡ true → fits after next outcome ≡ true
+fits_further c after r next outcome is f is_in fit =
+    fits_still c after next outcome (ap (λ (d : DagData). d.stages) is.dag) is.saves
+    (same outcome ∙ fit)
+  where
+    phase : next.phase ≡ r.phase
+    phase = f.phase is_in
+
+    failed : (cause : FailureCause)
+        → fits c next (outcomes.Failed cause) ≡ fits c r (outcomes.Failed cause)
+    failed causes.Planned = refl
+    failed causes.Raised = refl
+    failed (causes.Device fault) = rw phase refl
+    failed (causes.Gone exec wanted found) = rw f.hand_out refl
+    failed (causes.Metadata last) = rw f.hand_out refl
+    failed causes.Denied = rw phase refl
+
+    same : (outcome : Outcome) → fits c next outcome ≡ fits c r outcome
+    same (outcomes.Map loc) = rw (f.hand_out, f.exec) refl
+    same outcomes.Result = rw (f.hand_out, phase) refl
+    same (outcomes.Failed cause) = failed cause
+
+aside_shelf : (c after : CoreData) → IsAside c after → IsSoundShelf c → IsSoundShelf after
+aside_shelf c after is sound =
+    record {
+      out = subst (λ rs. All Waits rs) (sym is.running)
+          (All-map Waits is.further c.running
+          (All-weaker (λ r. r.is_out ≡ false → is_shelved c.shelf r.hand_out.attempt ≡ true)
+          (λ r. Waits (is.further r)) (λ r h. waits r (is.each r) h) c.running sound.out));
+      each = subst (λ ss. All (IsShelvedWell after) ss) (sym is.shelf)
+          (All-weaker (IsShelvedWell c) (IsShelvedWell after) kept c.shelf sound.each);
+      rising = rw is.shelf sound.rising;
+    }
+  where
+    Waits : Running → Type 0
+    Waits r = r.is_out ≡ false → is_shelved after.shelf r.hand_out.attempt ≡ true
+
+    waits : (r : Running) → IsFurther r (is.further r)
+        → (r.is_out ≡ false → is_shelved c.shelf r.hand_out.attempt ≡ true)
+        → Waits (is.further r)
+    waits r f h is_in = rw (is.shelf, f.hand_out) (h (sym f.is_out ∙ is_in))
+
+    awaits : (s : Shelved) (r : Running) → IsFurther r (is.further r)
+        → (is_of s.attempt r ≡ true → AwaitsTelling c s r)
+        → is_of s.attempt (is.further r) ≡ true → AwaitsTelling after s (is.further r)
+    awaits s r f h e =
+        let w = h (sym (further_of s.attempt r (is.further r) f) ∙ e) in
+        record {
+          is_in = f.is_out ∙ w.is_in;
+          fit = fits_further c after r (is.further r) s.outcome is f w.is_in w.fit;
+        }
+
+    kept : (s : Shelved) → IsShelvedWell c s → IsShelvedWell after s
+    kept s w =
+        record {
+          below = rw is.next_key w.below;
+          given = rw is.dag w.given;
+          runs = subst
+              (λ rs. All (λ r. is_of s.attempt r ≡ true → AwaitsTelling after s r) rs)
+              (sym is.running)
+              (All-map (λ r. is_of s.attempt r ≡ true → AwaitsTelling after s r) is.further
+              c.running
+              (All-weaker (λ r. is_of s.attempt r ≡ true → AwaitsTelling c s r)
+              (λ r. is_of s.attempt (is.further r) ≡ true → AwaitsTelling after s (is.further r))
+              (λ r h. awaits s r (is.each r) h) c.running w.runs));
+        }
+
+-- ---- every core
+
+pub aside_sound : (c after : CoreData) → IsAside c after → IsSoundCore c → IsSoundCore after
+aside_sound c after is sound =
+    record {
+      job = aside_job c after is sound.job;
+      shelf = λ h. aside_shelf c after is (sound.shelf (ap is_running_job (sym is.job) ∙ h));
+      lost = lost;
+      told = rw is.told sound.told;
+    }
+  where
+    lost : AreLostAsPlanned after
+    lost = rw (is.dag, is.plan, is.told) sound.lost
+
+abbrev outs : List Running → List Running
+outs rs = filter (λ r. r.is_out) rs
+
+outs_further : (further : Running → Running) → ((r : Running) → IsFurther r (further r))
+    → (rs : List Running) → length (outs (map further rs)) ≡ length (outs rs)
+outs_further further each [] = refl
+outs_further further each (r ∷ rs) =
+    by (further r).is_out r.is_out ((each r).is_out) (outs_further further each rs)
+  where
+    by : (x y : Bool) → x ≡ y → length (outs (map further rs)) ≡ length (outs rs)
+        → length (cond x (further r ∷ outs (map further rs)) (outs (map further rs)))
+        ≡ length (cond y (r ∷ outs rs) (outs rs))
+    by true true e h = omega (arith, h)
+    by false false e h = h
+    by true false e h = absurd (true≢false e)
+    by false true e h = absurd (true≢false (sym e))
+
+pub aside_left : (c after : CoreData) → IsAside c after → left_to_do after ≡ left_to_do c
+aside_left c after is =
+    rw (is.dag, is.handed, is.running, is.shelf, is.plan,
+    outs_further is.further is.each c.running) refl

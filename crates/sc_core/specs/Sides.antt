@@ -1,0 +1,51 @@
+-- What happens beside the reports, what it is answered, and what that leaves.
+use Rattle.std.specs.Prelude.{ℕ, ◌≡◌, true, false, Option, Some, None, map}
+use Rattle.sc_core.specs.CoreData.{CoreData, job_runs}
+use Rattle.sc_core.specs.Posts.{is_save}
+use Rattle.sc_core.specs.declared.answers.Answer.{Answer}
+use Rattle.sc_core.specs.declared.answers.Answer.TheVariants as says
+use Rattle.sc_core.specs.declared.answers.SideAnswer.{SideAnswer}
+use Rattle.sc_core.specs.declared.answers.SideAnswer.TheVariants.{Ignored, Left}
+use Rattle.sc_core.specs.declared.events.SideEvent.{SideEvent}
+use Rattle.sc_core.specs.declared.events.SideEvent.TheVariants.{Leave}
+use Rattle.sc_core.specs.declared.running.Running.{Running}
+
+-- the first executor that left early, once this one has left too
+abbrev pub first_with : Option ℕ → ℕ → Option ℕ
+first_with None exec = Some exec
+first_with (Some first) exec = Some first
+
+abbrev pub with_leaver : CoreData → ℕ → CoreData
+with_leaver c exec = record c { left_first = first_with c.left_first exec }
+
+-- the answers to what happens beside the reports, each with its cause, and what they leave
+abbrev pub Sides : CoreData → SideEvent → SideAnswer → CoreData → Type 0
+Sides c (Leave exec) Ignored after = (job_runs c ≡ false) × (after ≡ c)
+Sides c (Leave exec) Left after = (job_runs c ≡ true) × (after ≡ with_leaver c exec)
+
+-- the same among all answers
+abbrev pub StepsAside : CoreData → SideEvent → Answer → CoreData → Type 0
+StepsAside c event answer after =
+    (said : SideAnswer) × (answer ≡ says.Side said) × Sides c event said after
+
+-- an attempt that runs, but for how far it has come while it is out
+pub record IsFurther (r after : Running) : Type 0 where
+  pub hand_out : after.hand_out ≡ r.hand_out
+  pub exec : after.exec ≡ r.exec
+  pub is_out : after.is_out ≡ r.is_out
+  pub phase : r.is_out ≡ false → after.phase ≡ r.phase
+
+-- A core, but for how far attempts have come that are out, who may commit, who left first, and the
+-- greatest tick.
+pub record IsAside (c after : CoreData) : Type 0 where
+  pub told : after.told ≡ c.told
+  pub handed : after.handed ≡ c.handed
+  pub job : after.job ≡ c.job
+  pub further : Running → Running
+  pub each : (r : Running) → IsFurther r (further r)
+  pub running : after.running ≡ map further c.running
+  pub shelf : after.shelf ≡ c.shelf
+  pub next_key : after.next_key ≡ c.next_key
+  pub saves : is_save after.committers ≡ is_save c.committers
+  pub dag : after.dag ≡ c.dag
+  pub plan : after.plan ≡ c.plan
