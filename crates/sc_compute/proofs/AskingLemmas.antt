@@ -16,7 +16,7 @@ use Rattle.sc_lineage.proofs.MeaningLemmas.{reads_before}
 use Rattle.sc_lineage.proofs.PlaceLemmas.{slice_get-at_or}
 use Rattle.sc_compute.specs.Stages.{HasMade, local_count, mapped_in, node_at}
 use Rattle.sc_compute.specs.Tasks.{HasAll, IsSideOf, IsTargetOf}
-use Rattle.sc_compute.specs.declared.stages.Stages.{Stages}
+use Rattle.sc_compute.specs.declared.stages.ShuffleInputs.{ShuffleInputs}
 
 -- a number has one node and one partition
 pub node_of_number : (node p number : ℕ) → p < 2 ^ 32 → node * 2 ^ 32 + p ≡ number
@@ -42,7 +42,7 @@ all-inserted P k is (x ∷ xs) all =
         All-cons P x (insert_key nat_cmp xs k) (All-head P x xs all) behind
 
 -- What is left of a work.
-module _ (work : WorkData) (stages : Stages) where
+module _ (work : WorkData) (stages : ShuffleInputs) where
   -- the greatest is taken out
   pub left-popped : (below k : ℕ) (ks : List ℕ) → All (IsLeft work stages below) (ks ++ k ∷ [])
       → All (λ q. nat_cmp q k ≡ Less) ks → All (IsLeft work stages k) ks

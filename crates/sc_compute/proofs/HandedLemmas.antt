@@ -16,7 +16,7 @@ use Rattle.sc_lineage.specs.Targets.{side_of_node}
 use Rattle.sc_lineage.specs.declared.streams.Stream.{Stream}
 use Rattle.sc_combine.specs.Outputs.{IsOutput, dealing_in, dealing_of_node}
 use Rattle.sc_compute.specs.Stages.{AreDealt, AreOutputs, AreRight, GoesThrough, IsSideFor, handed_in, lies_so, local_count, mapped_in, node_at, sides_of}
-use Rattle.sc_compute.specs.declared.stages.Stages.{Stages}
+use Rattle.sc_compute.specs.declared.stages.ShuffleInputs.{ShuffleInputs}
 use Rattle.sc_compute.proofs.MakingLemmas.{fewer_bounds}
 
 -- a side whose stream is whole gives its rows
@@ -148,7 +148,7 @@ few_parts sort_by_key streams n some =
 few_parts repartition streams n some = omega arith
 
 -- what was handed in for a side is what its tasks left
-pub were_handed : (work : WorkData) (stages : Stages) (k side : ℕ)
+pub were_handed : (work : WorkData) (stages : ShuffleInputs) (k side : ℕ)
     (outputs : Vec (List (List Datum)) Global) → AreRight work stages
     → handed_in stages k side ≡ Some outputs → AreOutputs work k side outputs.items
 were_handed work stages k side outputs right is =

@@ -13,7 +13,7 @@ use Rattle.sc_lineage.specs.Partitioners.{PartitionerData, hash_partitioner, par
 use Rattle.sc_lineage.specs.ScriptData.{WorkData}
 use Rattle.sc_compute.specs.Keeping.{same_place}
 use Rattle.sc_compute.specs.Stages.{AreOutputs, AreRight, AtDirectParents, GoesThrough, HasMade, HoldDirectly, HoldsDirectly, handed_in, left_parent, lies_so, node_at, parents_left, unless_handed}
-use Rattle.sc_compute.specs.declared.stages.Stages.{Stages}
+use Rattle.sc_compute.specs.declared.stages.ShuffleInputs.{ShuffleInputs}
 use Rattle.sc_compute.proofs.DirectLemmas.{narrow_parents}
 use Rattle.sc_compute.proofs.StageLemmas.{holds_first, holds_second}
 
@@ -36,7 +36,7 @@ of_left P parents side (Some outputs) left q is some all =
     let e : None ≡ Some q = sym is ∙ some in absurd (cc)
 
 -- the parents that are left are the same where the same was handed in
-pub left_same : (before after : Stages) (k : ℕ) (node same : NodeData) (first second : Option ℕ)
+pub left_same : (before after : ShuffleInputs) (k : ℕ) (node same : NodeData) (first second : Option ℕ)
     → after.handed ≡ before.handed → first ≡ left_parent before k node 0
     → second ≡ left_parent before k node 1 → node ≡ same
     → option_to_list first ++ option_to_list second ≡ parents_left after k same
@@ -50,7 +50,7 @@ left_same before after k node same first second handed low high is =
         (sym handed)
 
 -- A node, of whose sides some may have been handed in.
-module _ (P : ℕ → Type 0) (stages : Stages) (k : ℕ) (node : NodeData)
+module _ (P : ℕ → Type 0) (stages : ShuffleInputs) (k : ℕ) (node : NodeData)
     (all : All P (parents_left stages k node)) where
   pub first_left : (parent : ℕ) → slice_get (parents_of node) 0 ≡ Some parent
       → handed_in stages k 0 ≡ None → P parent
@@ -73,7 +73,7 @@ lies_not : (b : Bool) → b ≡ true → b ≡ false → ⊥
 lies_not b is isnt = let e : true ≡ false = sym is ∙ isnt in cc
 
 -- A node, of whose sides only such were handed in as go through a shuffle.
-module _ (work : WorkData) (stages : Stages) (k : ℕ) (P : ℕ → Type 0) where
+module _ (work : WorkData) (stages : ShuffleInputs) (k : ℕ) (P : ℕ → Type 0) where
   abbrev Through : NodeData → Type 0
   Through node = (side : ℕ) → IfSome (handed_in stages k side) (λ o. GoesThrough work node side)
 
@@ -138,7 +138,7 @@ through_so work k side None are = tt
 through_so work k side (Some outputs) are = are.through
 
 -- where the parents that are left were made, all were that are read as they are
-pub direct_made : (work : WorkData) (stages : Stages) (k : ℕ) → AreRight work stages
+pub direct_made : (work : WorkData) (stages : ShuffleInputs) (k : ℕ) → AreRight work stages
     → All (HasMade stages) (parents_left stages k (node_at work k))
     → AtDirectParents work (HasMade stages) k
 direct_made work stages k right all =
@@ -146,7 +146,7 @@ direct_made work stages k right all =
     (λ side. through_so work k side (handed_in stages k side) (right.handed k side)) all
 
 -- of a narrow node all parents are left
-pub narrow_made : (work : WorkData) (stages : Stages) (k : ℕ) → AreRight work stages
+pub narrow_made : (work : WorkData) (stages : ShuffleInputs) (k : ℕ) → AreRight work stages
     → IsNarrow (node_at work k) → All (HasMade stages) (parents_left stages k (node_at work k))
     → All (HasMade stages) (parents_of (node_at work k))
 narrow_made work stages k right narrow all =

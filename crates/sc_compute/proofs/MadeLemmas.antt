@@ -12,7 +12,7 @@ use Rattle.sc_compute.specs.Reading.{direct_reads}
 use Rattle.sc_compute.specs.Stages.{AreRight, AreSides, AtDirectParents, HasMade, IsMadeRight, local_count, made_in, node_at}
 use Rattle.sc_compute.specs.declared.stages.Sides.{Sides}
 use Rattle.sc_compute.specs.declared.stages.Sides.TheVariants.{Narrow}
-use Rattle.sc_compute.specs.declared.stages.Stages.{Stages}
+use Rattle.sc_compute.specs.declared.stages.ShuffleInputs.{ShuffleInputs}
 use Rattle.sc_compute.proofs.StageLemmas.{count_made, made_right}
 use Rattle.sc_compute.proofs.DirectLemmas.{count_found, counts_of, direct_narrow, hold_of_read, narrow_parents, parts}
 
@@ -33,7 +33,7 @@ is_narrow work node sides are is = kind node (subst (AreSides work node) is are)
 
 -- A partition of a node for which all was made.
 module _ (work : WorkData) (sound : IsSoundScript work.script) (k p : ℕ)
-    (known : k < length work.script.nodes) (within : p < local_count work k) (stages : Stages)
+    (known : k < length work.script.nodes) (within : p < local_count work k) (stages : ShuffleInputs)
     (right : AreRight work stages) (made : HasMade stages k) where
   abbrev node : NodeData
   node = node_at work k

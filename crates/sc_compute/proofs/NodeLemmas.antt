@@ -19,7 +19,7 @@ use Rattle.sc_lineage.proofs.PlaceLemmas.{at_or-found, at_or-get_or, at_or-map_a
 use Rattle.sc_lineage.proofs.ReadLemmas.{counts_by_parents}
 use Rattle.sc_compute.specs.Stages.{AreRight, AreSides, HasMade, IsSideFor, local_count, node_at, parents_left}
 use Rattle.sc_compute.specs.declared.stages.Sides.TheVariants as sides
-use Rattle.sc_compute.specs.declared.stages.Stages.{Stages}
+use Rattle.sc_compute.specs.declared.stages.ShuffleInputs.{ShuffleInputs}
 use Rattle.sc_compute.proofs.LeftLemmas.{narrow_made}
 use Rattle.sc_compute.proofs.StageLemmas.{count_made}
 
@@ -89,7 +89,7 @@ module _ {work : WorkData} {k : ℕ} {node : NodeData} (at : IsNode work k node)
       subst (λ m. IsSideFor m side kind parent n) (sym node_is) is
 
   -- the parents that were left are those of the node
-  pub left_are : (stages : Stages) → All (HasMade stages) (parents_left stages k (node_at work k))
+  pub left_are : (stages : ShuffleInputs) → All (HasMade stages) (parents_left stages k (node_at work k))
       → All (HasMade stages) (parents_left stages k node)
   left_are stages made = subst (λ n. All (HasMade stages) (parents_left stages k n)) node_is made
 
@@ -99,7 +99,7 @@ module _ {work : WorkData} {k : ℕ} {node : NodeData} (at : IsNode work k node)
       (map length (meanings_by (known_of work) work)) node
   count_is = part_count-step (known_of work) work k node at.sound at.is
 
-  parents_made : (stages : Stages) → AreRight work stages → IsNarrow node
+  parents_made : (stages : ShuffleInputs) → AreRight work stages → IsNarrow node
       → All (HasMade stages) (parents_left stages k (node_at work k))
       → All (HasMade stages) (parents_of node)
   parents_made stages right narrow made =
@@ -107,7 +107,7 @@ module _ {work : WorkData} {k : ℕ} {node : NodeData} (at : IsNode work k node)
       (narrow_made work stages k right (subst IsNarrow (sym node_is) narrow) made)
 
   -- the same of a narrow node, by what was made for its parents
-  pub narrow_is : (stages : Stages) → AreRight work stages → IsNarrow node
+  pub narrow_is : (stages : ShuffleInputs) → AreRight work stages → IsNarrow node
       → All (HasMade stages) (parents_left stages k (node_at work k))
       → count_step stages.counts.items node ≡ local_count work k
   narrow_is stages right narrow made =

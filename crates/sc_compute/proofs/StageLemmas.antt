@@ -11,7 +11,7 @@ use Rattle.sc_lineage.specs.ScriptData.{WorkData}
 use Rattle.sc_lineage.proofs.PlaceLemmas.{at_or-get_or}
 use Rattle.sc_compute.specs.Stages.{AreRight, AreSides, AtDirectParents, HasMade, HoldDirectly, HoldsDirectly, IsMade, IsMadeRight, local_count, made_in, node_at}
 use Rattle.sc_compute.specs.declared.stages.Sides.{Sides}
-use Rattle.sc_compute.specs.declared.stages.Stages.{Stages}
+use Rattle.sc_compute.specs.declared.stages.ShuffleInputs.{ShuffleInputs}
 
 -- what is known of something that is there
 pub there_so : {A : Type 0} (P : A → Type 0) (o : Option A) → is_some o ≡ true → IfSome o P
@@ -25,7 +25,7 @@ not_there None some none = cc
 not_there (Some x) some none = cc
 
 -- what was made for a node is right
-pub made_right : (work : WorkData) (stages : Stages) (k : ℕ) → AreRight work stages
+pub made_right : (work : WorkData) (stages : ShuffleInputs) (k : ℕ) → AreRight work stages
     → HasMade stages k
     → (sides : Sides) × IsMadeRight work stages.counts.items (made_in stages) k sides
 made_right work stages k right made =
@@ -33,11 +33,11 @@ made_right work stages k right made =
     (right.each k)
 
 -- a node for which something was made has its number of partitions
-pub count_made : (work : WorkData) (stages : Stages) (k : ℕ) → AreRight work stages
+pub count_made : (work : WorkData) (stages : ShuffleInputs) (k : ℕ) → AreRight work stages
     → HasMade stages k → at_or stages.counts.items k 0 ≡ local_count work k
 count_made work stages k right made = (made_right work stages k right made).1.count
 
-pub count_made_at : (work : WorkData) (stages : Stages) (j k : ℕ) → j ≡ k → AreRight work stages
+pub count_made_at : (work : WorkData) (stages : ShuffleInputs) (j k : ℕ) → j ≡ k → AreRight work stages
     → HasMade stages k → at_or stages.counts.items j 0 ≡ local_count work k
 count_made_at work stages j k same right made =
     ap (λ i. at_or stages.counts.items i 0) same ∙ count_made work stages k right made

@@ -7,7 +7,7 @@ use Rattle.sc_lineage.specs.declared.dependencies.Place.{Place}
 use Rattle.sc_compute.specs.Caching.{is_cache}
 use Rattle.sc_compute.specs.Stages.{HasMade, local_count, mapped_in, node_at}
 use Rattle.sc_compute.specs.declared.asking.Asking.{Asking}
-use Rattle.sc_compute.specs.declared.stages.Stages.{Stages}
+use Rattle.sc_compute.specs.declared.stages.ShuffleInputs.{ShuffleInputs}
 
 -- the partition that a target takes: its node, and its number
 abbrev pub node_taken : WorkData → TargetData → ℕ
@@ -23,22 +23,22 @@ abbrev pub place_number : Place → ℕ
 place_number at = at.node * 2 ^ 32 + at.partition
 
 -- a work has a partition, and all was made for its node
-pub record IsThere (work : WorkData) (stages : Stages) (node p : ℕ) : Type 0 where
+pub record IsThere (work : WorkData) (stages : ShuffleInputs) (node p : ℕ) : Type 0 where
   pub known : node < length work.script.nodes
   pub within : p < local_count work node
   pub made : HasMade stages node
 
 -- a partition that is still to be looked at, by its number, which is below another
-pub record IsLeft (work : WorkData) (stages : Stages) (below number : ℕ) : Type 0 where
+pub record IsLeft (work : WorkData) (stages : ShuffleInputs) (below number : ℕ) : Type 0 where
   pub before : number < below
   pub there : IsThere work stages (number / 2 ^ 32) (number % 2 ^ 32)
 
 -- all that is still to be looked at is there
-abbrev pub IsAsking : WorkData → Stages → Asking → Type 0
+abbrev pub IsAsking : WorkData → ShuffleInputs → Asking → Type 0
 IsAsking work stages asking = All (IsLeft work stages asking.below) asking.left.keys
 
 -- a partition of a cache node that is asked for: all that is left is before it
-pub record IsAsked (work : WorkData) (stages : Stages) (asking : Asking) (at : Place) :
+pub record IsAsked (work : WorkData) (stages : ShuffleInputs) (asking : Asking) (at : Place) :
     Type 0 where
   pub cache : is_cache (node_at work at.node) ≡ true
   pub there : IsThere work stages at.node at.partition

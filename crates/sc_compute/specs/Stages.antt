@@ -25,7 +25,7 @@ use Rattle.sc_compute.specs.declared.stages.Input.{Input}
 use Rattle.sc_compute.specs.declared.stages.Input.TheVariants as inputs
 use Rattle.sc_compute.specs.declared.stages.Sides.{Sides}
 use Rattle.sc_compute.specs.declared.stages.Sides.TheVariants.{Narrow, One, Two}
-use Rattle.sc_compute.specs.declared.stages.Stages.{Stages}
+use Rattle.sc_compute.specs.declared.stages.ShuffleInputs.{ShuffleInputs}
 
 -- the node of a number
 abbrev pub node_at : WorkData → ℕ → NodeData
@@ -153,19 +153,19 @@ pub record IsMadeRight (work : WorkData) (counts : List ℕ) (made : ℕ → Opt
   pub are : AreSides work (node_at work k) sides
 
 -- what was made for nodes, by their numbers
-abbrev pub made_in : Stages → ℕ → Option Sides
+abbrev pub made_in : ShuffleInputs → ℕ → Option Sides
 made_in stages = get nat_eq stages.sides
 
 -- what was handed in for a side of a node
-abbrev pub handed_in : Stages → ℕ → ℕ → Option (Vec (List (List Datum)) Global)
+abbrev pub handed_in : ShuffleInputs → ℕ → ℕ → Option (Vec (List (List Datum)) Global)
 handed_in stages node side = get same_place stages.handed (node, side)
 
 -- the bounds of a node that were told
-abbrev pub bounds_told : Stages → ℕ → Option (List KeyData)
+abbrev pub bounds_told : ShuffleInputs → ℕ → Option (List KeyData)
 bounds_told stages = get nat_eq stages.bounds
 
 -- all that was made for the nodes of a work is right, and so is what was handed in and told
-pub record AreRight (work : WorkData) (stages : Stages) : Type 0 where
+pub record AreRight (work : WorkData) (stages : ShuffleInputs) : Type 0 where
   pub counts : length stages.counts.items ≡ length work.script.nodes
   pub each : (k : ℕ) → IfSome (made_in stages k)
       (IsMadeRight work stages.counts.items (made_in stages) k)
@@ -174,15 +174,15 @@ pub record AreRight (work : WorkData) (stages : Stages) : Type 0 where
   pub told : (k : ℕ) → IfSome (bounds_told stages k) (λ bounds. bounds ≡ bounds_at work k)
 
 -- what partitions of a node need was made
-abbrev pub HasMade : Stages → ℕ → Type 0
+abbrev pub HasMade : ShuffleInputs → ℕ → Type 0
 HasMade stages k = IsMade (made_in stages) k
 
 -- something was handed in for a side of a node
-abbrev pub HasOutputs : Stages → ℕ → ℕ → Type 0
+abbrev pub HasOutputs : ShuffleInputs → ℕ → ℕ → Type 0
 HasOutputs stages node side = is_some (handed_in stages node side) ≡ true
 
 -- the bounds of a sort were told; another node needs none
-abbrev pub HasBounds : Stages → ℕ → NodeData → Type 0
+abbrev pub HasBounds : ShuffleInputs → ℕ → NodeData → Type 0
 HasBounds stages k (shuffle_node sort_by_key parent n) = is_some (bounds_told stages k) ≡ true
 HasBounds stages k node = Unit {0}
 
@@ -192,10 +192,10 @@ unless_handed None parent = parent
 unless_handed (Some outputs) parent = None
 
 -- the parents of a node that are to be made before it, each by its side
-abbrev pub left_parent : Stages → ℕ → NodeData → ℕ → Option ℕ
+abbrev pub left_parent : ShuffleInputs → ℕ → NodeData → ℕ → Option ℕ
 left_parent stages k node side =
     unless_handed (handed_in stages k side) (slice_get (parents_of node) side)
 
-abbrev pub parents_left : Stages → ℕ → NodeData → List ℕ
+abbrev pub parents_left : ShuffleInputs → ℕ → NodeData → List ℕ
 parents_left stages k node =
     option_to_list (left_parent stages k node 0) ++ option_to_list (left_parent stages k node 1)

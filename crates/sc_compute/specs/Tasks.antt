@@ -11,14 +11,14 @@ use Rattle.sc_lineage.specs.Views.{action_data_of}
 use Rattle.sc_lineage.specs.declared.streams.Stream.{Stream}
 use Rattle.sc_combine.specs.Outputs.{dealing_of_node}
 use Rattle.sc_compute.specs.Stages.{HasBounds, HasMade, local_count, mapped_in, node_at}
-use Rattle.sc_compute.specs.declared.stages.Stages.{Stages}
-use Rattle.sc_compute.specs.declared.targets.Computed.{Computed}
-use Rattle.sc_compute.specs.declared.targets.Computed.TheVariants.{Output, Raised, Result}
-use Rattle.sc_compute.specs.declared.targets.Target.{Target}
-use Rattle.sc_compute.specs.declared.targets.Target.TheVariants as targets
+use Rattle.sc_compute.specs.declared.stages.ShuffleInputs.{ShuffleInputs}
+use Rattle.sc_compute.specs.declared.targets.TaskOutput.{TaskOutput}
+use Rattle.sc_compute.specs.declared.targets.TaskOutput.TheVariants.{Output, Raised, Result}
+use Rattle.sc_compute.specs.declared.targets.TaskTarget.{TaskTarget}
+use Rattle.sc_compute.specs.declared.targets.TaskTarget.TheVariants as targets
 
 -- what a target stands for
-abbrev pub target_data_of : Target → TargetData
+abbrev pub target_data_of : TaskTarget → TargetData
 target_data_of (targets.Map node side m) = map_target node side m
 target_data_of (targets.Result action p) = result_target (action_data_of action.now) p
 
@@ -38,21 +38,21 @@ IsTargetOf work (result_target action p) =
     × (p < local_count work (node_of_action action))
 
 -- what a target needs was made: for a node whose partition it takes, and the bounds of a sort
-abbrev pub HasAll : WorkData → Stages → TargetData → Type 0
+abbrev pub HasAll : WorkData → ShuffleInputs → TargetData → Type 0
 HasAll work stages (map_target node side m) =
     HasMade stages (mapped_in (node_at work node) side)
     × HasBounds stages node (node_at work node)
 HasAll work stages (result_target action p) = HasMade stages (node_of_action action)
 
 -- a task leaves what goes into a shuffle from map partition m: its rows by bucket, or its raise
-abbrev pub LeavesSide : Dealing → ℕ → Stream → Computed → Type 0
+abbrev pub LeavesSide : Dealing → ℕ → Stream → TaskOutput → Type 0
 LeavesSide dealing m own (Output dealt) =
     (rows : List Datum) × (own ≡ whole_stream rows) × IsDealt dealing m rows dealt
 LeavesSide dealing m own (Raised r) = own ≡ ended_stream (Some r)
 LeavesSide dealing m own (Result s) = ⊥
 
 -- a task leaves what its target is to have computed: a map side by bucket, a result as it is
-abbrev pub Leaves : WorkData → TargetData → Computed → Type 0
+abbrev pub Leaves : WorkData → TargetData → TaskOutput → Type 0
 Leaves work (map_target node side m) left =
     LeavesSide (dealing_of_node work (node_at work node)) m
     (own_value work (map_target node side m)) left

@@ -9,8 +9,8 @@ ghost use Rattle.sc_compute.specs.Tasks.{HasAll, IsSideOf, IsTargetOf, target_da
 
 use crate::directs::places_read;
 use crate::nodes::node_in;
-use crate::stages::Stages;
-use crate::targets::{Target, node_of};
+use crate::stages::ShuffleInputs;
+use crate::targets::{TaskTarget, node_of};
 use sc_lineage::{Node, NodeId, Place, Work};
 use std::alloc::{AllocError, Global};
 use std::collections::BTreeSet;
@@ -31,8 +31,8 @@ impl Asking {
     pub fn new(
         alloc: Global,
         work: &Work,
-        stages: &Stages,
-        target: Target<'_>,
+        stages: &ShuffleInputs,
+        target: TaskTarget<'_>,
     ) -> Result<Asking, AllocError>
         requires target { IsTargetOf work.now (target_data_of target) }
         requires made { HasAll work.now stages.now (target_data_of target) }
@@ -51,7 +51,7 @@ impl Asking {
         &mut self,
         alloc: Global,
         work: &Work,
-        stages: &Stages,
+        stages: &ShuffleInputs,
     ) -> Result<Option<Place>, AllocError>
         requires right { AreRight work.now stages.now }
         requires asking { IsAsking work.now stages.now self.old }
@@ -75,7 +75,7 @@ impl Asking {
         &mut self,
         alloc: Global,
         work: &Work,
-        stages: &Stages,
+        stages: &ShuffleInputs,
         at: Place,
     ) -> Result<(), AllocError>
         requires right { AreRight work.now stages.now }
@@ -94,17 +94,17 @@ impl Asking {
 }
 
 /// The partition that a target takes.
-fn place_of_target(work: &Work, target: Target<'_>) -> Place
+fn place_of_target(work: &Work, target: TaskTarget<'_>) -> Place
     requires target { IsTargetOf work.now (target_data_of target) }
     ensures node { result.node ≡ node_taken work.now (target_data_of target.entry) }
     ensures partition { result.partition ≡ partition_taken (target_data_of target.entry) }
 {
     match target {
-        Target::Map { node, side, map } => Place {
+        TaskTarget::Map { node, side, map } => Place {
             node: parent_in(node_in(work, node), side),
             partition: map,
         },
-        Target::Result { action, partition } => Place {
+        TaskTarget::Result { action, partition } => Place {
             node: node_of(action),
             partition,
         },

@@ -10,7 +10,7 @@ ghost use Rattle.sc_compute.specs.Stages.{AreRight, HasMade, local_count, made_i
 
 use crate::nodes::node_in;
 use crate::shuffles::{ReadFrom, met, shuffled};
-use crate::stages::{Input, Sides, Stages};
+use crate::stages::{Input, ShuffleInputs, Sides};
 use sc_lineage::{Node, NodeId, Place, Stream, Work, reads};
 use sc_ops::run_node;
 use std::alloc::{AllocError, Global};
@@ -20,7 +20,7 @@ use std::alloc::{AllocError, Global};
 pub fn places_read(
     alloc: Global,
     work: &Work,
-    stages: &Stages,
+    stages: &ShuffleInputs,
     at: Place,
 ) -> Result<Vec<Place>, AllocError>
     requires node { at.node < length work.now.script.nodes }
@@ -42,7 +42,7 @@ pub fn places_read(
 fn direct_places(
     alloc: Global,
     work: &Work,
-    stages: &Stages,
+    stages: &ShuffleInputs,
     at: Place,
 ) -> Result<Vec<Place>, AllocError>
     requires node { at.node < length work.now.script.nodes }
@@ -73,7 +73,7 @@ fn direct_places(
 }
 
 /// What the sides of a node are read from, for which all was made.
-fn made_for(stages: &Stages, node: NodeId) -> &Sides
+fn made_for(stages: &ShuffleInputs, node: NodeId) -> &Sides
     requires made { HasMade stages.now node }
     ensures { made_in stages.now node ≡ Some result.now }
 {
@@ -106,7 +106,7 @@ fn push_own(
 pub fn stream_of(
     alloc: Global,
     work: &Work,
-    stages: &Stages,
+    stages: &ShuffleInputs,
     at: Place,
     inputs: &[Stream],
 ) -> Result<Stream, AllocError>

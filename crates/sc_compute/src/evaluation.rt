@@ -8,7 +8,7 @@ ghost use Rattle.sc_compute.specs.Evaluations.{Gives};
 ghost use Rattle.sc_compute.specs.Stages.{AreRight, HasMade};
 
 use crate::gathered::Gathered;
-use crate::stages::Stages;
+use crate::stages::ShuffleInputs;
 use crate::targets::{action_result, node_of};
 use sc_lineage::{Action, DriverFault, Work, count_at};
 use sc_value::Octets;
@@ -33,7 +33,7 @@ pub enum Evaluated {
 pub fn evaluate(
     alloc: Global,
     work: &Work,
-    stages: &mut Stages,
+    stages: &mut ShuffleInputs,
     action: &Action,
 ) -> Result<Evaluated, AllocError>
     requires known { node_of_action (action_data_of action.now) < length work.now.script.nodes }
@@ -49,7 +49,7 @@ pub fn evaluate(
 fn gather(
     alloc: Global,
     work: &Work,
-    stages: &Stages,
+    stages: &ShuffleInputs,
     action: &Action,
 ) -> Result<Evaluated, AllocError>
     requires known { node_of_action (action_data_of action.now) < length work.now.script.nodes }

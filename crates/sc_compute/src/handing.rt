@@ -7,7 +7,7 @@ ghost use Rattle.sc_lineage.specs.NodeData.{shuffle_node};
 ghost use Rattle.sc_compute.specs.Stages.{AreOutputs, AreRight, HasBounds, HasMade, HasOutputs, bounds_at, bounds_told, handed_in, left_parent, node_at, unless_handed};
 
 use crate::parents::{Parents, parents_of};
-use crate::stages::Stages;
+use crate::stages::ShuffleInputs;
 use sc_lineage::{Node, NodeId, Shuffling, Work};
 use sc_part::Bounds;
 use sc_shuffle::MapOutput;
@@ -22,7 +22,7 @@ pub struct SideId {
     pub side: u8,
 }
 
-impl Stages {
+impl ShuffleInputs {
     /// Takes in what the tasks of a side left, one of each map partition in order. What is behind
     /// the side is then neither made nor computed.
     pub fn hand_in(

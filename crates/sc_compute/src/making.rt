@@ -16,7 +16,7 @@ use crate::counting::narrow_count;
 use crate::handing::SideId;
 use crate::mapping::{deal_one, mapped_rows};
 use crate::nodes::node_in;
-use crate::stages::{Input, Sides, Stages};
+use crate::stages::{Input, ShuffleInputs, Sides};
 use sc_base::OrMemory;
 use sc_columns::Rows;
 use sc_combine::bounds_between;
@@ -33,7 +33,7 @@ use std::alloc::{AllocError, Global};
 pub fn make(
     alloc: Global,
     work: &Work,
-    stages: &Stages,
+    stages: &ShuffleInputs,
     node: NodeId,
 ) -> Result<(u32, Sides), AllocError>
     requires known { node < length work.now.script.nodes }
@@ -76,7 +76,7 @@ pub fn make(
 fn input_of(
     alloc: Global,
     work: &Work,
-    stages: &Stages,
+    stages: &ShuffleInputs,
     at: SideId,
     kind: &Shuffling,
     parent: NodeId,
@@ -131,7 +131,7 @@ fn parts_handed(outputs: &[MapOutput]) -> u32
 fn make_input(
     alloc: Global,
     work: &Work,
-    stages: &Stages,
+    stages: &ShuffleInputs,
     kind: &Shuffling,
     parent: NodeId,
     n: u32,
@@ -178,7 +178,7 @@ fn lies_so(work: &Work, wanted: Partitioner, parent: NodeId) -> bool
 fn map_sides(
     alloc: Global,
     work: &Work,
-    stages: &Stages,
+    stages: &ShuffleInputs,
     kind: &Shuffling,
     parent: NodeId,
 ) -> Result<Vec<Rows>, OrMemory<Raise>>

@@ -17,8 +17,8 @@ use crate::caching::Caching;
 use crate::handing::SideId;
 use crate::nodes::node_in;
 use crate::partitions::{cached_stream, partition_stream};
-use crate::stages::Stages;
-use crate::targets::Computed;
+use crate::stages::ShuffleInputs;
+use crate::targets::TaskOutput;
 use sc_base::OrMemory;
 use sc_columns::Rows;
 use sc_combine::{dealt_by_hash, dealt_by_range, dealt_in_turn, map_side};
@@ -32,11 +32,11 @@ use std::alloc::{AllocError, Global};
 pub fn map_output(
     alloc: Global,
     work: &Work,
-    stages: &Stages,
+    stages: &ShuffleInputs,
     caching: &mut Caching<'_>,
     at: SideId,
     map: u32,
-) -> Result<Computed, AllocError>
+) -> Result<TaskOutput, AllocError>
     requires known { at.node < length work.now.script.nodes }
     requires side { IsSideOf (node_at work.now at.node) at.side }
     requires map { map < local_count work.now (mapped_in (node_at work.now at.node) at.side) }
@@ -91,7 +91,7 @@ fn output_of(
     bounds: &Bounds,
     stream: &Stream,
     m: u32,
-) -> Result<Computed, AllocError>
+) -> Result<TaskOutput, AllocError>
     requires some_partitions { 0 < n }
     ensures { IfOk result (LeavesSide (dealing_of (shuffling_data_of kind.now) n bounds.now) m
         (stream_of_side (map_side_of (shuffling_data_of kind.now) stream.now))) }
@@ -99,9 +99,9 @@ fn output_of(
     match map_side(alloc, kind, stream) {
         Ok(rows) => {
             let dealt = deal_one(alloc, kind, n, bounds, &rows, m as usize)?;
-            Ok(Computed::Output(dealt))
+            Ok(TaskOutput::Output(dealt))
         }
-        Err(OrMemory::Fault(raise)) => Ok(Computed::Raised(raise)),
+        Err(OrMemory::Fault(raise)) => Ok(TaskOutput::Raised(raise)),
         Err(OrMemory::OutOfMemory) => Err(AllocError),
     }
 }
@@ -114,7 +114,7 @@ fn output_of(
 pub fn mapped_rows(
     alloc: Global,
     work: &Work,
-    stages: &Stages,
+    stages: &ShuffleInputs,
     kind: &Shuffling,
     from: Place,
 ) -> Result<Rows, OrMemory<Raise>>

@@ -12,7 +12,7 @@ ghost use Rattle.sc_compute.specs.Stages.{AreRight, HasMade, local_count};
 use crate::caching::Caching;
 use crate::directs::{places_read, stream_of};
 use crate::kept::KeptStreams;
-use crate::stages::Stages;
+use crate::stages::ShuffleInputs;
 use sc_lineage::{Place, Stream, Work};
 use std::alloc::{AllocError, Global};
 
@@ -21,7 +21,7 @@ use std::alloc::{AllocError, Global};
 pub fn partition_stream(
     alloc: Global,
     work: &Work,
-    stages: &Stages,
+    stages: &ShuffleInputs,
     at: Place,
 ) -> Result<Stream, AllocError>
     requires node { at.node < length work.now.script.nodes }
@@ -39,7 +39,7 @@ pub fn partition_stream(
 pub fn cached_stream(
     alloc: Global,
     work: &Work,
-    stages: &Stages,
+    stages: &ShuffleInputs,
     caching: &mut Caching<'_>,
     at: Place,
 ) -> Result<Stream, AllocError>
@@ -60,7 +60,7 @@ pub fn cached_stream(
 fn stream_at(
     alloc: Global,
     work: &Work,
-    stages: &Stages,
+    stages: &ShuffleInputs,
     kept: &mut KeptStreams,
     caching: &mut Caching<'_>,
     at: Place,

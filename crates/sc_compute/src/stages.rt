@@ -39,7 +39,7 @@ pub enum Sides {
 /// its shuffles, each of which is computed once, whatever reads it. What other tasks left of a side
 /// can be handed in, and the bounds of a sort told.
 #[derive(Drop)]
-pub struct Stages {
+pub struct ShuffleInputs {
     /// By node; 0 where nothing was made.
     counts: Vec<u32>,
     /// By node, where something was made.
@@ -50,12 +50,12 @@ pub struct Stages {
     pub(crate) bounds: HashMap<NodeId, Bounds>,
 }
 
-impl Stages {
+impl ShuffleInputs {
     /// Nothing yet.
-    pub fn new(alloc: Global, work: &Work) -> Result<Stages, AllocError>
+    pub fn new(alloc: Global, work: &Work) -> Result<ShuffleInputs, AllocError>
         ensures { IfOk result (AreRight work.now) }
     {
-        Ok(Stages {
+        Ok(ShuffleInputs {
             counts: vec![in alloc; 0; work.script().nodes().len()]?,
             sides: HashMap::new(alloc),
             handed: HashMap::new(alloc),

@@ -14,7 +14,7 @@ use crate::caching::{CachedPart, Caching};
 use crate::handing::SideId;
 use crate::mapping::map_output;
 use crate::partitions::{cached_stream, partition_stream};
-use crate::stages::Stages;
+use crate::stages::ShuffleInputs;
 use sc_expr::Raise;
 use sc_lineage::{Action, NodeId, Place, Stream, Work};
 use sc_ops::fold_stream;
@@ -23,7 +23,7 @@ use std::alloc::{AllocError, Global};
 
 /// What is to be computed.
 #[derive(Clone, Copy)]
-pub enum Target<'a> {
+pub enum TaskTarget<'a> {
     /// What goes into a shuffle from a map partition.
     Map {
         /// The node that reads the shuffle.
@@ -44,7 +44,7 @@ pub enum Target<'a> {
 
 /// What a task leaves.
 #[derive(Drop)]
-pub enum Computed {
+pub enum TaskOutput {
     /// What goes into a shuffle from a map partition, by bucket.
     Output(MapOutput),
     /// The first raise of what goes into a shuffle from a map partition.
@@ -54,13 +54,13 @@ pub enum Computed {
 }
 
 /// What a task leaves: what its target is to have computed. All that the target needs was made:
-/// [`Stages::prepare`] makes it, by what was handed in.
+/// [`ShuffleInputs::prepare`] makes it, by what was handed in.
 pub fn compute(
     alloc: Global,
     work: &Work,
-    stages: &Stages,
-    target: Target<'_>,
-) -> Result<Computed, AllocError>
+    stages: &ShuffleInputs,
+    target: TaskTarget<'_>,
+) -> Result<TaskOutput, AllocError>
     requires target { IsTargetOf work.now (target_data_of target) }
     requires right { AreRight work.now stages.now }
     requires made { HasAll work.now stages.now (target_data_of target) }
@@ -76,10 +76,10 @@ pub fn compute(
 pub fn compute_cached(
     alloc: Global,
     work: &Work,
-    stages: &Stages,
+    stages: &ShuffleInputs,
     known: &[CachedPart],
-    target: Target<'_>,
-) -> Result<(Computed, Vec<CachedPart>), AllocError>
+    target: TaskTarget<'_>,
+) -> Result<(TaskOutput, Vec<CachedPart>), AllocError>
     requires target { IsTargetOf work.now (target_data_of target) }
     requires right { AreRight work.now stages.now }
     requires made { HasAll work.now stages.now (target_data_of target) }
@@ -96,10 +96,10 @@ pub fn compute_cached(
 fn left_by(
     alloc: Global,
     work: &Work,
-    stages: &Stages,
+    stages: &ShuffleInputs,
     caching: &mut Caching<'_>,
-    target: Target<'_>,
-) -> Result<Computed, AllocError>
+    target: TaskTarget<'_>,
+) -> Result<TaskOutput, AllocError>
     requires target { IsTargetOf work.now (target_data_of target) }
     requires right { AreRight work.now stages.now }
     requires made { HasAll work.now stages.now (target_data_of target) }
@@ -108,14 +108,14 @@ fn left_by(
     ensures leaves { IfOk result (Leaves work.now (target_data_of target.entry)) }
 {
     match target {
-        Target::Map { node, side, map } => {
+        TaskTarget::Map { node, side, map } => {
             map_output(alloc, work, stages, caching, SideId { node, side }, map)
         }
-        Target::Result { action, partition } => {
+        TaskTarget::Result { action, partition } => {
             let node = node_of(action);
             let at = Place { node, partition };
             let stream = cached_stream(alloc, work, stages, caching, at)?;
-            Ok(Computed::Result(result(alloc, action, stream)?))
+            Ok(TaskOutput::Result(result(alloc, action, stream)?))
         }
     }
 }
@@ -124,7 +124,7 @@ fn left_by(
 pub(crate) fn action_result(
     alloc: Global,
     work: &Work,
-    stages: &Stages,
+    stages: &ShuffleInputs,
     action: &Action,
     partition: u32,
 ) -> Result<Stream, AllocError>

@@ -8,8 +8,8 @@ use Rattle.sc_value.specs.Datum.{Datum}
 use Rattle.sc_lineage.specs.ScriptData.{WorkData, IsSoundScript}
 use Rattle.sc_core.specs.declared.answers.Abort.{Abort}
 use Rattle.sc_core.specs.CoreData.{CoreData}
-use Rattle.sc_core.specs.declared.answers.Job.{Job}
-use Rattle.sc_core.specs.declared.answers.Job.TheVariants as jobs
+use Rattle.sc_core.specs.declared.answers.JobState.{JobState}
+use Rattle.sc_core.specs.declared.answers.JobState.TheVariants as jobs
 use Rattle.sc_core.specs.declared.journals.JobHistory.{JobHistory}
 use Rattle.sc_stagecut.specs.Carrying.{HasBounds}
 use Rattle.sc_jobs.specs.JobData.{IsGoal, goal_action, goal_node}
@@ -81,7 +81,7 @@ ended_short work p before after h goal come is unaborted all = (
 )
 
 -- a job that is done was not aborted
-is_done_job : Job → Bool
+is_done_job : JobState → Bool
 is_done_job jobs.Done = true
 is_done_job job = false
 

@@ -5,7 +5,7 @@ use Rattle.sc_lineage.specs.ScriptData.{WorkData}
 use Rattle.sc_core.specs.Journals.{Replays}
 use Rattle.sc_core.specs.declared.answers.Abort.{Abort}
 use Rattle.sc_core.specs.declared.answers.Abort.TheVariants.{Budget, NoExecutor, StageLimit, TaskLimit}
-use Rattle.sc_core.specs.declared.answers.Job.TheVariants as jobs
+use Rattle.sc_core.specs.declared.answers.JobState.TheVariants as jobs
 use Rattle.sc_core.specs.declared.journals.JobHistory.{JobHistory}
 use Rattle.sc_causes.specs.Losses.{IsLostBy}
 use Rattle.sc_history.specs.Budgets.{ShowsBudget}

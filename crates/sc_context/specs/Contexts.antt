@@ -11,7 +11,7 @@ use Rattle.sc_stagecut.specs.Carrying.{CarriedData, after_job}
 use Rattle.sc_core.specs.CoreData.{CoreData}
 use Rattle.sc_core.specs.Openings.{told_before, tracker_behind}
 use Rattle.sc_core.specs.declared.answers.Abort.{Abort}
-use Rattle.sc_core.specs.declared.answers.Job.TheVariants.{Done}
+use Rattle.sc_core.specs.declared.answers.JobState.TheVariants.{Done}
 use Rattle.sc_core.specs.declared.journals.JobHistory.{JobHistory}
 use Rattle.sc_jobs.specs.JobData.{goal_action}
 use Rattle.sc_jobs.specs.declared.goals.Goal.{Goal}

@@ -8,7 +8,7 @@ use Rattle.sc_lineage.specs.ScriptData.{WorkData}
 use Rattle.sc_lineage.specs.Streams.{whole_stream}
 use Rattle.sc_core.specs.CoreData.{CoreData}
 use Rattle.sc_core.specs.declared.answers.Abort.{Abort}
-use Rattle.sc_core.specs.declared.answers.Job.TheVariants as jobs
+use Rattle.sc_core.specs.declared.answers.JobState.TheVariants as jobs
 use Rattle.sc_jobs.specs.JobData.{goal_action}
 use Rattle.sc_jobs.specs.declared.goals.Goal.{Goal}
 use Rattle.sc_store.specs.StoreData.{StoreData}

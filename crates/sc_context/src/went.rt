@@ -6,7 +6,7 @@ ghost use Rattle.sc_context.specs.Contexts.{AreReadyBehind};
 ghost use Rattle.sc_context.specs.Jobs.{AreRowsOf, HasNoRows};
 ghost use Rattle.sc_context.specs.Results.{AreThere};
 ghost use Rattle.sc_core.specs.Journals.{Replays};
-ghost use Rattle.sc_core.specs.declared.answers.Job.TheVariants.{Done};
+ghost use Rattle.sc_core.specs.declared.answers.JobState.TheVariants.{Done};
 ghost use Rattle.sc_desk.specs.Begins.{FitsLast, IsPassedFor};
 ghost use Rattle.sc_desk.specs.Sound.{AreEvident};
 ghost use Rattle.sc_world.specs.Serial.{IsResting};
@@ -14,7 +14,7 @@ ghost use Rattle.sc_world.specs.Serial.{IsResting};
 use crate::results::all_rows;
 use sc_base::OrMemory;
 use sc_columns::Rows;
-use sc_core::{Abort, Core, Job, JobHistory};
+use sc_core::{Abort, Core, JobHistory, JobState};
 use sc_desk::{Closed, Passed};
 use sc_jobs::laws_of_jobs;
 use sc_store::Store;
@@ -83,8 +83,8 @@ fn rows_of(
     ensures none { IfErr result (HasNoRows end.now) }
 {
     match end.job() {
-        Job::Done => Ok(all_rows(alloc, results)?),
-        Job::Aborted(abort) => Err(OrMemory::Fault(abort)),
-        Job::Running => Err(OrMemory::OutOfMemory),
+        JobState::Done => Ok(all_rows(alloc, results)?),
+        JobState::Aborted(abort) => Err(OrMemory::Fault(abort)),
+        JobState::Running => Err(OrMemory::OutOfMemory),
     }
 }

@@ -28,8 +28,8 @@ use Rattle.sc_core.specs.Sound.{was_given}
 use Rattle.sc_core.specs.Tells.{FailsBy, FailsOrAborts, FollowsUp, IsGone, LooksAgain, Misses, MissesIf, Tells, TellsFailure, TellsFailureIf, TellsMap, TellsResult, after_failure, after_result, done_if, is_zombie_in, limit_of, released, with_result_of}
 use Rattle.sc_core.specs.declared.answers.Abort.TheVariants.{StageLimit}
 use Rattle.sc_core.specs.declared.answers.Answer.{Answer}
-use Rattle.sc_core.specs.declared.answers.Job.{Job}
-use Rattle.sc_core.specs.declared.answers.Job.TheVariants as jobs
+use Rattle.sc_core.specs.declared.answers.JobState.{JobState}
+use Rattle.sc_core.specs.declared.answers.JobState.TheVariants as jobs
 use Rattle.sc_core.specs.declared.events.Outcome.{Outcome}
 use Rattle.sc_core.specs.declared.events.Outcome.TheVariants as outcomes
 use Rattle.sc_core.specs.declared.running.Running.{Running}
@@ -114,7 +114,7 @@ left_same c =
     }
 
 -- a job that ends
-left_ended : (c : CoreData) (job : Job) → is_running_job job ≡ false → Left c (ended c job)
+left_ended : (c : CoreData) (job : JobState) → is_running_job job ≡ false → Left c (ended c job)
 left_ended c job over =
     record {
       limits = refl;

@@ -10,7 +10,7 @@ use Rattle.sc_taskset.specs.Lookups.{copy_at, is_task_of, task_at, without_exec}
 use Rattle.sc_taskset.specs.Reports.{after_loss, lost_task, redoes_lost}
 use Rattle.sc_taskset.specs.Sound.{AreApart, IsSoundTask}
 use Rattle.sc_taskset.specs.TaskSetData.{TaskData, TaskSetData}
-use Rattle.sc_taskset.specs.declared.tasks.Running.{Running}
+use Rattle.sc_taskset.specs.declared.tasks.RunningCopy.{RunningCopy}
 use Rattle.sc_taskset.proofs.FindLemmas.{found_is}
 use Rattle.sc_tracker.specs.TrackerData.{trust_of}
 use Rattle.sc_tracker.specs.Trust.{is_live, lost_at, untold}
@@ -34,7 +34,7 @@ unless_on exec (Some on) = if on == exec then None else Some on
 
 -- ---- in a task
 
-one_left : (exec nth : ℕ) (c : Running)
+one_left : (exec nth : ℕ) (c : RunningCopy)
     → exec_in (copy_at nth (without_exec exec (c ∷ [])))
     ≡ unless_on exec (exec_in (copy_at nth (c ∷ [])))
 one_left exec nth c = by (c.exec == exec) (c.nth == nth) refl refl
@@ -47,7 +47,7 @@ one_left exec nth c = by (c.exec == exec) (c.nth == nth) refl refl
     by false true e f = rw (f, e) refl
     by false false e f = rw f refl
 
-copies_left : (exec nth : ℕ) (copies : List Running) → AreApart copies
+copies_left : (exec nth : ℕ) (copies : List RunningCopy) → AreApart copies
     → exec_in (copy_at nth (without_exec exec copies))
     ≡ unless_on exec (exec_in (copy_at nth copies))
 copies_left exec nth [] apart = refl

@@ -12,7 +12,7 @@ use Rattle.sc_tracker.specs.TrackerData.{TrackerData}
 use Rattle.sc_core.specs.CoreData.{CoreData, core_data, result_stage}
 use Rattle.sc_core.specs.Openings.{BeginsWith, IsOpening, now_before, plan_behind, told_before, tracker_behind}
 use Rattle.sc_core.specs.Sound.{IsSoundCore}
-use Rattle.sc_core.specs.declared.answers.Job.TheVariants as jobs
+use Rattle.sc_core.specs.declared.answers.JobState.TheVariants as jobs
 use Rattle.sc_core.proofs.LawLemmas.{openings_are_sound}
 
 -- the stages are opened, and the result stage is submitted

@@ -26,7 +26,7 @@ use Rattle.sc_core.specs.Posts.{fits}
 use Rattle.sc_core.specs.Sound.{GoesOn, IsSoundJob, RunsWell}
 use Rattle.sc_core.specs.Tells.{TellsResult, after_result, done_if, released, with_result_of}
 use Rattle.sc_core.specs.declared.answers.Answer.{Answer}
-use Rattle.sc_core.specs.declared.answers.Job.TheVariants as jobs
+use Rattle.sc_core.specs.declared.answers.JobState.TheVariants as jobs
 use Rattle.sc_core.specs.declared.events.Outcome.TheVariants as outcomes
 use Rattle.sc_core.specs.declared.running.Running.{Running}
 use Rattle.sc_core.proofs.TaskCallLemmas.{ended_results, hold_free, hold_results, result_moves}

@@ -6,7 +6,7 @@ use Rattle.sc_ids.specs.declared.attempts.AttemptId.{AttemptId}
 use Rattle.sc_taskset.specs.Lookups.{copy_at, is_task_of, task_at, with_task, without_copy}
 use Rattle.sc_taskset.specs.Offers.{running}
 use Rattle.sc_taskset.specs.TaskSetData.{TaskData, TaskSetData}
-use Rattle.sc_taskset.specs.declared.tasks.Running.{Running}
+use Rattle.sc_taskset.specs.declared.tasks.RunningCopy.{RunningCopy}
 use Rattle.sc_taskset.proofs.ChangeLemmas.{all_kept, find_changed, find_other}
 use Rattle.sc_dag.specs.Sound.{runner_among, runner_in}
 use Rattle.sc_core.specs.Sound.{given_among, given_in}
@@ -34,7 +34,7 @@ nothing b = false
 
 -- ---- running attempts by their numbers
 
-abbrev pub exec_in : Option Running → Option ℕ
+abbrev pub exec_in : Option RunningCopy → Option ℕ
 exec_in o = option_map (λ c. c.exec) o
 
 abbrev is_same_option : (A : Type 0) → Option A → Option A → Type 0
@@ -46,9 +46,9 @@ none_if A false = refl
 
 -- an attempt taken away
 find_without :
-    (nth m : ℕ) (copies : List Running)
+    (nth m : ℕ) (copies : List RunningCopy)
     → copy_at m (without_copy nth copies) ≡ (if nth == m then None else copy_at m copies)
-find_without nth m [] = none_if Running (nth == m)
+find_without nth m [] = none_if RunningCopy (nth == m)
 find_without nth m (c ∷ copies) =
     by (c.nth == nth) (c.nth == m) (nth == m) refl refl refl (find_without nth m copies)
   where
@@ -66,7 +66,7 @@ find_without nth m (c ∷ copies) =
 
 -- one more attempt, of a number above all others
 pub find_push :
-    (given exec now m : ℕ) (copies : List Running) → All (λ c. c.nth < given) copies
+    (given exec now m : ℕ) (copies : List RunningCopy) → All (λ c. c.nth < given) copies
     → exec_in (copy_at m (copies ++ running given exec now ∷ []))
     ≡ (if given == m then Some exec else exec_in (copy_at m copies))
 find_push given exec now m [] all = by (given == m)
@@ -222,7 +222,7 @@ pub ends_task :
 ends_task a f old now same free copies keeps is =
     changed_task a None f old now same free (λ m. by m (task_at a.partition old.tasks)) keeps is
   where
-    exec_of : (b : Bool) (o : Option Running)
+    exec_of : (b : Bool) (o : Option RunningCopy)
         → exec_in (if b then None else o) ≡ (if b then None else exec_in o)
     exec_of true o = refl
     exec_of false o = refl

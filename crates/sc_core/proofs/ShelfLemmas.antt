@@ -14,7 +14,7 @@ use Rattle.sc_commit.specs.Committing.{is_same}
 use Rattle.sc_taskset.specs.Lookups.{copy_at, is_task_of, task_at}
 use Rattle.sc_taskset.specs.Sound.{IsSoundTask}
 use Rattle.sc_taskset.specs.TaskSetData.{TaskData, TaskSetData}
-use Rattle.sc_taskset.specs.declared.tasks.Running as taskset
+use Rattle.sc_taskset.specs.declared.tasks.RunningCopy as taskset
 use Rattle.sc_taskset.proofs.FindLemmas.{found_is, found_passes, pairs_head, pairs_tail}
 use Rattle.sc_dag.specs.DagData.{DagData, no_stage}
 use Rattle.sc_dag.specs.Offers.{handed_out, newest_number}
@@ -60,7 +60,7 @@ pub runs_given :
     → was_given d a ≡ true
 runs_given d a exec sound runs = by (set_of d a) refl runs
   where
-    copy : (t : TaskData) → IsSoundTask t → (o : Option taskset.Running)
+    copy : (t : TaskData) → IsSoundTask t → (o : Option taskset.RunningCopy)
         → copy_at a.nth t.copies ≡ o → option_map (λ c. c.exec) o ≡ Some exec
         → nat_lt a.nth t.given ≡ true
     copy t is None e h = absurd (search (rules, h))

@@ -249,5 +249,11 @@ outs_further further each (r ∷ rs) =
 
 pub aside_left : (c after : CoreData) → IsAside c after → left_to_do after ≡ left_to_do c
 aside_left c after is =
-    rw (is.dag, is.handed, is.running, is.shelf, is.plan,
-    outs_further is.further is.each c.running) refl
+    rw (
+      is.dag,
+      is.handed,
+      is.running,
+      is.shelf,
+      is.plan,
+      outs_further is.further is.each c.running,
+    ) refl

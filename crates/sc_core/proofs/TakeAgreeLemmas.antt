@@ -5,7 +5,7 @@ use Rattle.sc_ids.specs.declared.attempts.AttemptId.{AttemptId}
 use Rattle.sc_taskset.specs.Offers.{IsNever, IsNext, IsSmallest, Offers, is_copyable, is_pending}
 use Rattle.sc_taskset.specs.Offers as taskset
 use Rattle.sc_taskset.specs.TaskSetData.{TaskSetData}
-use Rattle.sc_taskset.specs.declared.tasks.Given.{Given}
+use Rattle.sc_taskset.specs.declared.tasks.GivenTask.{GivenTask}
 use Rattle.sc_dag.specs.DagData.{DagData, newest_at}
 use Rattle.sc_dag.specs.Offers.{HasNone, IsOffer, OffersIn, given_of, newest_number}
 use Rattle.sc_dag.proofs.Tests.{clash}
@@ -20,7 +20,7 @@ smallest_agree test p q a b =
     search (arith, nat_tests, rules, a.passes, b.passes, a.smallest, b.smallest)
 
 -- nothing is offered, or something
-none_or : (o : Option TaskSetData) (exec : ℕ) (g : Given) → OffersIn o exec None
+none_or : (o : Option TaskSetData) (exec : ℕ) (g : GivenTask) → OffersIn o exec None
     → OffersIn o exec (Some g) → ⊥
 none_or None exec g a b = b
 none_or (Some set) exec g (no_pending, no_copy) (next, nth) = by next
@@ -35,7 +35,7 @@ next_agree set exec p q (inl a) (inr (never, b)) = absurd (clash a.passes (never
 next_agree set exec p q (inr (never, a)) (inl b) = absurd (clash b.passes (never q))
 next_agree set exec p q (inr (n, a)) (inr (m, b)) = smallest_agree (is_copyable set exec) p q a b
 
-given_agree : (o : Option TaskSetData) (exec : ℕ) (g h : Given) → OffersIn o exec (Some g)
+given_agree : (o : Option TaskSetData) (exec : ℕ) (g h : GivenTask) → OffersIn o exec (Some g)
     → OffersIn o exec (Some h) → (g.partition ≡ h.partition) × (g.nth ≡ h.nth)
 given_agree None exec g h a b = absurd a
 given_agree (Some set) exec g h (next, nth) (next', nth') =

@@ -6,7 +6,7 @@ use Rattle.sc_ids.specs.declared.attempts.AttemptId.{AttemptId}
 use Rattle.sc_taskset.specs.Rows.{offered_task}
 use Rattle.sc_taskset.specs.Sound.{AreRising}
 use Rattle.sc_taskset.specs.TaskSetData.{TaskData, TaskSetData, partitions_of}
-use Rattle.sc_taskset.specs.declared.tasks.Given.{Given}
+use Rattle.sc_taskset.specs.declared.tasks.GivenTask.{GivenTask}
 use Rattle.sc_taskset.proofs.OfferLemmas.{offer_of, offers_nothing, offers_task}
 use Rattle.sc_dag.specs.DagData.{DagData, newest_at}
 use Rattle.sc_dag.specs.Offers.{HasNone, IsOffer, OffersIn, newest_number}
@@ -21,7 +21,7 @@ use Rattle.sc_core.specs.Takes.{IsAsking, IsHandOut, Takes, is_lost, with_task}
 use Rattle.sc_core.specs.declared.answers.Abort.TheVariants as aborts
 use Rattle.sc_core.specs.declared.answers.Answer.{Answer}
 use Rattle.sc_core.specs.declared.answers.Answer.TheVariants as says
-use Rattle.sc_core.specs.declared.answers.Job.TheVariants as jobs
+use Rattle.sc_core.specs.declared.answers.JobState.TheVariants as jobs
 use Rattle.sc_core.proofs.LookupLemmas.{attempt}
 
 -- ---- what there is for an executor
@@ -29,7 +29,7 @@ use Rattle.sc_core.proofs.LookupLemmas.{attempt}
 -- a set has a task for it, or none
 set_offers :
     (d : DagData) (s exec : ℕ) → IsSoundDag d → (o : Option TaskSetData) → newest_at d s ≡ o
-    → ((g : Given) × OffersIn o exec (Some g)) ⊎ OffersIn o exec None
+    → ((g : GivenTask) × OffersIn o exec (Some g)) ⊎ OffersIn o exec None
 set_offers d s exec sound None e = inr tt
 set_offers d s exec sound (Some set) e =
     by (offered_task set.is_zombie set.limits.speculation exec set.tasks) refl
@@ -41,7 +41,7 @@ set_offers d s exec sound (Some set) e =
 
     by : (o : Option TaskData)
         → offered_task set.is_zombie set.limits.speculation exec set.tasks ≡ o
-        → ((g : Given) × OffersIn (Some set) exec (Some g)) ⊎ OffersIn (Some set) exec None
+        → ((g : GivenTask) × OffersIn (Some set) exec (Some g)) ⊎ OffersIn (Some set) exec None
     by None f = inr (offers_nothing set exec f)
     by (Some t) f = inl (offer_of t, offers_task set exec t rising f)
 
@@ -56,7 +56,7 @@ first_offers d exec sound (suc n) =
   where
     by : ((a : AttemptId) × IsOffer d exec a)
         ⊎ ((s : ℕ) → s < n → OffersIn (newest_at d s) exec None)
-        → ((g : Given) × OffersIn (newest_at d n) exec (Some g))
+        → ((g : GivenTask) × OffersIn (newest_at d n) exec (Some g))
         ⊎ OffersIn (newest_at d n) exec None
         → ((a : AttemptId) × IsOffer d exec a)
         ⊎ ((s : ℕ) → s < suc n → OffersIn (newest_at d s) exec None)

@@ -10,7 +10,7 @@ use Rattle.sc_core.specs.Takes.{IsAsking, IsHandOut, Takes, with_task}
 use Rattle.sc_core.specs.declared.answers.Abort.TheVariants as aborts
 use Rattle.sc_core.specs.declared.answers.Answer.{Answer}
 use Rattle.sc_core.specs.declared.answers.Answer.TheVariants as says
-use Rattle.sc_core.specs.declared.answers.Job.TheVariants as jobs
+use Rattle.sc_core.specs.declared.answers.JobState.TheVariants as jobs
 
 -- a task is handed out
 pub record GivesTask (c after : CoreData) (exec : ℕ) (answer : Answer) : Type 0 where

@@ -9,7 +9,7 @@ use Rattle.std.proofs.lemmas.List.Quantifiers.{all_pairs_push}
 use Rattle.sc_ids.specs.declared.attempts.AttemptId.{AttemptId}
 use Rattle.sc_commit.specs.Committing.{is_same}
 use Rattle.sc_taskset.specs.Lookups.{copy_at}
-use Rattle.sc_taskset.specs.declared.tasks.Running as taskset
+use Rattle.sc_taskset.specs.declared.tasks.RunningCopy as taskset
 use Rattle.sc_dag.specs.DagData.{DagData}
 use Rattle.sc_dag.specs.Laws.{CallsKeepSound, OthersGoOn}
 use Rattle.sc_dag.specs.Offers.{handed_out, newest_number}
@@ -24,7 +24,7 @@ use Rattle.sc_core.specs.declared.answers.Abort.{Abort}
 use Rattle.sc_core.specs.declared.answers.Abort.TheVariants as aborts
 use Rattle.sc_core.specs.declared.answers.Answer.{Answer}
 use Rattle.sc_core.specs.declared.answers.Answer.TheVariants as says
-use Rattle.sc_core.specs.declared.answers.Job.TheVariants as jobs
+use Rattle.sc_core.specs.declared.answers.JobState.TheVariants as jobs
 use Rattle.sc_core.specs.declared.running.Running.{Running}
 use Rattle.sc_core.proofs.LookupLemmas.{is_itself, same_is, set_of_newest}
 use Rattle.sc_core.proofs.MoveLemmas.{Moves, state_results}
@@ -83,7 +83,7 @@ aborted_sound c why sound =
 
 -- an attempt that runs has another number than the one that comes next
 runs_below :
-    (nth : ℕ) (copies : List taskset.Running) → All (λ c. c.nth < nth) copies
+    (nth : ℕ) (copies : List taskset.RunningCopy) → All (λ c. c.nth < nth) copies
     → copy_at nth copies ≡ None
 runs_below nth [] all = refl
 runs_below nth (c ∷ copies) all =
@@ -102,7 +102,7 @@ offered_new d exec a o number =
     (ap (λ (n : ℕ). copy_at n o.task.copies) o.nth
     ∙ runs_below o.task.given o.task.copies o.sound.handed_out)
   where
-    exec_of : Option taskset.Running → Option ℕ
+    exec_of : Option taskset.RunningCopy → Option ℕ
     exec_of x = option_map (λ c. c.exec) x
 
 pub task_sound :

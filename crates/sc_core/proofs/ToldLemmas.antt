@@ -18,7 +18,7 @@ use Rattle.sc_dag.specs.Sound.{IsSoundDag, runner_of}
 use Rattle.sc_dag.specs.Submission.{is_map}
 use Rattle.sc_core.specs.CoreData.{CoreData, is_of, job_runs, result_stage, running_of}
 use Rattle.sc_core.specs.Sound.{AreTwo, GoesOn, IsSoundJob, RunsWell}
-use Rattle.sc_core.specs.declared.answers.Job.TheVariants as jobs
+use Rattle.sc_core.specs.declared.answers.JobState.TheVariants as jobs
 use Rattle.sc_core.specs.declared.running.Running.{Running}
 use Rattle.sc_core.proofs.MoveLemmas.{Moves, SameResults}
 use Rattle.sc_core.proofs.RunningLemmas.{found_beside, same_sym}

@@ -4,7 +4,7 @@ use Rattle.std.proofs.lemmas.Bool.Decides.{nat_tests}
 use Rattle.std.proofs.lemmas.List.Elements.{All-head}
 use Rattle.sc_ids.specs.declared.attempts.AttemptId.{AttemptId}
 use Rattle.sc_taskset.specs.Lookups.{copy_at, is_idle, is_task_of}
-use Rattle.sc_taskset.specs.declared.tasks.Running.{Running}
+use Rattle.sc_taskset.specs.declared.tasks.RunningCopy.{RunningCopy}
 use Rattle.sc_taskset.proofs.FindLemmas.{found_is}
 use Rattle.sc_dag.specs.Laws.{HoldsBack, NothingIsStuck}
 use Rattle.sc_dag.specs.Offers.{newest_number}
@@ -19,8 +19,8 @@ use Rattle.sc_core.specs.declared.running.Shelved.{Shelved}
 use Rattle.sc_core.proofs.LookupLemmas.{attempt, set_of_newest}
 
 -- an attempt of a task that isn't idle runs
-copy_runs : (copies : List Running) → is_idle copies ≡ false
-    → (c : Running) × (copy_at c.nth copies ≡ Some c)
+copy_runs : (copies : List RunningCopy) → is_idle copies ≡ false
+    → (c : RunningCopy) × (copy_at c.nth copies ≡ Some c)
 copy_runs [] e = absurd (true≢false e)
 copy_runs (c ∷ copies) e =
     let same : (c.nth == c.nth) ≡ true = grind (arith, nat_tests) in (c, rw same refl)
@@ -73,7 +73,7 @@ held_runs c s p sound h =
     ∙ ap (λ o. exec_in o) runs.1 in
     (a, sound.known a runs.0.exec runner)
   where
-    exec_in : Option Running → Option ℕ
+    exec_in : Option RunningCopy → Option ℕ
     exec_in o = option_map (λ c. c.exec) o
 
     free : h.task.denied ≡ false

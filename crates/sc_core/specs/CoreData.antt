@@ -8,8 +8,8 @@ use Rattle.sc_commit.specs.Committing.{is_same}
 use Rattle.sc_dag.specs.DagData.{DagData}
 use Rattle.sc_ids.specs.declared.attempts.AttemptId.{AttemptId}
 use Rattle.sc_plan.specs.declared.lines.PlanLine.{PlanLine}
-use Rattle.sc_core.specs.declared.answers.Job.{Job}
-use Rattle.sc_core.specs.declared.answers.Job.TheVariants as jobs
+use Rattle.sc_core.specs.declared.answers.JobState.{JobState}
+use Rattle.sc_core.specs.declared.answers.JobState.TheVariants as jobs
 use Rattle.sc_core.specs.declared.events.Outcome.{Outcome}
 use Rattle.sc_core.specs.declared.running.Running.{Running}
 use Rattle.sc_core.specs.declared.running.Shelved.{Shelved}
@@ -23,7 +23,7 @@ pub record CoreData : Type 0 where
   -- how many tasks were handed out in this job
   pub handed : ℕ
   -- how far the job is
-  pub job : Job
+  pub job : JobState
   -- the first executor that left early
   pub left_first : Option ℕ
   -- the attempts that run, the one handed out first in front
@@ -39,7 +39,7 @@ pub record CoreData : Type 0 where
   -- the lines of the fault plan, which never change
   pub plan : List PlanLine
 
-abbrev pub core_data : ℕ → ℕ → ℕ → Job → Option ℕ → List Running → List Shelved → ℕ
+abbrev pub core_data : ℕ → ℕ → ℕ → JobState → Option ℕ → List Running → List Shelved → ℕ
     → List Committer → DagData → List PlanLine → CoreData
 core_data told now handed job left_first running shelf next_key committers dag plan =
     record {
@@ -60,7 +60,7 @@ abbrev pub with_dag : CoreData → DagData → CoreData
 with_dag c dag = record c { dag = dag }
 
 -- a job runs
-abbrev pub is_running_job : Job → Bool
+abbrev pub is_running_job : JobState → Bool
 is_running_job jobs.Running = true
 is_running_job jobs.Done = false
 is_running_job (jobs.Aborted why) = false
@@ -69,7 +69,7 @@ abbrev pub job_runs : CoreData → Bool
 job_runs c = is_running_job c.job
 
 -- the job has ended; what is to be told later is dropped
-abbrev pub ended : CoreData → Job → CoreData
+abbrev pub ended : CoreData → JobState → CoreData
 ended c job = record c { job = job; shelf = [] }
 
 -- the number of the result stage, which is the last

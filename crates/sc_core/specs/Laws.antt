@@ -24,7 +24,7 @@ use Rattle.sc_core.specs.Takes.{IsAsking}
 use Rattle.sc_core.specs.declared.answers.Abort.TheVariants.{Budget, NoExecutor, StageLimit, TaskLimit}
 use Rattle.sc_core.specs.declared.answers.Answer.{Answer}
 use Rattle.sc_core.specs.declared.answers.Answer.TheVariants as says
-use Rattle.sc_core.specs.declared.answers.Job.TheVariants as jobs
+use Rattle.sc_core.specs.declared.answers.JobState.TheVariants as jobs
 use Rattle.sc_core.specs.declared.entries.Entry.{Entry}
 use Rattle.sc_core.specs.declared.events.Event.{Event}
 use Rattle.sc_core.specs.declared.events.Event.TheVariants.{Post, Side, Take}

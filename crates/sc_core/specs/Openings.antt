@@ -11,7 +11,7 @@ use Rattle.sc_plan.specs.declared.lines.PlanLine.{PlanLine}
 use Rattle.sc_tracker.specs.TrackerData.{TrackerData, tracker_data}
 use Rattle.sc_tracker.specs.Trust.{untold}
 use Rattle.sc_core.specs.CoreData.{CoreData, result_stage}
-use Rattle.sc_core.specs.declared.answers.Job.TheVariants as jobs
+use Rattle.sc_core.specs.declared.answers.JobState.TheVariants as jobs
 
 -- the tracker that is carried on from the job before, or a new one
 abbrev pub tracker_behind : Option CoreData → Limits → TrackerData

@@ -21,7 +21,7 @@ use Rattle.sc_tracker.specs.declared.outputs.Location.{Location}
 use Rattle.sc_tracker.specs.declared.outputs.Location.TheVariants.{Here, Missing}
 use Rattle.sc_core.specs.CoreData.{CoreData, is_of, job_runs, result_stage, running_of}
 use Rattle.sc_core.specs.HandOuts.{HandOutData}
-use Rattle.sc_core.specs.declared.answers.Job.TheVariants as jobs
+use Rattle.sc_core.specs.declared.answers.JobState.TheVariants as jobs
 use Rattle.sc_core.specs.Losses.{is_due_after}
 use Rattle.sc_core.specs.Posts.{fits}
 use Rattle.sc_core.specs.declared.running.Running.{Running}

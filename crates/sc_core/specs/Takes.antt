@@ -8,7 +8,7 @@ use Rattle.sc_core.specs.HandOuts.{HandOutData, inputs_of}
 use Rattle.sc_core.specs.declared.answers.Abort.TheVariants.{Budget}
 use Rattle.sc_core.specs.declared.answers.Answer.{Answer}
 use Rattle.sc_core.specs.declared.answers.Answer.TheVariants as says
-use Rattle.sc_core.specs.declared.answers.Job.TheVariants as jobs
+use Rattle.sc_core.specs.declared.answers.JobState.TheVariants as jobs
 use Rattle.sc_core.specs.declared.running.Phase.TheVariants.{Given}
 use Rattle.sc_core.specs.declared.running.Running.{Running}
 

@@ -33,7 +33,7 @@ pub enum Abort {
 
 /// How far a job is.
 #[derive(Clone, Copy, Debug, PartialEq, Eq)]
-pub enum Job {
+pub enum JobState {
     /// It runs.
     Running,
     /// Each partition has its result.

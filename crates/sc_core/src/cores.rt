@@ -12,7 +12,7 @@ ghost use Rattle.sc_core.specs.Sound.{IsSoundCore};
 ghost use Rattle.sc_core.specs.Steps.{Steps, is_enabled};
 ghost use Rattle.sc_core.specs.declared.answers.NotEnabled.{NotEnabled};
 
-use crate::answers::{Job, NotEnabled, Stepped};
+use crate::answers::{JobState, NotEnabled, Stepped};
 use crate::events::Event;
 use crate::running::{Running, Shelved};
 use crate::states::State;
@@ -80,7 +80,7 @@ impl Core {
     }
 
     /// How far the job is.
-    pub fn job(&self) -> Job
+    pub fn job(&self) -> JobState
         ensures { result ≡ self.now.job }
     {
         self.state.job

@@ -40,7 +40,7 @@ mod tells;
 mod texts;
 mod words;
 
-pub use answers::{Abort, Answer, Job, NotEnabled, SideAnswer, Stepped};
+pub use answers::{Abort, Answer, JobState, NotEnabled, SideAnswer, Stepped};
 pub use cores::Core;
 pub use entries::Entry;
 pub use events::{Event, Outcome, SideEvent};

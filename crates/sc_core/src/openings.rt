@@ -6,7 +6,7 @@ ghost use Rattle.std.specs.Option.{option_map};
 ghost use Rattle.sc_dag.specs.Openings.{FitsJob, IsJob};
 ghost use Rattle.sc_core.specs.Openings.{BeginsWith, IsOpening, now_before, plan_behind, told_before, tracker_behind};
 
-use crate::answers::Job;
+use crate::answers::JobState;
 use crate::stages::Stages;
 use crate::states::State;
 use sc_commit::Commit;
@@ -42,7 +42,7 @@ impl State {
             told,
             tick,
             handed: 0,
-            job: Job::Running,
+            job: JobState::Running,
             left_first: None,
             running: Vec::new(alloc),
             shelf: Vec::new(alloc),

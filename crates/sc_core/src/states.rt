@@ -8,7 +8,7 @@ ghost use Rattle.sc_core.specs.CoreData.{CoreData, ended, held_by, is_running_jo
 ghost use Rattle.sc_core.specs.Posts.{is_save};
 ghost use Rattle.sc_core.specs.Tells.{released};
 
-use crate::answers::{Abort, Answer, Job};
+use crate::answers::{Abort, Answer, JobState};
 use crate::attempts::first_out;
 use crate::running::{Running, Shelved};
 use crate::stages::Stages;
@@ -24,7 +24,7 @@ pub(crate) struct State {
     pub told: u64,
     pub tick: u64,
     pub handed: u32,
-    pub job: Job,
+    pub job: JobState,
     pub left_first: Option<ExecId>,
     pub running: Vec<Running>,
     pub shelf: Vec<Shelved>,
@@ -76,7 +76,7 @@ impl State {
     }
 
     /// Ends the job. What is to be told later is dropped.
-    pub fn end(&mut self, job: Job)
+    pub fn end(&mut self, job: JobState)
         ensures state { self.new.0 ≡ ended self.old.0 job }
         ensures ready { self.new.1 ≡ self.old.1 }
     {
@@ -87,9 +87,9 @@ impl State {
     /// Aborts the job.
     pub fn abort(&mut self, why: Abort) -> Answer
         ensures answer { result ≡ Answer.Aborted why }
-        ensures state { self.new.0 ≡ ended self.old.0 (Job.Aborted why) }
+        ensures state { self.new.0 ≡ ended self.old.0 (JobState.Aborted why) }
     {
-        self.end(Job::Aborted(why));
+        self.end(JobState::Aborted(why));
         Answer::Aborted(why)
     }
 
@@ -105,12 +105,12 @@ impl State {
 }
 
 /// Whether a job runs.
-fn runs(job: Job) -> bool
+fn runs(job: JobState) -> bool
     ensures { result ≡ is_running_job job }
 {
     match job {
-        Job::Running => true,
-        Job::Done | Job::Aborted(_) => false,
+        JobState::Running => true,
+        JobState::Done | JobState::Aborted(_) => false,
     }
 }
 

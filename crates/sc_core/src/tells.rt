@@ -9,7 +9,7 @@ ghost use Rattle.sc_core.specs.Owners.{has_task};
 ghost use Rattle.sc_core.specs.Rooms.{may_resubmit, wants_room};
 ghost use Rattle.sc_core.specs.Tells.{FailsBy, IsGone, Misses, Tells, TellsFailure, TellsFailureIf, TellsMap, TellsResult, done_if, limit_of, success_answer, with_result_of};
 
-use crate::answers::{Abort, Answer, Job};
+use crate::answers::{Abort, Answer, JobState};
 use crate::events::Outcome;
 use crate::running::Running;
 use crate::states::State;
@@ -64,7 +64,7 @@ impl State {
         ensures { self.new.0 ≡ done_if (is_complete self.old.0.dag stage) self.old.0 }
     {
         if self.stages.dag().is_complete(stage) {
-            self.end(Job::Done);
+            self.end(JobState::Done);
         }
     }
 

@@ -8,7 +8,7 @@ use Rattle.sc_taskset.specs.Reports.{after_loss, after_success, lost_task, redoe
 use Rattle.sc_taskset.specs.TaskSetData.{TaskData, TaskSetData}
 use Rattle.sc_taskset.specs.declared.tasks.Finish.{Finish}
 use Rattle.sc_taskset.specs.declared.tasks.Finish.TheVariants.{InOlderSet, OnExecutor, Unfinished}
-use Rattle.sc_taskset.specs.declared.tasks.Running.{Running}
+use Rattle.sc_taskset.specs.declared.tasks.RunningCopy.{RunningCopy}
 use Rattle.sc_ids.specs.declared.attempts.AttemptId.{AttemptId}
 use Rattle.sc_taskset.proofs.LawLemmas.{task_changed, task_other}
 use Rattle.sc_dag.specs.Reports.{wants_in}
@@ -47,7 +47,7 @@ success_own set a exec now wants runs =
     ap finish_among (task_changed a.partition (succeeded_task (Some a.nth)) (λ t. refl) set.tasks)
     ∙ by (task_at a.partition set.tasks) wants runs
   where
-    copy : (o : Option Running) (f : Finish) → option_map (λ c. c.exec) o ≡ Some exec
+    copy : (o : Option RunningCopy) (f : Finish) → option_map (λ c. c.exec) o ≡ Some exec
         → unwrap_or (option_map (λ c. OnExecutor c.exec) o) f ≡ OnExecutor exec
     copy None f e = absurd (search (rules, e))
     copy (Some c) f e = let is : c.exec ≡ exec = search (rules, e) in ap OnExecutor is

@@ -3,11 +3,11 @@ use Rattle.std.specs.Prelude.{ℕ, ◌+◌, ◌-◌, ◌≡◌, ◌<◌, Bool, f
 use Rattle.sc_ids.specs.declared.attempts.AttemptId.{AttemptId}
 use Rattle.sc_taskset.specs.Offers.{Offers, handed, may_be_given}
 use Rattle.sc_taskset.specs.TaskSetData.{TaskSetData}
-use Rattle.sc_taskset.specs.declared.tasks.Given.{Given}
+use Rattle.sc_taskset.specs.declared.tasks.GivenTask.{GivenTask}
 use Rattle.sc_dag.specs.DagData.{DagData, StageState, changed_newest, newest_at, with_state}
 
 -- what a task set that may be there has for an executor
-abbrev pub OffersIn : Option TaskSetData → ℕ → Option Given → Type 0
+abbrev pub OffersIn : Option TaskSetData → ℕ → Option GivenTask → Type 0
 OffersIn None exec None = Unit {0}
 OffersIn None exec (Some given) = ⊥
 OffersIn (Some set) exec given = Offers set exec given
@@ -20,7 +20,7 @@ number_in (Some state) = state.before + (length state.attempts - 1)
 abbrev pub newest_number : DagData → ℕ → ℕ
 newest_number d s = number_in (slice_get d.states s)
 
-abbrev pub given_of : AttemptId → Given
+abbrev pub given_of : AttemptId → GivenTask
 given_of a = record { partition = a.partition; nth = a.nth }
 
 -- the next task for an executor: of the first stage whose newest attempt has one for it

@@ -13,7 +13,7 @@ use crate::fates::Fate;
 use crate::rows::StageRow;
 use crate::stages::{give_at, is_complete_at, prepare_all};
 use sc_ids::{AttemptId, Epoch, ExecId, Limits, Stage, StageId};
-use sc_taskset::Given;
+use sc_taskset::GivenTask;
 use sc_tracker::Tracker;
 use std::alloc::{AllocError, Global};
 use std::marker::Model;
@@ -70,7 +70,7 @@ impl Dag {
     }
 
     /// What the newest attempt of a stage has for an executor.
-    fn offer(&self, stage: StageId, exec: ExecId, now: u64) -> Option<Given>
+    fn offer(&self, stage: StageId, exec: ExecId, now: u64) -> Option<GivenTask>
         ensures { OffersIn (newest_at self.now.0 stage) exec result }
     {
         match self.rows.get(stage as usize) {

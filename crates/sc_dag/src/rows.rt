@@ -13,7 +13,7 @@ ghost use Rattle.sc_dag.specs.Submission.{is_idle};
 use crate::attempts::{StageAttempt, failed_count, newest};
 use crate::outputs::{all_have_results, is_map};
 use sc_ids::{ExecId, Stage, Target};
-use sc_taskset::{Given, SetRoom};
+use sc_taskset::{GivenTask, SetRoom};
 use sc_tracker::Tracker;
 use std::alloc::{AllocError, Global};
 use std::marker::Model;
@@ -149,7 +149,7 @@ impl StageRow {
     }
 
     /// What its newest attempt has for an executor at this time.
-    pub fn peek(&self, exec: ExecId, now: u64) -> Option<Given>
+    pub fn peek(&self, exec: ExecId, now: u64) -> Option<GivenTask>
         ensures { OffersIn (newest_set self.now.state) exec result }
     {
         match newest(&self.attempts) {

@@ -4,7 +4,7 @@ use Rattle.sc_value.specs.Datum.{Datum}
 use Rattle.sc_lineage.specs.ScriptData.{WorkData}
 use Rattle.sc_core.specs.Laws.{DoneJobsAreWhole}
 use Rattle.sc_core.specs.Sound.{IsSoundCore}
-use Rattle.sc_core.specs.declared.answers.Job.TheVariants as jobs
+use Rattle.sc_core.specs.declared.answers.JobState.TheVariants as jobs
 use Rattle.sc_ids.proofs.ChangeLemmas.{length_change_at}
 use Rattle.sc_plan.specs.declared.orders.Order.{Order}
 use Rattle.sc_desk.specs.Orders.{after_order, counted}

@@ -164,7 +164,7 @@ early_known work d report due true_of given early r runs one =
     of (findings.Result rows) is e = absurd e
     of findings.Planned is e = absurd e
     of (findings.Raised x) is e = absurd e
-    of (findings.Missing last) is e = absurd e
+    of (findings.Metadata last) is e = absurd e
 
 -- who is no stranger and in time is received
 pub received :
@@ -201,7 +201,7 @@ ended_for work told t findings.Planned task is time = is
 ended_for work told t (findings.Raised r) task is time =
     record { task = task.task; raise = r; own = is.own; inputs = is.inputs }
 ended_for work told t (findings.Gone exec wanted found) task is time = time
-ended_for work told t (findings.Missing last) task is time = tt
+ended_for work told t (findings.Metadata last) task is time = tt
 
 -- and shows no generation above the wipes that are due
 pub shows_within :
@@ -212,7 +212,7 @@ shows_within work c (findings.Result rows) time = tt
 shows_within work c findings.Planned time = tt
 shows_within work c (findings.Raised r) time = tt
 shows_within work c (findings.Gone exec wanted found) time = time
-shows_within work c (findings.Missing last) time = tt
+shows_within work c (findings.Metadata last) time = tt
 
 -- a finding that is told as a result has its rows
 record HasRows (work : WorkData) (t : TaskData) (finding : Finding) : Type 0 where
@@ -229,7 +229,7 @@ has_rows work t (findings.Map loc) is e = absurd (search (rules, e))
 has_rows work t findings.Planned is e = absurd (search (rules, e))
 has_rows work t (findings.Raised r) is e = absurd (search (rules, e))
 has_rows work t (findings.Gone exec wanted found) is e = absurd (search (rules, e))
-has_rows work t (findings.Missing last) is e = absurd (search (rules, e))
+has_rows work t (findings.Metadata last) is e = absurd (search (rules, e))
 
 finished_is : (answer : Answer) → is_finished answer ≡ true → answer ≡ says.Finished
 finished_is says.Finished e = refl

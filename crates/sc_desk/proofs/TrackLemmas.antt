@@ -31,8 +31,8 @@ use Rattle.sc_core.specs.Losses.{all_released}
 use Rattle.sc_core.specs.Tells.{FailsBy, FailsOrAborts, FollowsUp, IsGone, LooksAgain, Misses, MissesIf, Tells, TellsFailure, TellsFailureIf, TellsMap, TellsResult, after_failure, after_result, done_if, is_zombie_in, limit_of, released, with_result_of}
 use Rattle.sc_core.specs.declared.answers.Abort.TheVariants.{StageLimit}
 use Rattle.sc_core.specs.declared.answers.Answer.{Answer}
-use Rattle.sc_core.specs.declared.answers.Job.{Job}
-use Rattle.sc_core.specs.declared.answers.Job.TheVariants as jobs
+use Rattle.sc_core.specs.declared.answers.JobState.{JobState}
+use Rattle.sc_core.specs.declared.answers.JobState.TheVariants as jobs
 use Rattle.sc_core.specs.declared.events.Outcome.{Outcome}
 use Rattle.sc_core.specs.declared.events.Outcome.TheVariants as outcomes
 use Rattle.sc_core.specs.declared.running.Running.{Running}
@@ -238,7 +238,7 @@ tracks_with bound c after x sees job shelf is =
 
 -- and one whose job has ended
 tracks_ended :
-    (bound : ℕ → ℕ) (c after x : CoreData) (job : Job) → Sees bound c.dag x.dag
+    (bound : ℕ → ℕ) (c after x : CoreData) (job : JobState) → Sees bound c.dag x.dag
     → after ≡ ended x job → Tracks bound c after
 tracks_ended bound c after x job sees is =
     subst (λ y. Tracks bound c y) (sym is) (record { sees = sees; drops = inr refl })

@@ -3,7 +3,7 @@
 
 ghost use Rattle.std.specs.Prelude.{◌≡◌, Some};
 ghost use Rattle.sc_core.specs.Journals.{Replays};
-ghost use Rattle.sc_core.specs.declared.answers.Job.TheVariants.{Done};
+ghost use Rattle.sc_core.specs.declared.answers.JobState.TheVariants.{Done};
 ghost use Rattle.sc_desk.specs.DeskData.{core_of};
 ghost use Rattle.sc_desk.specs.Sound.{AreAllResults, AreEvident, IsSoundDesk};
 ghost use Rattle.sc_desk.specs.Begins.{FitsLast, IsPassedFor};

@@ -16,8 +16,8 @@ pub(crate) fn runs(core: &Core) -> bool
     ensures { result ≡ job_runs core.now }
 {
     match core.job() {
-        sc_core::Job::Running => true,
-        sc_core::Job::Done | sc_core::Job::Aborted(_) => false,
+        sc_core::JobState::Running => true,
+        sc_core::JobState::Done | sc_core::JobState::Aborted(_) => false,
     }
 }
 

@@ -13,7 +13,7 @@ use Rattle.sc_taskset.specs.Offers.{given_in, given_of, handed_task}
 use Rattle.sc_taskset.specs.Reports.{after_failure, after_loss, ended_task, failed_task, held_task, is_counted_in, is_failure, lost_task, noted_task, redoes_lost, succeeded_task}
 use Rattle.sc_taskset.specs.Sound.{IsSoundTask}
 use Rattle.sc_taskset.specs.TaskSetData.{TaskData, TaskSetData}
-use Rattle.sc_taskset.specs.declared.tasks.Running.{Running as Copy}
+use Rattle.sc_taskset.specs.declared.tasks.RunningCopy.{RunningCopy as Copy}
 use Rattle.sc_taskset.proofs.FindLemmas.{found_is, found_passes}
 use Rattle.sc_taskset.proofs.LawLemmas.{task_changed, task_other}
 use Rattle.sc_dag.specs.DagData.{DagData, StageState, attempt_in, newest_at, set_in, with_set}

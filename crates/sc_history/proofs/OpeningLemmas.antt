@@ -18,7 +18,7 @@ use Rattle.sc_dag.proofs.Opening.{openings_are_sound}
 use Rattle.sc_core.specs.CoreData.{CoreData, core_data, result_stage}
 use Rattle.sc_core.specs.Openings.{IsOpening, now_before, plan_behind, told_before, tracker_behind}
 use Rattle.sc_core.specs.Sound.{IsSoundCore}
-use Rattle.sc_core.specs.declared.answers.Job.TheVariants as jobs
+use Rattle.sc_core.specs.declared.answers.JobState.TheVariants as jobs
 use Rattle.sc_history.specs.Openings.{OpeningsAgree}
 
 -- ---- stages by their numbers

@@ -23,7 +23,7 @@ use Rattle.sc_core.specs.Openings.{IsOpening}
 use Rattle.sc_core.specs.Sound.{IsSoundCore}
 use Rattle.sc_core.specs.Steps.{Steps}
 use Rattle.sc_core.specs.declared.answers.Abort.TheVariants.{StageLimit}
-use Rattle.sc_core.specs.declared.answers.Job.TheVariants as jobs
+use Rattle.sc_core.specs.declared.answers.JobState.TheVariants as jobs
 use Rattle.sc_core.specs.declared.entries.Entry.{Entry}
 use Rattle.sc_core.proofs.LawLemmas.{steps_keep_sound}
 use Rattle.sc_history.specs.StageEvidence.{ShowsStageLimit, StageLimitsAreShown, StaysOpen, is_miss_of, number_of}

@@ -9,7 +9,7 @@ use Rattle.sc_core.specs.Openings.{IsOpening}
 use Rattle.sc_core.specs.Owners.{has_task}
 use Rattle.sc_core.specs.declared.answers.Abort.TheVariants.{Budget}
 use Rattle.sc_core.specs.declared.answers.Answer.{Answer}
-use Rattle.sc_core.specs.declared.answers.Job.TheVariants as jobs
+use Rattle.sc_core.specs.declared.answers.JobState.TheVariants as jobs
 use Rattle.sc_core.specs.declared.entries.Entry.{Entry}
 use Rattle.sc_core.specs.declared.events.Event.{Event}
 use Rattle.sc_core.specs.declared.events.Event.TheVariants.{Take}

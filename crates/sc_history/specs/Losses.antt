@@ -9,7 +9,7 @@ use Rattle.sc_core.specs.Journals.{Replays}
 use Rattle.sc_core.specs.Openings.{IsOpening}
 use Rattle.sc_core.specs.Sound.{IsSoundCore}
 use Rattle.sc_core.specs.declared.answers.Abort.TheVariants.{NoExecutor}
-use Rattle.sc_core.specs.declared.answers.Job.TheVariants as jobs
+use Rattle.sc_core.specs.declared.answers.JobState.TheVariants as jobs
 use Rattle.sc_core.specs.declared.entries.Entry.{Entry}
 
 -- a job that is aborted for want of executors ends with every executor told lost

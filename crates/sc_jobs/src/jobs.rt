@@ -17,7 +17,7 @@ use crate::goals::Goal;
 use crate::known::known_bounds;
 use crate::nodes::{goal_is_known, goal_node};
 use crate::same::same_graph;
-use sc_compute::Target;
+use sc_compute::TaskTarget;
 use sc_ids::{Stage, StageGraph, StageId};
 use sc_lineage::{Action, NodeId};
 use sc_part::Bounds;
@@ -199,7 +199,7 @@ impl<W: Naming> Job<W> {
         work: &'a SharedWork<W>,
         stage: StageId,
         partition: u32,
-    ) -> Target<'a>
+    ) -> TaskTarget<'a>
         requires task { HasTask self.now.graph stage partition }
         ensures target { target_data_of result ≡ target_of W.work self.now stage partition }
         ensures known { IsTargetOf W.work (target_data_of result) }
@@ -207,7 +207,7 @@ impl<W: Naming> Job<W> {
         self.knows_target(work, stage, partition);
         match self.stage(stage) {
             Some(stage) => self.target_by(work, stage.target(), partition),
-            None => Target::Result {
+            None => TaskTarget::Result {
                 action: self.action(work),
                 partition,
             },
@@ -220,16 +220,16 @@ impl<W: Naming> Job<W> {
         work: &'a SharedWork<W>,
         target: sc_ids::Target,
         partition: u32,
-    ) -> Target<'a>
+    ) -> TaskTarget<'a>
         ensures { target_data_of result ≡ target_by W.work self.now.goal target partition }
     {
         match target {
-            sc_ids::Target::Map(shuffle) => Target::Map {
+            sc_ids::Target::Map(shuffle) => TaskTarget::Map {
                 node: shuffle.node,
                 side: shuffle.side,
                 map: partition,
             },
-            sc_ids::Target::Result { .. } => Target::Result {
+            sc_ids::Target::Result { .. } => TaskTarget::Result {
                 action: self.action(work),
                 partition,
             },

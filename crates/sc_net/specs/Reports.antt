@@ -65,7 +65,7 @@ IsTrueReport work t findings.Planned = is_planned work t ≡ true
 IsTrueReport work t (findings.Raised r) = Raises work t r
 IsTrueReport work t (findings.Gone exec wanted found) =
     WasGiven t (locations.Here (loc_at exec wanted)) × (wanted < found)
-IsTrueReport work t (findings.Missing last) = WasGiven t (locations.Missing (Some last))
+IsTrueReport work t (findings.Metadata last) = WasGiven t (locations.Missing (Some last))
 
 -- what the scheduler is told of a finding
 abbrev pub outcome_of : Finding → Outcome
@@ -74,7 +74,7 @@ outcome_of (findings.Result rows) = outcomes.Result
 outcome_of findings.Planned = outcomes.Failed causes.Planned
 outcome_of (findings.Raised r) = outcomes.Failed causes.Raised
 outcome_of (findings.Gone exec wanted found) = outcomes.Failed (causes.Gone exec wanted found)
-outcome_of (findings.Missing last) = outcomes.Failed (causes.Metadata last)
+outcome_of (findings.Metadata last) = outcomes.Failed (causes.Metadata last)
 
 -- the rows that a finding carries
 abbrev pub rows_of : Finding → Option (List Datum)

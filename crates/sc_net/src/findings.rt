@@ -28,8 +28,9 @@ pub enum Finding {
         /// The generation that it found.
         found: Generation,
     },
-    /// A block that it reads had no location when it was handed out.
-    Missing {
+    /// A block that it reads had no location when it was handed out, which Spark calls a metadata
+    /// fetch failure.
+    Metadata {
         /// Where the block lay last.
         last: Loc,
     },
@@ -54,7 +55,7 @@ impl Finding {
                 wanted: *wanted,
                 found: *found,
             },
-            Finding::Missing { last } => Finding::Missing { last: *last },
+            Finding::Metadata { last } => Finding::Metadata { last: *last },
         })
     }
 }

@@ -7,26 +7,19 @@
 //! it reads, and a block that was gone or missing is one of its inputs (`specs/Reports.antt`). So
 //! whoever is told need not ask who tells.
 //!
-//! A fault plan may have a report come late, or twice. What is to be told later stands on a
-//! [`Shelf`] under a key. It is due once so many reports were told, and anyway where nothing else
-//! can happen in the job. Contracts see a shelf as its reports in the order of their keys, and the
-//! next key. Keys count up and are never used again: a report that was taken off can't be told
-//! twice. The shelf is generic in the reports, which it moves and neither reads nor copies.
+//! A fault plan may have a report come late, or twice. Such a [`ShelvedReport`] is kept at the desk
+//! until the core, which has its number and its outcome, tells that it is due.
 //!
 //! Jobs come from `sc_jobs`, hand-outs from `sc_core`. Who computes and who is told stands above.
 #![tactic(auto)]
 
 mod findings;
-mod laws;
 mod reports;
 mod same;
-mod shelf;
 mod shelved;
 mod tasks;
 
 pub use findings::Finding;
-pub use laws::shelves_are_lawful;
 pub use reports::Report;
-pub use shelf::Shelf;
 pub use shelved::ShelvedReport;
 pub use tasks::Task;

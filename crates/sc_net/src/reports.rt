@@ -90,7 +90,7 @@ impl<W: Naming> Report<W> {
                 wanted: *wanted,
                 found: *found,
             }),
-            Finding::Missing { last } => Outcome::Failed(FailureCause::Metadata { last: *last }),
+            Finding::Metadata { last } => Outcome::Failed(FailureCause::Metadata { last: *last }),
         }
     }
 

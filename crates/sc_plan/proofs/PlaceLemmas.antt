@@ -9,7 +9,7 @@ use Rattle.sc_plan.specs.Attempts.{delay_at, delay_of, is_doubled, is_failed}
 use Rattle.sc_plan.specs.Lookups.{HasShortParts, entry, entry_in, first_value, place_key, table_of}
 use Rattle.sc_plan.specs.Orders.{loss_in, loss_of}
 use Rattle.sc_plan.specs.PlanLines.{HasSmallNumbers, IsSmallPlace, is_same_place}
-use Rattle.sc_plan.specs.declared.lines.Place.{Place}
+use Rattle.sc_plan.specs.declared.lines.AttemptPlace.{AttemptPlace}
 use Rattle.sc_plan.specs.declared.lines.PlanLine.{PlanLine}
 use Rattle.sc_plan.specs.declared.lines.PlanLine.TheVariants as lines
 use Rattle.sc_plan.specs.declared.lookups.Entry.{Entry}
@@ -22,7 +22,7 @@ digits_same : (a b c d : ℕ) → b < 4294967296 → d < 4294967296
 digits_same a b c d h k e = (omega (arith, e), omega (arith, e))
 
 -- the same key is the same place
-same_parts : (p q : Place) → HasShortParts p → HasShortParts q → place_key p ≡ place_key q
+same_parts : (p q : AttemptPlace) → HasShortParts p → HasShortParts q → place_key p ≡ place_key q
     → is_same_place p q ≡ true
 same_parts p q h k e =
     let outer = digits_same (p.stage * 4294967296 + p.partition) p.nth
@@ -31,14 +31,14 @@ same_parts p q h k e =
     outer.0 in
     grind (arith, nat_tests, inner.0, inner.1, outer.1)
 
-same_place_key : (p q : Place) → is_same_place p q ≡ true → place_key p ≡ place_key q
+same_place_key : (p q : AttemptPlace) → is_same_place p q ≡ true → place_key p ≡ place_key q
 same_place_key p q e =
     let s : p.stage ≡ q.stage = grind (arith, nat_tests) in
     let t : p.partition ≡ q.partition = grind (arith, nat_tests) in
     let n : p.nth ≡ q.nth = grind (arith, nat_tests) in
     omega (arith, s, t, n)
 
-same_key_by : (p q : Place) → HasShortParts p → HasShortParts q → (a b : Bool)
+same_key_by : (p q : AttemptPlace) → HasShortParts p → HasShortParts q → (a b : Bool)
     → (place_key p == place_key q) ≡ a → is_same_place p q ≡ b → a ≡ b
 same_key_by p q h k true true e f = refl
 same_key_by p q h k true false e f =
@@ -49,11 +49,11 @@ same_key_by p q h k false true e f =
     absurd (grind (arith, nat_tests, same))
 same_key_by p q h k false false e f = refl
 
-same_key : (p q : Place) → HasShortParts p → HasShortParts q
+same_key : (p q : AttemptPlace) → HasShortParts p → HasShortParts q
     → (place_key p == place_key q) ≡ is_same_place p q
 same_key p q h k = same_key_by p q h k (place_key p == place_key q) (is_same_place p q) refl refl
 
-short : (p : Place) → IsSmallPlace p → HasShortParts p
+short : (p : AttemptPlace) → IsSmallPlace p → HasShortParts p
 short p small = record {
   stage = omega (arith, small.stage);
   partition = omega (arith, small.partition);
@@ -89,7 +89,7 @@ in_front_by : (c : Bool) (n : ℕ) (ns : List ℕ) (f : PlanLine → Option ℕ)
 in_front_by true n ns f ls l is rest = rw (is, rest) refl
 in_front_by false n ns f ls l is rest = rw (is, rest) refl
 
-module _ (p : Place) (h : HasShortParts p) where
+module _ (p : AttemptPlace) (h : HasShortParts p) where
   failing : (ls : List PlanLine) → AllByRecursion HasSmallNumbers ls
       → is_some (first_value (at (place_key p) (entries sought.Fail ls))) ≡ is_failed ls p
   failing [] small = refl
@@ -146,7 +146,7 @@ losing exec (lines.Lose e a t ∷ ls) =
 losing exec (lines.Evict e a ∷ ls) = losing exec ls
 
 -- the same of tables
-module _ (p : Place) (ls : List PlanLine) (h : HasShortParts p)
+module _ (p : AttemptPlace) (ls : List PlanLine) (h : HasShortParts p)
     (small : AllByRecursion HasSmallNumbers ls) where
   pub failed_in_table : (es : List Entry) → es ≡ table_of sought.Fail ls
       → is_some (first_value (at (place_key p) es)) ≡ is_failed ls p

@@ -9,22 +9,22 @@ use Rattle.sc_plan.specs.Attempts.{delay_at, delay_of, doubles_at, fails_at}
 use Rattle.sc_plan.specs.Laws.{ReadersAreExact}
 use Rattle.sc_plan.specs.Orders.{loss_in, loss_of}
 use Rattle.sc_plan.specs.PlanLines.{AreOnceBehind, is_same_place, repeats}
-use Rattle.sc_plan.specs.declared.lines.Place.{Place}
+use Rattle.sc_plan.specs.declared.lines.AttemptPlace.{AttemptPlace}
 use Rattle.sc_plan.specs.declared.lines.PlanLine.{PlanLine}
 use Rattle.sc_plan.specs.declared.lines.PlanLine.TheVariants as lines
 
 -- places
-same_is : (p q : Place) → is_same_place p q ≡ true → p ≡ q
+same_is : (p q : AttemptPlace) → is_same_place p q ≡ true → p ≡ q
 same_is p q is =
     let s : p.stage ≡ q.stage = grind (arith, nat_tests) in
     let t : p.partition ≡ q.partition = grind (arith, nat_tests) in
     let n : p.nth ≡ q.nth = grind (arith, nat_tests) in
     λ i. record { stage = s i; partition = t i; nth = n i }
 
-same_self : (p : Place) → is_same_place p p ≡ true
+same_self : (p : AttemptPlace) → is_same_place p p ≡ true
 same_self p = grind (arith, nat_tests)
 
-fails_means : (p : Place) (l : PlanLine) → fails_at p l ≡ true → l ≡ lines.Fail p
+fails_means : (p : AttemptPlace) (l : PlanLine) → fails_at p l ≡ true → l ≡ lines.Fail p
 fails_means p (lines.Fail q) is = ap lines.Fail (same_is q p is)
 fails_means p (lines.Late q c) is = absurd cc
 fails_means p (lines.Twice q) is = absurd cc
@@ -32,7 +32,7 @@ fails_means p (lines.Drop e a) is = absurd cc
 fails_means p (lines.Lose e a t) is = absurd cc
 fails_means p (lines.Evict e a) is = absurd cc
 
-doubles_means : (p : Place) (l : PlanLine) → doubles_at p l ≡ true → l ≡ lines.Twice p
+doubles_means : (p : AttemptPlace) (l : PlanLine) → doubles_at p l ≡ true → l ≡ lines.Twice p
 doubles_means p (lines.Fail q) is = absurd cc
 doubles_means p (lines.Late q c) is = absurd cc
 doubles_means p (lines.Twice q) is = ap lines.Twice (same_is q p is)
@@ -103,7 +103,7 @@ module _ (f : PlanLine → Option ℕ) (IsLine : ℕ → PlanLine → Type 0)
   ]
 
 -- late reports
-delay_by : (b : Bool) (p q : Place) (c n : ℕ) → is_same_place q p ≡ b
+delay_by : (b : Bool) (p q : AttemptPlace) (c n : ℕ) → is_same_place q p ≡ b
     → (if b then Some c else None) ≡ Some n → lines.Late q c ≡ lines.Late p n
 delay_by true p q c n is e =
     let place : q ≡ p = same_is q p is in
@@ -111,7 +111,7 @@ delay_by true p q c n is e =
     cc
 delay_by false p q c n is e = absurd cc
 
-delay_means : (p : Place) (l : PlanLine) (n : ℕ) → delay_at p l ≡ Some n → l ≡ lines.Late p n
+delay_means : (p : AttemptPlace) (l : PlanLine) (n : ℕ) → delay_at p l ≡ Some n → l ≡ lines.Late p n
 delay_means p (lines.Fail q) n e = absurd cc
 delay_means p (lines.Late q c) n e = delay_by (is_same_place q p) p q c n refl e
 delay_means p (lines.Twice q) n e = absurd cc
@@ -119,12 +119,12 @@ delay_means p (lines.Drop e a) n f = absurd cc
 delay_means p (lines.Lose e a t) n f = absurd cc
 delay_means p (lines.Evict e a) n f = absurd cc
 
-delay_found : (p : Place) (l : PlanLine) (n : ℕ) → l ≡ lines.Late p n → delay_at p l ≡ Some n
+delay_found : (p : AttemptPlace) (l : PlanLine) (n : ℕ) → l ≡ lines.Late p n → delay_at p l ≡ Some n
 delay_found p l n is =
     ap (delay_at p) is
     ∙ ap (λ b. if b then Some n else None) (same_self p)
 
-delay_again : (p : Place) (l m : PlanLine) (n k : ℕ) → l ≡ lines.Late p n → m ≡ lines.Late p k
+delay_again : (p : AttemptPlace) (l m : PlanLine) (n k : ℕ) → l ≡ lines.Late p n → m ≡ lines.Late p k
     → repeats m l ≡ true
 delay_again p l m n k is has =
     ap (λ x. repeats x l) has ∙ ap (repeats (lines.Late p k)) is ∙ same_self p
@@ -161,7 +161,7 @@ loss_again : (exec : ℕ) (l m : PlanLine) (n k : ℕ) → IsLoss exec n l → I
 loss_again exec l m n k is has =
     ap (λ x. repeats x l) has.1 ∙ ap (repeats (lines.Lose exec has.0 k)) is.1 ∙ self_eq exec
 
-late_to : (plan : List PlanLine) (p : Place) (n : ℕ) → delay_of plan p ≡ Some n
+late_to : (plan : List PlanLine) (p : AttemptPlace) (n : ℕ) → delay_of plan p ≡ Some n
     → Contains plan (lines.Late p n)
 late_to plan p n e =
     let h = stands (delay_at p) (λ k l. l ≡ lines.Late p k) (delay_means p) (delay_found p)

@@ -4,7 +4,7 @@ use Rattle.std.specs.List.Sorted.{IsPermutation, IsSortedBy, IsStableBy}
 use Rattle.sc_plan.specs.Attempts.{delay_of, is_doubled, is_failed}
 use Rattle.sc_plan.specs.Orders.{Due, due_count, in_order, is_sooner, loss_of}
 use Rattle.sc_plan.specs.PlanLines.{IsSoundPlan}
-use Rattle.sc_plan.specs.declared.lines.Place.{Place}
+use Rattle.sc_plan.specs.declared.lines.AttemptPlace.{AttemptPlace}
 use Rattle.sc_plan.specs.declared.lines.PlanLine.{PlanLine}
 use Rattle.sc_plan.specs.declared.lines.PlanLine.TheVariants as lines
 
@@ -26,9 +26,9 @@ OrdersAreNumbered = (dues : List Due) → IsNumbered dues (in_order dues)
 
 -- what a reader finds stands in a line, and what stands in a line is found
 pub record AreExact (plan : List PlanLine) : Type 0 where
-  pub failed : (p : Place) → (is_failed plan p ≡ true) ↔ Contains plan (lines.Fail p)
-  pub doubled : (p : Place) → (is_doubled plan p ≡ true) ↔ Contains plan (lines.Twice p)
-  pub late : (p : Place) (count : ℕ)
+  pub failed : (p : AttemptPlace) → (is_failed plan p ≡ true) ↔ Contains plan (lines.Fail p)
+  pub doubled : (p : AttemptPlace) → (is_doubled plan p ≡ true) ↔ Contains plan (lines.Twice p)
+  pub late : (p : AttemptPlace) (count : ℕ)
       → (delay_of plan p ≡ Some count) ↔ Contains plan (lines.Late p count)
   pub lost : (exec told : ℕ) → (loss_of plan exec ≡ Some told)
       ↔ ((after : ℕ) × Contains plan (lines.Lose exec after told))

@@ -2,7 +2,7 @@
 -- outside speaks of this.
 use Rattle.std.specs.Prelude.{ℕ, zero, suc, ◌+◌, ◌*◌, ◌<◌, ◌≡◌, Bool, ◌&&◌, nat_le, nat_lt, List, filter_map, Option, Some, None, option_map, slice_get}
 use Rattle.sc_part.specs.Sorts.{sorted}
-use Rattle.sc_plan.specs.declared.lines.Place.{Place}
+use Rattle.sc_plan.specs.declared.lines.AttemptPlace.{AttemptPlace}
 use Rattle.sc_plan.specs.declared.lines.PlanLine.{PlanLine}
 use Rattle.sc_plan.specs.declared.lines.PlanLine.TheVariants as lines
 use Rattle.sc_plan.specs.declared.lookups.Entry.{Entry}
@@ -12,11 +12,11 @@ use Rattle.sc_plan.specs.declared.orders.OrderKind.{OrderKind}
 use Rattle.sc_plan.specs.declared.orders.OrderKind.TheVariants as kinds
 
 -- the key of a place, whose parts have 32 bits each
-abbrev pub place_key : Place → ℕ
+abbrev pub place_key : AttemptPlace → ℕ
 place_key p = (p.stage * 4294967296 + p.partition) * 4294967296 + p.nth
 
 -- the parts of a place have 32 bits each
-pub record HasShortParts (p : Place) : Type 0 where
+pub record HasShortParts (p : AttemptPlace) : Type 0 where
   pub stage : p.stage < 4294967296
   pub partition : p.partition < 4294967296
   pub nth : p.nth < 4294967296

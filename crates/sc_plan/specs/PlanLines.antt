@@ -3,7 +3,7 @@ use Rattle.std.specs.Prelude.{ℕ, ◌≤◌, ◌≡◌, Bool, true, false, ◌=
 use Rattle.std.specs.List.{AllByRecursion, list_any}
 use Rattle.sc_base.specs.Lists.{at_or}
 use Rattle.sc_ids.specs.declared.attempts.AttemptId.{AttemptId}
-use Rattle.sc_plan.specs.declared.lines.Place.{Place}
+use Rattle.sc_plan.specs.declared.lines.AttemptPlace.{AttemptPlace}
 use Rattle.sc_plan.specs.declared.lines.PlanLine.{PlanLine}
 use Rattle.sc_plan.specs.declared.lines.PlanLine.TheVariants as lines
 use Rattle.sc_plan.specs.declared.tables.LineKind.{LineKind}
@@ -11,15 +11,15 @@ use Rattle.sc_plan.specs.declared.tables.LineKind.TheVariants as kinds
 use Rattle.sc_plan.specs.Limits.{lines_limit, number_limit}
 
 -- the place of an attempt, whichever attempt of its stage it is in
-abbrev pub place_of : AttemptId → Place
+abbrev pub place_of : AttemptId → AttemptPlace
 place_of a = record { stage = a.stage; partition = a.partition; nth = a.nth }
 
 -- whether two places are the same
-abbrev pub is_same_place : Place → Place → Bool
+abbrev pub is_same_place : AttemptPlace → AttemptPlace → Bool
 is_same_place p q = (p.stage == q.stage) && ((p.partition == q.partition) && (p.nth == q.nth))
 
 -- the place that the first three numbers name
-abbrev pub place_from : List ℕ → Place
+abbrev pub place_from : List ℕ → AttemptPlace
 place_from ns = record { stage = at_or ns 0 0; partition = at_or ns 1 0; nth = at_or ns 2 0 }
 
 -- the line of a kind with these numbers
@@ -65,7 +65,7 @@ AreOnceBehind before (l ∷ ls) =
     (list_any (repeats l) before ≡ false) × AreOnceBehind (before ++ l ∷ []) ls
 
 -- the numbers of a place are at most so large
-pub record IsSmallPlace (place : Place) : Type 0 where
+pub record IsSmallPlace (place : AttemptPlace) : Type 0 where
   pub stage : place.stage ≤ number_limit
   pub partition : place.partition ≤ number_limit
   pub nth : place.nth ≤ number_limit

@@ -1,7 +1,7 @@
 //! What a plan says of an attempt.
 #![tactic(auto)]
 
-use crate::lines::Place;
+use crate::lines::AttemptPlace;
 use crate::lookups::key_of_place;
 use crate::plans::Plan;
 use sc_ids::AttemptId;
@@ -15,14 +15,18 @@ impl Plan {
     pub fn fails(&self, attempt: &AttemptId) -> bool
         ensures { result ≡ is_failed self.now (place_of attempt.now) }
     {
-        self.fails.at(key_of_place(Place::of(attempt))).is_some()
+        self.fails
+            .at(key_of_place(AttemptPlace::of(attempt)))
+            .is_some()
     }
 
     /// Whether a second copy of an attempt's report comes.
     pub fn twice(&self, attempt: &AttemptId) -> bool
         ensures { result ≡ is_doubled self.now (place_of attempt.now) }
     {
-        self.twices.at(key_of_place(Place::of(attempt))).is_some()
+        self.twices
+            .at(key_of_place(AttemptPlace::of(attempt)))
+            .is_some()
     }
 
     /// How many more reports are told before that of an attempt, and None where it isn't late.
@@ -39,6 +43,6 @@ impl Plan {
     fn delay(&self, attempt: &AttemptId) -> Option<u32>
         ensures { result ≡ delay_of self.now (place_of attempt.now) }
     {
-        self.lates.at(key_of_place(Place::of(attempt)))
+        self.lates.at(key_of_place(AttemptPlace::of(attempt)))
     }
 }

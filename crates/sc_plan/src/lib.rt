@@ -28,7 +28,7 @@ mod tables;
 
 pub use faults::{PlanError, PlanFault, PlanFaultKind};
 pub use laws::{orders_are_numbered, plans_have_one_reading, readers_are_exact};
-pub use lines::{Place, PlanLine};
+pub use lines::{AttemptPlace, PlanLine};
 pub use orders::{Order, OrderKind};
 pub use parsing::parse_plan;
 pub use plans::Plan;

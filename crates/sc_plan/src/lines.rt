@@ -9,7 +9,7 @@ use sc_ids::{AttemptId, ExecId, StageId};
 /// Which attempts a line speaks of: in each attempt of a stage, the one of a partition that was
 /// handed out behind so many others of it.
 #[derive(Clone, Copy, Debug, PartialEq, Eq)]
-pub struct Place {
+pub struct AttemptPlace {
     /// The stage.
     pub stage: StageId,
     /// The partition.
@@ -22,16 +22,16 @@ pub struct Place {
 #[derive(Clone, Copy, Debug, PartialEq, Eq)]
 pub enum PlanLine {
     /// The attempts at a place report a failure in place of what they compute.
-    Fail(Place),
+    Fail(AttemptPlace),
     /// Their reports come late.
     Late {
         /// The place.
-        place: Place,
+        place: AttemptPlace,
         /// How many more reports are told first.
         count: u32,
     },
     /// Their reports come twice.
-    Twice(Place),
+    Twice(AttemptPlace),
     /// The store of an executor is wiped.
     Drop {
         /// The executor.
@@ -57,12 +57,12 @@ pub enum PlanLine {
     },
 }
 
-impl Place {
+impl AttemptPlace {
     /// The place of an attempt, whichever attempt of its stage it is in.
-    pub fn of(attempt: &AttemptId) -> Place
+    pub fn of(attempt: &AttemptId) -> AttemptPlace
         ensures { result ≡ place_of attempt.now }
     {
-        Place {
+        AttemptPlace {
             stage: attempt.stage,
             partition: attempt.partition,
             nth: attempt.nth,
@@ -70,7 +70,7 @@ impl Place {
     }
 
     /// Whether two places are the same.
-    pub(crate) fn is(self, other: Place) -> bool
+    pub(crate) fn is(self, other: AttemptPlace) -> bool
         ensures { result ≡ is_same_place self other }
     {
         self.stage == other.stage && self.partition == other.partition && self.nth == other.nth

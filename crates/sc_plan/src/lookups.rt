@@ -5,7 +5,7 @@ ghost use Rattle.std.specs.Prelude.{◌≡◌, ◌≤◌, ◌<◌, ◌^◌, ◌+
 ghost use Rattle.std.specs.List.Sorted.{IsSortedBy};
 ghost use Rattle.sc_plan.specs.Lookups.{HasShortParts, due_key as key_of_due, entry_in, first_value, is_between, is_lower, place_key, table_of};
 
-use crate::lines::{Place, PlanLine};
+use crate::lines::{AttemptPlace, PlanLine};
 use sc_ids::ExecId;
 use std::alloc::{AllocError, Global};
 use std::marker::Model;
@@ -57,7 +57,7 @@ impl Model for Table {
 }
 
 /// The key of a place.
-pub(crate) fn key_of_place(place: Place) -> u128
+pub(crate) fn key_of_place(place: AttemptPlace) -> u128
     ensures key { result ≡ place_key place }
     ensures small { result < 2 ^ 96 }
     ensures parts { HasShortParts place }

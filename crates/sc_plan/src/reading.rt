@@ -13,7 +13,7 @@ ghost use Rattle.sc_plan.specs.Tables.{number_count as numbers_taken};
 
 use crate::faults::{LineError, PlanFaultKind};
 use crate::limits::{LINE_LIMIT, LINES_LIMIT, NUMBER_LIMIT};
-use crate::lines::{Place, PlanLine};
+use crate::lines::{AttemptPlace, PlanLine};
 use crate::tables::{LineKind, kind_named, number_count};
 use sc_value::{Text, is_digits, nth_word, words_in};
 use std::alloc::Global;
@@ -174,7 +174,7 @@ fn line_from(kind: LineKind, args: &[Text]) -> PlanLine
     let first = number_at(args, 0);
     let second = number_at(args, 1);
     let third = number_at(args, 2);
-    let place = Place {
+    let place = AttemptPlace {
         stage: first,
         partition: second,
         nth: third,

@@ -4,11 +4,11 @@
 
 use crate::claims::assert_end;
 use crate::histories::{COUNTED, assert_counts, counted, last_job, run_planned};
-use sc_core::{Abort, Job};
+use sc_core::{Abort, JobState};
 
 /// The abort of a job whose first stage failed at a partition in its first attempt.
-fn aborted_at(partition: u32) -> Job {
-    Job::Aborted(Abort::TaskLimit {
+fn aborted_at(partition: u32) -> JobState {
+    JobState::Aborted(Abort::TaskLimit {
         stage: 0,
         stage_attempt: 0,
         partition,
@@ -26,7 +26,7 @@ fn three_planned_failures_survive(rt: HostRuntime) {
         ("take: task", "7"),
     ];
     assert_counts(&rt, &seen, &rows);
-    assert_eq!(rt; last_job(&rt, &seen), Job::Done);
+    assert_eq!(rt; last_job(&rt, &seen), JobState::Done);
 }
 
 #[test]

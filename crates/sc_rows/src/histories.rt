@@ -7,7 +7,7 @@
 
 use crate::claims::assert_end;
 use crate::given::{Row, Seen};
-use sc_core::{Job, JobHistory};
+use sc_core::{JobState, JobHistory};
 use std::process::Abort;
 
 /// A count of words in two partitions: stage 0 makes two map outputs, and stage 1 reads them for
@@ -93,7 +93,7 @@ fn count_of<R: Abort + AllocGlobal>(rt: &R, history: &JobHistory, text: &str) ->
 }
 
 /// How the last job of a run ended.
-pub fn last_job<R: Abort>(rt: &R, seen: &Seen) -> Job {
+pub fn last_job<R: Abort>(rt: &R, seen: &Seen) -> JobState {
     let last = seen.histories().last().expect(rt, "a job");
     last.end.job()
 }

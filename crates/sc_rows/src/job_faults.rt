@@ -3,7 +3,7 @@
 
 use crate::jobs::counting_under;
 use crate::transcripts::assert_transcript;
-use sc_core::{Abort, Job};
+use sc_core::{Abort, JobState};
 use sc_ids::Limits;
 
 /// The first map output is told once another report was, and its second copy changes nothing. Until
@@ -29,7 +29,7 @@ fn a_late_report_is_told_when_it_is_released(rt: HostRuntime) {
     let plan = "late 0 0 0 1\ntwice 0 0 0\n";
     let mut journal = counting_under(&rt, Limits::default(), plan);
     assert_transcript(&rt, &mut journal, LATE);
-    assert_eq!(rt; journal.core().job(), Job::Running);
+    assert_eq!(rt; journal.core().job(), JobState::Running);
 }
 
 /// A second copy of a report that is told at once.
@@ -72,7 +72,7 @@ fn a_lost_executor_is_survived(rt: HostRuntime) {
     let plan = "late 0 0 0 1\nlose 0 0 1\n";
     let mut journal = counting_under(&rt, Limits::default(), plan);
     assert_transcript(&rt, &mut journal, LOST);
-    assert_eq!(rt; journal.core().job(), Job::Running);
+    assert_eq!(rt; journal.core().job(), JobState::Running);
 }
 
 /// Both executors are told lost.
@@ -92,5 +92,5 @@ fn a_job_ends_with_its_last_executor(rt: HostRuntime) {
     let plan = "lose 0 0 0\nlose 1 0 0\n";
     let mut journal = counting_under(&rt, Limits::default(), plan);
     assert_transcript(&rt, &mut journal, ALL_LOST);
-    assert_eq!(rt; journal.core().job(), Job::Aborted(Abort::NoExecutor));
+    assert_eq!(rt; journal.core().job(), JobState::Aborted(Abort::NoExecutor));
 }

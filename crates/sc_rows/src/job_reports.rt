@@ -3,7 +3,7 @@
 
 use crate::jobs::{counting, results};
 use crate::transcripts::assert_transcript;
-use sc_core::{Job, story};
+use sc_core::{JobState, story};
 use sc_ids::{AttemptId, Limits};
 
 /// Reports of attempts that weren't handed out, or have ended. They are counted all the same.
@@ -26,7 +26,7 @@ told 7
 fn reports_of_no_running_attempt_are_ignored(rt: HostRuntime) {
     let mut journal = results(&rt, Limits::default());
     assert_transcript(&rt, &mut journal, STRANGERS);
-    assert_eq!(rt; journal.core().job(), Job::Running);
+    assert_eq!(rt; journal.core().job(), JobState::Running);
 }
 
 /// Reports that don't fit their running attempts: none of them is told.
@@ -91,7 +91,7 @@ fn a_late_success_of_an_older_attempt_counts(rt: HostRuntime) {
     let mut journal = counting(&rt, Limits::default());
     assert_transcript(&rt, &mut journal, TWO_ATTEMPTS);
     assert_transcript(&rt, &mut journal, LATE);
-    assert_eq!(rt; journal.core().job(), Job::Done);
+    assert_eq!(rt; journal.core().job(), JobState::Done);
 }
 
 /// Two attempts succeed for one partition: the second success only ends its attempt.
@@ -111,7 +111,7 @@ fn a_repeated_success_changes_nothing(rt: HostRuntime) {
     let mut journal = counting(&rt, Limits::default());
     assert_transcript(&rt, &mut journal, TWO_ATTEMPTS);
     assert_transcript(&rt, &mut journal, REPEATED);
-    assert_eq!(rt; journal.core().job(), Job::Done);
+    assert_eq!(rt; journal.core().job(), JobState::Done);
 }
 
 /// The stories of two attempts of that job.
@@ -207,7 +207,7 @@ fn a_closed_journal_is_the_whole_job(rt: HostRuntime) {
     let history = journal.close();
     assert_eq!(rt; history.entries.len(), 13);
     assert_eq!(rt; history.opening.told(), 0);
-    assert_eq!(rt; history.opening.job(), Job::Running);
+    assert_eq!(rt; history.opening.job(), JobState::Running);
     assert_eq!(rt; history.end.told(), 6);
-    assert_eq!(rt; history.end.job(), Job::Done);
+    assert_eq!(rt; history.end.job(), JobState::Done);
 }

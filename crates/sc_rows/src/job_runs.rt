@@ -8,7 +8,7 @@
 
 use crate::jobs::{counting, counting_again, results};
 use crate::transcripts::assert_transcript;
-use sc_core::{Abort, Job};
+use sc_core::{Abort, JobState};
 use sc_ids::Limits;
 
 /// Both map outputs of a word count are registered.
@@ -38,9 +38,9 @@ told 4
 fn a_word_count_step_by_step(rt: HostRuntime) {
     let mut journal = counting(&rt, Limits::default());
     assert_transcript(&rt, &mut journal, MAPS);
-    assert_eq!(rt; journal.core().job(), Job::Running);
+    assert_eq!(rt; journal.core().job(), JobState::Running);
     assert_transcript(&rt, &mut journal, RESULTS);
-    assert_eq!(rt; journal.core().job(), Job::Done);
+    assert_eq!(rt; journal.core().job(), JobState::Done);
     assert_eq!(rt; journal.core().handed(), 4);
 }
 
@@ -88,7 +88,7 @@ told 6
 fn one_wipe_is_survived(rt: HostRuntime) {
     let mut journal = counting(&rt, Limits::default());
     assert_transcript(&rt, &mut journal, WIPED);
-    assert_eq!(rt; journal.core().job(), Job::Done);
+    assert_eq!(rt; journal.core().job(), JobState::Done);
 }
 
 /// The same where the first failed attempt of a stage is the last.
@@ -110,7 +110,7 @@ fn one_wipe_is_too_many(rt: HostRuntime) {
     assert_transcript(&rt, &mut journal, MAPS);
     assert_transcript(&rt, &mut journal, WIPED_ONCE);
     let why = Abort::StageLimit { stage: 1 };
-    assert_eq!(rt; journal.core().job(), Job::Aborted(why));
+    assert_eq!(rt; journal.core().job(), JobState::Aborted(why));
 }
 
 /// Both tasks of an attempt find the same wipe: that is one failed attempt of their stage.
@@ -133,7 +133,7 @@ fn one_wipe_fails_one_attempt(rt: HostRuntime) {
     let mut journal = counting(&rt, limits);
     assert_transcript(&rt, &mut journal, MAPS);
     assert_transcript(&rt, &mut journal, ONE_WIPE_FOUND_TWICE);
-    assert_eq!(rt; journal.core().job(), Job::Running);
+    assert_eq!(rt; journal.core().job(), JobState::Running);
 }
 
 /// Both stores are wiped one after the other. An output of a task from before, or one that was
@@ -178,7 +178,7 @@ fn the_budget_ends_a_job(rt: HostRuntime) {
     };
     let mut journal = results(&rt, limits);
     assert_transcript(&rt, &mut journal, BUDGET);
-    assert_eq!(rt; journal.core().job(), Job::Aborted(Abort::Budget));
+    assert_eq!(rt; journal.core().job(), JobState::Aborted(Abort::Budget));
 }
 
 /// A run has two executors, so there is none of the number 2.
@@ -232,6 +232,6 @@ fn four_raises_abort(rt: HostRuntime) {
             stage_attempt: 0,
             partition,
         };
-        assert_eq!(rt; journal.core().job(), Job::Aborted(why));
+        assert_eq!(rt; journal.core().job(), JobState::Aborted(why));
     }
 }

@@ -6,7 +6,7 @@
 use crate::claims::assert_end;
 use crate::given::{Row, Seen};
 use crate::histories::{TWO_ACTIONS, WORD_COUNT, assert_counts, last_job};
-use sc_core::Job;
+use sc_core::JobState;
 use std::process::Abort;
 
 /// What is seen of a run of a script over a text, which is to end so.
@@ -162,12 +162,12 @@ fn a_job_may_be_done_where_its_run_is_not(rt: HostRuntime) {
     let end = "status 12, asked [job.spark], 1 read, 2 written\n1\nwrite failed\n";
     assert_end(&rt, &seen, end, script);
     assert_counts(&rt, &seen, &[("take: task", "1 1")]);
-    assert_eq!(rt; last_job(&rt, &seen), Job::Done);
+    assert_eq!(rt; last_job(&rt, &seen), JobState::Done);
     let script = "l = parallelize 2 1 0\nreduce l (/ a b)\n";
     let end = "status 9, asked [job.spark], 1 read, 0 written\ndriver: action 0: DivideByZero\n";
     let seen = ended(&rt, script, "", end);
     assert_counts(&rt, &seen, &[("take: task", "2")]);
-    assert_eq!(rt; last_job(&rt, &seen), Job::Done);
+    assert_eq!(rt; last_job(&rt, &seen), JobState::Done);
 }
 
 #[test]

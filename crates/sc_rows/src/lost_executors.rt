@@ -3,7 +3,7 @@
 
 use crate::claims::assert_end;
 use crate::histories::{COUNTED, assert_counts, counted, last_job, run_planned};
-use sc_core::{Abort, Job};
+use sc_core::{Abort, JobState};
 
 /// What is seen of a word count that no executor is left for.
 const NONE_LEFT: &str =
@@ -18,7 +18,7 @@ fn all_executors_lost(rt: HostRuntime) {
         ("take", "0"),
     ];
     assert_counts(&rt, &seen, &rows);
-    assert_eq!(rt; last_job(&rt, &seen), Job::Aborted(Abort::NoExecutor));
+    assert_eq!(rt; last_job(&rt, &seen), JobState::Aborted(Abort::NoExecutor));
 }
 
 /// Plans, how many executors there are, how the word count ends, and how many of them are told

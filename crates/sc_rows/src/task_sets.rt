@@ -6,7 +6,7 @@
 
 use self::Told::{Asks, Done, DoneBefore, Freed, Held, Lost, Raised, Zombie};
 use sc_ids::{Counts, FailureCause, Fault, Limits, Loc};
-use sc_taskset::{Given, SetRoom, TaskSet, Verdict, hand_outs_keep_account, zombies_offer_nothing};
+use sc_taskset::{GivenTask, SetRoom, TaskSet, Verdict, hand_outs_keep_account, zombies_offer_nothing};
 use std::alloc::{AllocError, Global};
 use std::test::Fail;
 
@@ -68,7 +68,7 @@ fn tell(set: &mut TaskSet, told: &[Told]) -> Result<(), AllocError> {
 const ASKS: Told = Asks(1);
 
 /// The partition of a hand-out, and the number of its attempt.
-fn numbers(given: Option<Given>) -> Option<(u32, u32)> {
+fn numbers(given: Option<GivenTask>) -> Option<(u32, u32)> {
     given.map(|g| (g.partition, g.nth))
 }
 

@@ -5,7 +5,7 @@ use crate::claims::assert_end;
 use crate::histories::{
     COUNTED, TWO_ACTIONS, assert_counts, assert_each_counted, counted, last_job, run_planned,
 };
-use sc_core::{Abort, Job};
+use sc_core::{Abort, JobState};
 
 // The wipe is found by a fetch of the second stage, which fails. One map task runs again.
 #[test]
@@ -20,7 +20,7 @@ fn one_wipe_recovers(rt: HostRuntime) {
         ("take: task", "6"),
     ];
     assert_counts(&rt, &seen, &rows);
-    assert_eq!(rt; last_job(&rt, &seen), Job::Done);
+    assert_eq!(rt; last_job(&rt, &seen), JobState::Done);
 }
 
 // The second executor is wiped too, and told lost once the first wipe was found.
@@ -34,7 +34,7 @@ fn a_wipe_and_a_loss_recover(rt: HostRuntime) {
         ("take: task 1.", "3"),
     ];
     assert_counts(&rt, &seen, &rows);
-    assert_eq!(rt; last_job(&rt, &seen), Job::Done);
+    assert_eq!(rt; last_job(&rt, &seen), JobState::Done);
 }
 
 /// Plans with fewer wipes, and losses counted twice, than attempts of a stage may fail, of which
@@ -78,7 +78,7 @@ fn one_wipe_is_too_many_where_one_attempt_is_allowed(rt: HostRuntime) {
     ];
     assert_counts(&rt, &seen, &rows);
     let why = Abort::StageLimit { stage: 1 };
-    assert_eq!(rt; last_job(&rt, &seen), Job::Aborted(why));
+    assert_eq!(rt; last_job(&rt, &seen), JobState::Aborted(why));
 }
 
 /// A plan, how many attempts of a stage may fail, how the word count ends, and how many fetches

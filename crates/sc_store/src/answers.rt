@@ -7,7 +7,7 @@ use sc_work::Naming;
 
 /// Where a block was put.
 #[derive(Clone, Copy, Debug, PartialEq, Eq)]
-pub struct Receipt {
+pub struct PutReceipt {
     /// The generation of the store.
     pub generation: Generation,
 }

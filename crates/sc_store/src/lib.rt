@@ -19,6 +19,6 @@ mod answers;
 mod blocks;
 mod store;
 
-pub use answers::{FetchAnswer, Receipt, WipeAnswer};
+pub use answers::{FetchAnswer, PutReceipt, WipeAnswer};
 pub use blocks::Block;
 pub use store::Store;

@@ -7,7 +7,7 @@ ghost use Rattle.sc_store.specs.OwnBlocks.{IsOwnPartition};
 ghost use Rattle.sc_store.specs.StoreData.{HoldsOwn, cached_in, store_data, with_cache};
 ghost use Rattle.sc_store.specs.Storing.{Fetches, IsWipe, Puts, Wipes};
 
-use crate::answers::{FetchAnswer, Receipt, WipeAnswer};
+use crate::answers::{FetchAnswer, PutReceipt, WipeAnswer};
 use crate::blocks::Block;
 use sc_cache::{BlockCache, CachedId};
 use sc_columns::Rows;
@@ -92,14 +92,14 @@ impl<W: Naming> Store<W> {
     }
 
     /// Keeps a block, which takes the place of one of its name. A refused call changes nothing.
-    pub fn put(&mut self, block: Block<W>) -> Result<Receipt, AllocError>
+    pub fn put(&mut self, block: Block<W>) -> Result<PutReceipt, AllocError>
         ensures receipt { IfOk result (λ r. r.generation ≡ self.old.generation) }
         ensures puts { OnOk result (Puts self.old block self.new) }
         ensures refused { OnErr result (self.new ≡ self.old) }
     {
         let (id, output) = block.into_parts();
         self.blocks.insert(id, output)?;
-        Ok(Receipt {
+        Ok(PutReceipt {
             generation: self.generation,
         })
     }

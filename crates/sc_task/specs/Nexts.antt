@@ -28,7 +28,7 @@ FetchesFrom exec Complete = ⊥
 
 -- what is reported where a block has no location, and lay somewhere before
 abbrev pub Misses : TaskData → Next → ReportData → Type 0
-Misses t (Missing (Some last)) report = report ≡ report_data t (findings.Missing last)
+Misses t (Missing (Some last)) report = report ≡ report_data t (findings.Metadata last)
 Misses t next report = ⊥
 
 -- a block has no location, and lay somewhere before

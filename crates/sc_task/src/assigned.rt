@@ -158,7 +158,7 @@ impl<W: Naming> Assigned<W> {
         match self.next() {
             Next::Missing { last: Some(last) } => {
                 let Assigned { task, .. } = self;
-                Report::new(task, Finding::Missing { last })
+                Report::new(task, Finding::Metadata { last })
             }
             _ => unreachable!(),
         }

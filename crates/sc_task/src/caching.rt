@@ -10,7 +10,9 @@ ghost use Rattle.sc_compute.specs.Tasks.{HasAll, IsTargetOf, Leaves, target_data
 ghost use Rattle.sc_task.specs.Caches.{IsSameButCache, has_cache};
 
 use sc_cache::CachedId;
-use sc_compute::{Asking, CachedPart, Computed, Stages, Target, compute, compute_cached};
+use sc_compute::{
+    Asking, CachedPart, ShuffleInputs, TaskOutput, TaskTarget, compute, compute_cached,
+};
 use sc_lineage::{Node, Place, Work};
 use sc_store::Store;
 use sc_work::Naming;
@@ -22,10 +24,10 @@ use std::alloc::{AllocError, Global};
 pub(crate) fn left_with<W: Naming>(
     alloc: Global,
     work: &Work,
-    stages: &Stages,
+    stages: &ShuffleInputs,
     store: &mut Store<W>,
-    target: Target<'_>,
-) -> Result<Computed, AllocError>
+    target: TaskTarget<'_>,
+) -> Result<TaskOutput, AllocError>
     requires named { work.now ≡ W.work }
     requires target { IsTargetOf work.now (target_data_of target) }
     requires right { AreRight work.now stages.now }
@@ -71,9 +73,9 @@ fn is_cache(node: &Node) -> bool
 fn known_in<W: Naming>(
     alloc: Global,
     work: &Work,
-    stages: &Stages,
+    stages: &ShuffleInputs,
     store: &Store<W>,
-    target: Target<'_>,
+    target: TaskTarget<'_>,
 ) -> Result<Vec<CachedPart>, AllocError>
     requires named { work.now ≡ W.work }
     requires target { IsTargetOf work.now (target_data_of target) }

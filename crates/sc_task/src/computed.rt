@@ -17,7 +17,7 @@ use crate::stored::Stored;
 use sc_columns::Rows;
 use sc_ids::Loc;
 use sc_net::{Finding, Report, Task};
-use sc_store::{Block, Receipt, Store};
+use sc_store::{Block, PutReceipt, Store};
 use sc_work::Naming;
 use std::alloc::{AllocError, AllocFailed};
 use std::marker::Model;
@@ -87,7 +87,7 @@ impl<W: Naming> Computed<W> {
         };
         let exec = store.exec();
         match put_share(store, &block) {
-            Ok(Receipt { generation }) => Ok(Stored::new(task, Loc { exec, generation })),
+            Ok(PutReceipt { generation }) => Ok(Stored::new(task, Loc { exec, generation })),
             Err(_) => Err(AllocFailed {
                 value: Computed::of_block(task, block),
             }),
@@ -108,7 +108,7 @@ impl<W: Naming> Computed<W> {
 }
 
 /// Puts a share of a block into a store. A refused call changes nothing.
-fn put_share<W: Naming>(store: &mut Store<W>, block: &Block<W>) -> Result<Receipt, AllocError>
+fn put_share<W: Naming>(store: &mut Store<W>, block: &Block<W>) -> Result<PutReceipt, AllocError>
     ensures receipt { IfOk result (λ r. r.generation ≡ store.old.generation) }
     ensures puts { OnOk result (Puts store.old block.now store.new) }
     ensures refused { OnErr result (store.new ≡ store.old) }

@@ -15,8 +15,8 @@ ghost use Rattle.sc_task.specs.States.{AreOf, HasReadAll};
 
 use crate::caching::left_with;
 use crate::cursors::parents_of;
-use sc_compute::{Computed, Stages, Target};
-use sc_ids::{Stage, Target as StageTarget};
+use sc_compute::{ShuffleInputs, TaskOutput, TaskTarget};
+use sc_ids::{Stage, TaskTarget as StageTarget};
 use sc_lineage::{Action, Node, NodeId, Work};
 use sc_net::Task;
 use sc_shuffle::MapOutput;
@@ -31,7 +31,7 @@ pub(crate) fn left_by<W: Naming>(
     task: &Task<W>,
     got: &[MapOutput],
     store: &mut Store<W>,
-) -> Result<Computed, AllocError>
+) -> Result<TaskOutput, AllocError>
     requires all { HasReadAll W.work task.now got.now }
     ensures leaves { IfOk result (Leaves W.work (target_of_task W.work task.now)) }
     ensures rest { IsSameButCache store.old store.new }
@@ -56,8 +56,8 @@ fn made_for<W: Naming>(
     work: &Work,
     task: &Task<W>,
     got: &[MapOutput],
-    target: Target<'_>,
-) -> Result<Stages, AllocError>
+    target: TaskTarget<'_>,
+) -> Result<ShuffleInputs, AllocError>
     requires named { work.now ≡ W.work }
     requires all { HasReadAll work.now task.now got.now }
     requires target { target_data_of target ≡ target_of_task work.now task.now }
@@ -67,8 +67,8 @@ fn made_for<W: Naming>(
 {
     let mut stages = handed(alloc, work, task, got)?;
     match target {
-        Target::Map { node, side, .. } => made_to_map(alloc, work, task, stages, node, side),
-        Target::Result { action, .. } => {
+        TaskTarget::Map { node, side, .. } => made_to_map(alloc, work, task, stages, node, side),
+        TaskTarget::Result { action, .. } => {
             stages.prepare(alloc, work, node_of(action))?;
             Ok(stages)
         }
@@ -81,10 +81,10 @@ fn made_to_map<W: Naming>(
     alloc: Global,
     work: &Work,
     task: &Task<W>,
-    mut stages: Stages,
+    mut stages: ShuffleInputs,
     node: NodeId,
     side: u8,
-) -> Result<Stages, AllocError>
+) -> Result<ShuffleInputs, AllocError>
     requires named { work.now ≡ W.work }
     requires right { AreRight work.now stages }
     requires known { node < length work.now.script.nodes }
@@ -106,13 +106,13 @@ fn handed<W: Naming>(
     work: &Work,
     task: &Task<W>,
     got: &[MapOutput],
-) -> Result<Stages, AllocError>
+) -> Result<ShuffleInputs, AllocError>
     requires named { work.now ≡ W.work }
     requires all { HasReadAll work.now task.now got.now }
     ensures { IfOk result (AreRight work.now) }
 {
     task.job().is_job();
-    let mut stages = Stages::new(alloc, work)?;
+    let mut stages = ShuffleInputs::new(alloc, work)?;
     let mut rest = got;
     for parent in parents_of(task) {
         let Some(stage) = task.job().stage(*parent) else {
@@ -139,7 +139,7 @@ fn count_left(stage: &Stage) -> usize
 fn hand_in(
     alloc: Global,
     work: &Work,
-    stages: &mut Stages,
+    stages: &mut ShuffleInputs,
     stage: &Stage,
     outputs: &[MapOutput],
 ) -> Result<(), AllocError>
@@ -172,7 +172,7 @@ fn shared(alloc: Global, outputs: &[MapOutput]) -> Result<Vec<MapOutput>, AllocE
 fn tell_bounds<W: Naming>(
     work: &Work,
     task: &Task<W>,
-    stages: &mut Stages,
+    stages: &mut ShuffleInputs,
     node: NodeId,
 ) -> Result<(), AllocError>
     requires named { work.now ≡ W.work }

@@ -3,7 +3,7 @@
 
 ghost use Rattle.std.specs.Prelude.{◌≡◌, All, Some, false};
 ghost use Rattle.sc_compute.specs.Tasks.{Leaves};
-ghost use Rattle.sc_compute.specs.declared.targets.Computed.TheVariants.{Output};
+ghost use Rattle.sc_compute.specs.declared.targets.TaskOutput.TheVariants.{Output};
 ghost use Rattle.sc_lineage.specs.Targets.{own_value};
 ghost use Rattle.sc_net.specs.Reports.{IsWithoutRaise, report_data};
 ghost use Rattle.sc_net.specs.Tasks.{blocks_of_task, is_planned, target_of_task};
@@ -13,7 +13,7 @@ ghost use Rattle.sc_task.specs.Steps.{Computes};
 
 use crate::computed::Computed;
 use crate::took::Did;
-use sc_compute::Computed as Left;
+use sc_compute::TaskOutput as Left;
 use sc_expr::Raise;
 use sc_lineage::Stream;
 use sc_net::{Finding, Report, Task};

@@ -6,7 +6,7 @@ use Rattle.std.proofs.lemmas.List.Elements.{All-head, All-tail}
 use Rattle.std.proofs.lemmas.Bool.Decides.{nat_tests}
 use Rattle.sc_taskset.specs.declared.rows.Row.{Row}
 use Rattle.sc_taskset.specs.declared.rows.Failure.{Failure}
-use Rattle.sc_taskset.specs.declared.tasks.Running.{Running}
+use Rattle.sc_taskset.specs.declared.tasks.RunningCopy.{RunningCopy}
 use Rattle.sc_taskset.specs.TaskSetData.{TaskData, TaskSetData, with_tasks}
 use Rattle.sc_taskset.specs.Lookups.{is_there_and, task_at, with_task, is_task_of, is_nth, is_running, without_copy}
 use Rattle.sc_taskset.specs.Reports.{ended_task, failed_task, is_failure, is_last_failure, noted_task}
@@ -210,12 +210,12 @@ limit_noted failures rows partition nth limit counts fails is =
 
 -- one attempt less is left of those with one that runs
 pub without_less :
-    (nth : ℕ) (copies : List Running) → is_running nth copies ≡ true
+    (nth : ℕ) (copies : List RunningCopy) → is_running nth copies ≡ true
     → length (without_copy nth copies) + 1 ≤ length copies
 without_less nth [] is = absurd (search (rules, is))
 without_less nth (c ∷ copies) is = by (is_nth nth c) is (λ i. without_less nth copies i)
   where
-    rest : List Running
+    rest : List RunningCopy
     rest = without_copy nth copies
 
     by : (b : Bool) → (b || is_running nth copies) ≡ true

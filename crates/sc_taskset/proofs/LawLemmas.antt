@@ -2,7 +2,7 @@
 use Rattle.std.proofs.Common.{◌≡◌, ℕ, ◌+◌, ◌==◌, Bool, true, false, cond, not, ◌&&◌, ◌||◌, List, [], ◌∷◌, ◌++◌, Option, Some, None, refl, ap, ◌∙◌, arith}
 use Rattle.std.specs.Option.{option_map}
 use Rattle.std.proofs.lemmas.Bool.Decides.{nat_tests}
-use Rattle.sc_taskset.specs.declared.tasks.Running.{Running}
+use Rattle.sc_taskset.specs.declared.tasks.RunningCopy.{RunningCopy}
 use Rattle.sc_taskset.specs.TaskSetData.{TaskData, TaskSetData}
 use Rattle.sc_taskset.specs.Lookups.{is_there_and, is_task_of, task_at, with_task, is_finished, is_idle, is_one_elsewhere}
 use Rattle.sc_taskset.specs.Offers.{Offers, given_in, given_of, handed, handed_task, is_copyable_task, is_pending_task, may_be_given, running}
@@ -37,12 +37,12 @@ task_account :
     → t.given + 1 + left_in (Some (handed_task exec now t)) ≡ t.given + left_in (Some t)
 task_account exec now t c may = by (is_finished t) t.copies t.denied may
   where
-    left : Bool → List Running → Bool → ℕ
+    left : Bool → List RunningCopy → Bool → ℕ
     left f copies d =
         cond (not f && (is_idle copies && not d)) 2
         (cond (not f && (is_single copies && not d)) 1 0)
 
-    by : (f : Bool) (copies : List Running) (d : Bool)
+    by : (f : Bool) (copies : List RunningCopy) (d : Bool)
         → ((not f && (is_idle copies && not d))
         || (c && (not f && (is_one_elsewhere exec copies && (not d && false))))) ≡ true
         → t.given + 1 + left f (copies ++ running t.given exec now ∷ []) d

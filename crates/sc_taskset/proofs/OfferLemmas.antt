@@ -3,8 +3,8 @@ use Rattle.std.proofs.Common.{◌≡◌, ℕ, ◌<◌, Bool, true, false, cond, 
 use Rattle.std.specs.List.{find}
 use Rattle.std.specs.Option.{option_or}
 use Rattle.std.proofs.lemmas.Bool.Decides.{nat_tests}
-use Rattle.sc_taskset.specs.declared.tasks.Given.{Given}
-use Rattle.sc_taskset.specs.declared.tasks.Running.{Running}
+use Rattle.sc_taskset.specs.declared.tasks.GivenTask.{GivenTask}
+use Rattle.sc_taskset.specs.declared.tasks.RunningCopy.{RunningCopy}
 use Rattle.sc_taskset.specs.TaskSetData.{TaskData, TaskSetData}
 use Rattle.sc_taskset.specs.Lookups.{is_there_and, task_at, is_finished, is_idle, is_one_elsewhere}
 use Rattle.sc_taskset.specs.Offers.{IsNever, IsSmallest, Offers, is_copyable_task, is_pending_task, may_be_given, given_of}
@@ -14,7 +14,7 @@ use Rattle.sc_taskset.proofs.FindLemmas.{first_found, found_passes, none_found}
 use Rattle.sc_taskset.proofs.TaskLemmas.{may_join}
 
 -- the offer that a task is
-abbrev pub offer_of : TaskData → Given
+abbrev pub offer_of : TaskData → GivenTask
 offer_of t = record { partition = t.partition; nth = t.given }
 
 -- nothing is there where no task is offered
@@ -115,7 +115,7 @@ joins_given s exec partition may = by (task_at partition s.tasks) may
 
 -- an offered task may be handed out
 pub offered_given :
-    (s : TaskSetData) (exec : ℕ) (g : Given) → Offers s exec (Some g)
+    (s : TaskSetData) (exec : ℕ) (g : GivenTask) → Offers s exec (Some g)
     → may_be_given s exec g.partition ≡ true
 offered_given s exec g offers =
     ⊎_elim (λ first. rw first.passes refl)
@@ -125,7 +125,7 @@ offered_given s exec g offers =
 pub joins_short : (exec : ℕ) (t : TaskData) → may_join exec t ≡ true → length t.copies < 2
 joins_short exec t joins = by t.copies joins
   where
-    by : (copies : List Running) → (is_idle copies || is_one_elsewhere exec copies) ≡ true
+    by : (copies : List RunningCopy) → (is_idle copies || is_one_elsewhere exec copies) ≡ true
         → length copies < 2
     by [] j = omega arith
     by (c ∷ []) j = omega arith

@@ -6,7 +6,7 @@ use Rattle.std.specs.Option.{option_map, option_to_list}
 use Rattle.std.proofs.lemmas.List.Sorted.{IsNonDecreasingBy-insert}
 use Rattle.std.proofs.lemmas.List.Sums.{prefix_len-le-length, prefix_len_passes, prefix_len_stops}
 use Rattle.std.proofs.lemmas.Bool.Decides.{nat_tests}
-use Rattle.sc_taskset.specs.declared.tasks.Running.{Running}
+use Rattle.sc_taskset.specs.declared.tasks.RunningCopy.{RunningCopy}
 use Rattle.sc_taskset.specs.TaskSetData.{TaskData, TaskSetData}
 use Rattle.sc_taskset.specs.Lookups.{task_at, with_task, is_task_of, is_nth, is_finished, are_finished, copy_at, without_copy}
 use Rattle.sc_taskset.specs.Reports.{after_success, duration, duration_in, succeeded_task, task_duration, with_duration}
@@ -41,12 +41,12 @@ durations_rise (Some d) durations rise =
 
 -- one attempt less is left where the one of a number was found
 found_less :
-    (nth : ℕ) (copies : List Running) (c : Running) → copy_at nth copies ≡ Some c
+    (nth : ℕ) (copies : List RunningCopy) (c : RunningCopy) → copy_at nth copies ≡ Some c
     → length (without_copy nth copies) + 1 ≤ length copies
 found_less nth [] c found = absurd (search (rules, found))
 found_less nth (d ∷ copies) c found = by (is_nth nth d) found (λ f. found_less nth copies c f)
   where
-    rest : List Running
+    rest : List RunningCopy
     rest = without_copy nth copies
 
     by : (b : Bool) → cond b (Some d) (copy_at nth copies) ≡ Some c
@@ -63,10 +63,10 @@ task_less :
 task_less None now t = omega arith
 task_less (Some nth) now t = by (is_finished t) (copy_at nth t.copies) refl
   where
-    rest : List Running
+    rest : List RunningCopy
     rest = without_copy nth t.copies
 
-    by : (b : Bool) (o : Option Running) → copy_at nth t.copies ≡ o
+    by : (b : Bool) (o : Option RunningCopy) → copy_at nth t.copies ≡ o
         → length (option_to_list (cond b None (option_map (duration now) o))) + length rest
         ≤ length t.copies
     by true o e = omega (arith, fewer (λ c. not (is_nth nth c)) t.copies)

@@ -4,7 +4,7 @@ use Rattle.std.specs.List.{All, filter, list_any}
 use Rattle.std.proofs.lemmas.List.Elements.{All-head, All-tail, All-push, All-weaker, All-filter, All-get_or}
 use Rattle.std.proofs.lemmas.List.Quantifiers.{all_pairs_push}
 use Rattle.std.proofs.lemmas.Bool.Decides.{nat_tests}
-use Rattle.sc_taskset.specs.declared.tasks.Running.{Running}
+use Rattle.sc_taskset.specs.declared.tasks.RunningCopy.{RunningCopy}
 use Rattle.sc_taskset.specs.TaskSetData.{TaskData}
 use Rattle.sc_taskset.specs.Lookups.{is_nth, is_running, is_idle, is_one_elsewhere, without_exec}
 use Rattle.sc_taskset.specs.Offers.{handed_task, running}
@@ -13,7 +13,7 @@ use Rattle.sc_taskset.specs.Sound.{AreApart, IsPast, IsSoundTask}
 
 -- fewer attempts are apart
 apart_filter :
-    (p : Running → Bool) (copies : List Running) → AreApart copies → AreApart (filter p copies)
+    (p : RunningCopy → Bool) (copies : List RunningCopy) → AreApart copies → AreApart (filter p copies)
 apart_filter p [] apart = apart
 apart_filter p (c ∷ []) apart = by (p c)
   where
@@ -60,7 +60,7 @@ any_without test (x ∷ xs) = by (test x) refl (any_without test xs)
 
 -- what runs was handed out
 running_below :
-    (nth given : ℕ) (copies : List Running) → All (λ c. c.nth < given) copies
+    (nth given : ℕ) (copies : List RunningCopy) → All (λ c. c.nth < given) copies
     → is_running nth copies ≡ true → nth < given
 running_below nth given [] all is = absurd (search (rules, is))
 running_below nth given (c ∷ copies) all is =
@@ -76,7 +76,7 @@ running_below nth given (c ∷ copies) all is =
 
 -- a number that runs and one that doesn't are two
 running_apart :
-    (m nth : ℕ) (copies : List Running) → is_running m copies ≡ false
+    (m nth : ℕ) (copies : List RunningCopy) → is_running m copies ≡ false
     → is_running nth copies ≡ true → (m == nth) ≡ false
 running_apart m nth copies none is = by (m == nth) refl
   where
@@ -88,7 +88,7 @@ running_apart m nth copies none is = by (m == nth) refl
 
 -- one more attempt, of another number, makes no other run
 any_push :
-    (m nth exec now : ℕ) (copies : List Running) → is_running m copies ≡ false
+    (m nth exec now : ℕ) (copies : List RunningCopy) → is_running m copies ≡ false
     → (nth == m) ≡ false → is_running m (copies ++ running nth exec now ∷ []) ≡ false
 any_push m nth exec now [] none other = rw other
 any_push m nth exec now (c ∷ copies) none other =
@@ -103,7 +103,7 @@ any_push m nth exec now (c ∷ copies) none other =
 
 -- a task with fewer attempts
 pub sound_fewer :
-    (p : Running → Bool) (t : TaskData) → IsSoundTask t
+    (p : RunningCopy → Bool) (t : TaskData) → IsSoundTask t
     → IsSoundTask (record t { copies = filter p t.copies })
 sound_fewer p t s =
     record {
@@ -208,7 +208,7 @@ may_join exec t = is_idle t.copies || is_one_elsewhere exec t.copies
 
 -- one more attempt is apart from the one that runs
 apart_push :
-    (given exec now : ℕ) (copies : List Running) → All (λ c. c.nth < given) copies
+    (given exec now : ℕ) (copies : List RunningCopy) → All (λ c. c.nth < given) copies
     → (is_idle copies || is_one_elsewhere exec copies) ≡ true
     → AreApart (copies ++ running given exec now ∷ [])
 apart_push given exec now [] all joins = tt

@@ -1,12 +1,12 @@
 -- How many hand-outs a set may still make until it is told something.
 use Rattle.std.specs.Prelude.{ℕ, ◌&&◌, not, Bool, true, false, List, [], ◌∷◌, Option, Some, None, if◌then◌else◌}
-use Rattle.sc_taskset.specs.declared.tasks.Running.{Running}
+use Rattle.sc_taskset.specs.declared.tasks.RunningCopy.{RunningCopy}
 use Rattle.sc_taskset.specs.TaskSetData.{TaskData, TaskSetData}
 use Rattle.sc_taskset.specs.Lookups.{task_at, is_finished}
 use Rattle.sc_taskset.specs.Offers.{is_pending_task}
 
 -- exactly one attempt runs
-abbrev pub is_single : List Running → Bool
+abbrev pub is_single : List RunningCopy → Bool
 is_single [] = false
 is_single (c ∷ []) = true
 is_single (c ∷ d ∷ copies) = false

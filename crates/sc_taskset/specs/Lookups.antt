@@ -3,7 +3,7 @@ use Rattle.std.specs.Prelude.{ℕ, Bool, true, false, List, [], ◌∷◌, Optio
 use Rattle.std.specs.List.{find, filter, list_any, list_all}
 use Rattle.sc_taskset.specs.declared.tasks.Finish.{Finish}
 use Rattle.sc_taskset.specs.declared.tasks.Finish.TheVariants.{Unfinished, OnExecutor, InOlderSet}
-use Rattle.sc_taskset.specs.declared.tasks.Running.{Running}
+use Rattle.sc_taskset.specs.declared.tasks.RunningCopy.{RunningCopy}
 use Rattle.sc_taskset.specs.TaskSetData.{TaskData, TaskSetData}
 
 -- a list with the first element that passes a test changed
@@ -54,32 +54,32 @@ abbrev pub are_finished : List TaskData → Bool
 are_finished tasks = list_all is_finished tasks
 
 -- an attempt has this number
-abbrev pub is_nth : ℕ → Running → Bool
+abbrev pub is_nth : ℕ → RunningCopy → Bool
 is_nth nth c = c.nth == nth
 
 -- the running attempt of a number, where there is one
-abbrev pub copy_at : ℕ → List Running → Option Running
+abbrev pub copy_at : ℕ → List RunningCopy → Option RunningCopy
 copy_at nth copies = find (is_nth nth) copies
 
 -- an attempt of this number runs
-abbrev pub is_running : ℕ → List Running → Bool
+abbrev pub is_running : ℕ → List RunningCopy → Bool
 is_running nth copies = list_any (is_nth nth) copies
 
 -- the running attempts but for the one of a number
-abbrev pub without_copy : ℕ → List Running → List Running
+abbrev pub without_copy : ℕ → List RunningCopy → List RunningCopy
 without_copy nth copies = filter (λ c. not (is_nth nth c)) copies
 
 -- the running attempts but for those on an executor
-abbrev pub without_exec : ℕ → List Running → List Running
+abbrev pub without_exec : ℕ → List RunningCopy → List RunningCopy
 without_exec exec copies = filter (λ c. not (c.exec == exec)) copies
 
 -- nothing runs
-abbrev pub is_idle : List Running → Bool
+abbrev pub is_idle : List RunningCopy → Bool
 is_idle [] = true
 is_idle (c ∷ copies) = false
 
 -- exactly one attempt runs, on another executor than this one
-abbrev pub is_one_elsewhere : ℕ → List Running → Bool
+abbrev pub is_one_elsewhere : ℕ → List RunningCopy → Bool
 is_one_elsewhere exec [] = false
 is_one_elsewhere exec (c ∷ []) = not (c.exec == exec)
 is_one_elsewhere exec (c ∷ d ∷ copies) = false

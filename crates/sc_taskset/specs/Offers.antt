@@ -1,7 +1,7 @@
 -- What a task set hands out.
 use Rattle.std.specs.Prelude.{ℕ, ◌+◌, ◌<◌, ◌≡◌, ◌⊎◌, ◌&&◌, ◌||◌, not, Bool, true, false, [], ◌∷◌, ◌++◌, Option, Some, None}
-use Rattle.sc_taskset.specs.declared.tasks.Given.{Given}
-use Rattle.sc_taskset.specs.declared.tasks.Running.{Running}
+use Rattle.sc_taskset.specs.declared.tasks.GivenTask.{GivenTask}
+use Rattle.sc_taskset.specs.declared.tasks.RunningCopy.{RunningCopy}
 use Rattle.sc_taskset.specs.TaskSetData.{TaskData, TaskSetData, with_tasks}
 use Rattle.sc_taskset.specs.Lookups.{task_at, with_task, has_task_and, is_finished, is_idle, is_one_elsewhere}
 
@@ -59,12 +59,12 @@ abbrev pub given_of : TaskSetData → ℕ → ℕ
 given_of s partition = given_in (task_at partition s.tasks)
 
 -- what a set has for an executor: nothing exactly where nothing is pending and nothing copyable
-abbrev pub Offers : TaskSetData → ℕ → Option Given → Type 0
+abbrev pub Offers : TaskSetData → ℕ → Option GivenTask → Type 0
 Offers s exec None = IsNever (is_pending s) × IsNever (is_copyable s exec)
 Offers s exec (Some g) = IsNext s exec g.partition × (g.nth ≡ given_of s g.partition)
 
 -- a running attempt
-abbrev pub running : ℕ → ℕ → ℕ → Running
+abbrev pub running : ℕ → ℕ → ℕ → RunningCopy
 running nth exec started = record { nth = nth; exec = exec; started = started }
 
 -- a task with one more attempt, which runs on this executor from now on
@@ -75,10 +75,3 @@ handed_task exec now t =
 -- a set with a partition handed out to an executor
 abbrev pub handed : TaskSetData → ℕ → ℕ → ℕ → TaskSetData
 handed s partition exec now = with_tasks s (with_task partition (handed_task exec now) s.tasks)
-
--- A hand-out, by its answer: the next partition under the number of its next attempt, or nothing,
--- which changes nothing.
-abbrev pub Gives : TaskSetData → ℕ → ℕ → Option Given → TaskSetData → Type 0
-Gives s exec now None after = Offers s exec None × (after ≡ s)
-Gives s exec now (Some g) after =
-    Offers s exec (Some g) × (after ≡ handed s g.partition exec now)

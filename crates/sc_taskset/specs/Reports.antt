@@ -6,7 +6,7 @@ use Rattle.sc_ids.specs.declared.failures.FailureCause.{FailureCause}
 use Rattle.sc_ids.specs.Failures.{is_counted}
 use Rattle.sc_taskset.specs.declared.tasks.Finish.{Finish}
 use Rattle.sc_taskset.specs.declared.tasks.Finish.TheVariants.{Unfinished, OnExecutor, InOlderSet}
-use Rattle.sc_taskset.specs.declared.tasks.Running.{Running}
+use Rattle.sc_taskset.specs.declared.tasks.RunningCopy.{RunningCopy}
 use Rattle.sc_taskset.specs.TaskSetData.{TaskData, TaskSetData, with_tasks}
 use Rattle.sc_taskset.specs.Lookups.{task_at, with_task, has_task_and, is_finished, is_finish_on, are_finished, copy_at, is_running, without_copy, without_exec}
 
@@ -25,7 +25,7 @@ abbrev pub is_first : TaskSetData → ℕ → Option ℕ → Bool
 is_first s partition nth = has_task_and (is_first_success nth) s partition
 
 -- the running attempts but for the one that succeeded, which may be none of these
-abbrev pub copies_left : Option ℕ → List Running → List Running
+abbrev pub copies_left : Option ℕ → List RunningCopy → List RunningCopy
 copies_left None copies = copies
 copies_left (Some nth) copies = without_copy nth copies
 
@@ -38,7 +38,7 @@ succeeded_task nth t =
     }
 
 -- how long an attempt ran: nothing where time has gone back
-abbrev pub duration : ℕ → Running → ℕ
+abbrev pub duration : ℕ → RunningCopy → ℕ
 duration now c = now - c.started
 
 -- how long a task took by a success, where it is its first and an attempt of this set

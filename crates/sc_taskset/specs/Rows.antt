@@ -3,7 +3,7 @@ use Rattle.std.specs.Prelude.{ℕ, ◌≤◌, ◌+◌, ◌==◌, Bool, List, [],
 use Rattle.std.specs.Option.{option_to_list, option_or}
 use Rattle.std.specs.List.{filter, find}
 use Rattle.sc_ids.specs.declared.limits.Limits.{Limits}
-use Rattle.sc_taskset.specs.declared.tasks.Running.{Running}
+use Rattle.sc_taskset.specs.declared.tasks.RunningCopy.{RunningCopy}
 use Rattle.sc_taskset.specs.declared.rows.Row.{Row}
 use Rattle.sc_taskset.specs.declared.rows.Failure.{Failure}
 use Rattle.sc_taskset.specs.TaskSetData.{TaskData, TaskSetData}
@@ -11,7 +11,7 @@ use Rattle.sc_taskset.specs.Offers.{is_pending_task, is_copyable_task}
 use Rattle.sc_taskset.specs.Sound.{IsSoundSet}
 
 -- the running attempts of a row
-abbrev pub copies_of : Row → List Running
+abbrev pub copies_of : Row → List RunningCopy
 copies_of r = option_to_list r.first ++ option_to_list r.second
 
 -- a failure is of this partition

@@ -2,12 +2,12 @@
 use Rattle.std.specs.Prelude.{ℕ, ◌<◌, ◌≡◌, ◌==◌, true, false, List, [], ◌∷◌, length}
 use Rattle.std.specs.List.{All, AllPairs}
 use Rattle.std.specs.List.Sorted.{IsNonDecreasing}
-use Rattle.sc_taskset.specs.declared.tasks.Running.{Running}
+use Rattle.sc_taskset.specs.declared.tasks.RunningCopy.{RunningCopy}
 use Rattle.sc_taskset.specs.TaskSetData.{TaskData, TaskSetData, partitions_of}
 use Rattle.sc_taskset.specs.Lookups.{is_running, are_finished}
 
 -- at most two attempts, with different numbers and on different executors
-abbrev pub AreApart : List Running → Type 0
+abbrev pub AreApart : List RunningCopy → Type 0
 AreApart [] = Unit {0}
 AreApart (c ∷ []) = Unit {0}
 AreApart (c ∷ d ∷ []) = ((c.nth == d.nth) ≡ false) × ((c.exec == d.exec) ≡ false)

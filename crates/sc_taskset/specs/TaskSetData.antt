@@ -3,7 +3,7 @@ use Rattle.std.specs.Prelude.{ℕ, Bool, false, List, [], map}
 use Rattle.sc_ids.specs.declared.limits.Limits.{Limits}
 use Rattle.sc_taskset.specs.declared.tasks.Finish.{Finish}
 use Rattle.sc_taskset.specs.declared.tasks.Finish.TheVariants.{Unfinished}
-use Rattle.sc_taskset.specs.declared.tasks.Running.{Running}
+use Rattle.sc_taskset.specs.declared.tasks.RunningCopy.{RunningCopy}
 
 -- the task of one partition
 pub record TaskData : Type 0 where
@@ -12,7 +12,7 @@ pub record TaskData : Type 0 where
   -- whether a success of the partition was told, and of whom
   pub finish : Finish
   -- its attempts that run, the one handed out first in front
-  pub copies : List Running
+  pub copies : List RunningCopy
   -- how often it was handed out, which is the number of its next attempt
   pub given : ℕ
   -- the numbers of its attempts whose failures count, in the order in which they were told

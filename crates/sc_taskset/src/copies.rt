@@ -5,32 +5,36 @@ ghost use Rattle.std.specs.Prelude.{◌≡◌, ◌++◌};
 ghost use Rattle.std.specs.Option.{option_to_list};
 ghost use Rattle.sc_taskset.specs.Lookups.{copy_at, is_one_elsewhere, without_copy, without_exec};
 
-use crate::tasks::Running;
+use crate::tasks::RunningCopy;
 use sc_ids::ExecId;
 
 /// An attempt, if it is the one of a number.
-pub fn nth_of(copy: Option<Running>, nth: u32) -> Option<Running>
+pub fn nth_of(copy: Option<RunningCopy>, nth: u32) -> Option<RunningCopy>
     ensures { result ≡ copy_at nth (option_to_list copy) }
 {
     copy.filter(|c| c.nth == nth)
 }
 
 /// An attempt, unless it is the one of a number.
-pub fn unless_nth(copy: Option<Running>, nth: u32) -> Option<Running>
+pub fn unless_nth(copy: Option<RunningCopy>, nth: u32) -> Option<RunningCopy>
     ensures { option_to_list result ≡ without_copy nth (option_to_list copy) }
 {
     copy.filter(|c| c.nth != nth)
 }
 
 /// An attempt, unless it runs on an executor.
-pub fn unless_on(copy: Option<Running>, exec: ExecId) -> Option<Running>
+pub fn unless_on(copy: Option<RunningCopy>, exec: ExecId) -> Option<RunningCopy>
     ensures { option_to_list result ≡ without_exec exec (option_to_list copy) }
 {
     copy.filter(|c| c.exec != exec)
 }
 
 /// Whether exactly one attempt runs, on another executor.
-pub fn is_one_elsewhere(first: Option<Running>, second: Option<Running>, exec: ExecId) -> bool
+pub fn is_one_elsewhere(
+    first: Option<RunningCopy>,
+    second: Option<RunningCopy>,
+    exec: ExecId,
+) -> bool
     ensures { result ≡ is_one_elsewhere exec (option_to_list first ++ option_to_list second) }
 {
     match first {
@@ -40,7 +44,7 @@ pub fn is_one_elsewhere(first: Option<Running>, second: Option<Running>, exec: E
 }
 
 /// Whether an attempt runs, on another executor.
-fn is_elsewhere(copy: Option<Running>, exec: ExecId) -> bool
+fn is_elsewhere(copy: Option<RunningCopy>, exec: ExecId) -> bool
     ensures { result ≡ is_one_elsewhere exec (option_to_list copy) }
 {
     match copy {

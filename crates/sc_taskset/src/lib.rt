@@ -2,9 +2,9 @@
 //! stage has failed too often. Spark calls this TaskSetManager.
 //!
 //! A [`TaskSet`] has a task for each partition that was missing when its stage was submitted.
-//! [`TaskSet::next`] hands the smallest pending partition to an executor; what comes of it is told
-//! by [`TaskSet::succeeded`], [`TaskSet::ended`], [`TaskSet::failed`] and
-//! [`TaskSet::executor_lost`], and whether the partition is to wait for a commit by
+//! [`TaskSet::peek`] says which partition is next for an executor, and [`TaskSet::give`] hands it
+//! out; what comes of it is told by [`TaskSet::succeeded`], [`TaskSet::ended`], [`TaskSet::failed`]
+//! and [`TaskSet::executor_lost`], and whether the partition is to wait for a commit by
 //! [`TaskSet::held`]. A set that is finished, or is told so by [`TaskSet::zombie`], is a zombie: it
 //! hands out nothing more, but its attempts go on. A [`SetRoom`] is the memory of a set that begins
 //! later, so that it can begin where none may be wanted.
@@ -32,4 +32,4 @@ mod tasks;
 pub use laws::{hand_outs_keep_account, zombies_offer_nothing};
 pub use rooms::SetRoom;
 pub use task_sets::TaskSet;
-pub use tasks::{Finish, Given, Running, Verdict};
+pub use tasks::{Finish, GivenTask, RunningCopy, Verdict};

@@ -11,7 +11,7 @@ ghost use Rattle.sc_taskset.specs.Rows.{copies_of, task_of};
 ghost use Rattle.sc_taskset.specs.TaskSetData.{fresh_task};
 
 use crate::copies::{is_one_elsewhere, nth_of, unless_nth, unless_on};
-use crate::tasks::{Finish, Running};
+use crate::tasks::{Finish, RunningCopy};
 use sc_ids::ExecId;
 
 /// A counted failure of an attempt.
@@ -29,8 +29,8 @@ pub struct Row {
     pub finish: Finish,
     pub given: u32,
     pub denied: bool,
-    pub first: Option<Running>,
-    pub second: Option<Running>,
+    pub first: Option<RunningCopy>,
+    pub second: Option<RunningCopy>,
 }
 
 impl Row {
@@ -60,7 +60,7 @@ impl Row {
     }
 
     /// The attempt of a number, where it runs.
-    pub fn copy_at(self, nth: u32) -> Option<Running>
+    pub fn copy_at(self, nth: u32) -> Option<RunningCopy>
         ensures { result ≡ copy_at nth (copies_of self) }
     {
         nth_of(self.first, nth).or(nth_of(self.second, nth))
@@ -120,7 +120,7 @@ impl Row {
         ensures { (failures : List Failure)
             → task_of failures result ≡ handed_task exec now (task_of failures self) }
     {
-        let copy = Running {
+        let copy = RunningCopy {
             nth: self.given,
             exec,
             started: now,

@@ -3,7 +3,7 @@
 
 ghost use Rattle.std.specs.Prelude.{◌≡◌, ◌↔◌, ◌&&◌, not, OnOk, OnErr, IfOk, true};
 ghost use Rattle.sc_taskset.specs.Lookups.{are_finished, has_task_and, is_finished};
-ghost use Rattle.sc_taskset.specs.Offers.{Gives, Offers, given_of, handed, may_be_given};
+ghost use Rattle.sc_taskset.specs.Offers.{Offers, given_of, handed, may_be_given};
 ghost use Rattle.sc_taskset.specs.Reports.{after_end, after_failure, after_held, after_loss, after_success, as_zombie, is_first, reaches_limit};
 ghost use Rattle.sc_taskset.specs.Sound.{IsSoundSet};
 
@@ -12,7 +12,7 @@ use crate::notes::{note_duration, note_failure, reserve_one, verdict};
 use crate::rows::Failure;
 use crate::scans::{are_finished, duration_in, ends, fails_in, is_first_in, offered, row_at};
 use crate::tables::Table;
-use crate::tasks::{Given, Verdict};
+use crate::tasks::{GivenTask, Verdict};
 use sc_ids::{Epoch, ExecId, FailureCause, Limits};
 use std::alloc::AllocError;
 use std::marker::Model;
@@ -128,11 +128,11 @@ impl TaskSet {
 
     /// What it has for an executor at this time: the smallest pending partition or, where nothing
     /// is pending, the smallest one that may be copied there.
-    pub fn peek(&self, exec: ExecId, _now: u64) -> Option<Given>
+    pub fn peek(&self, exec: ExecId, _now: u64) -> Option<GivenTask>
         ensures { Offers self.now exec result }
     {
         let row = offered(&self.rows, self.is_zombie, self.limits.speculation, exec)?;
-        Some(Given {
+        Some(GivenTask {
             partition: row.partition,
             nth: row.given,
         })
@@ -149,21 +149,6 @@ impl TaskSet {
         reserve_one(&mut self.durations)?;
         hand_in(&mut self.rows, partition, exec, now)?;
         Ok(())
-    }
-
-    /// Hands the next partition out to an executor, if there is one. A refused call changes
-    /// nothing.
-    pub fn next(&mut self, exec: ExecId, now: u64) -> Result<Option<Given>, AllocError>
-        ensures ok { IfOk result (λ given. Gives self.old exec now given self.new) }
-        ensures err { OnErr result (self.new ≡ self.old) }
-    {
-        match self.peek(exec, now) {
-            Some(given) => {
-                self.give(given.partition, exec, now)?;
-                Ok(Some(given))
-            }
-            None => Ok(None),
-        }
     }
 
     /// Notes a success of a partition, by an attempt of this number or, with none, of an older

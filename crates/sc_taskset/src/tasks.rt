@@ -16,7 +16,7 @@ pub enum Finish {
 
 /// An attempt that runs.
 #[derive(Clone, Copy, Debug, PartialEq, Eq)]
-pub struct Running {
+pub struct RunningCopy {
     /// Its number among the attempts of its partition in the set, from 0.
     pub nth: u32,
     /// Where it runs.
@@ -27,7 +27,7 @@ pub struct Running {
 
 /// What was handed out.
 #[derive(Clone, Copy, Debug, PartialEq, Eq)]
-pub struct Given {
+pub struct GivenTask {
     /// The partition.
     pub partition: u32,
     /// How many attempts of it the set had handed out before.

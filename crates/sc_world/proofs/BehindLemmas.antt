@@ -11,7 +11,7 @@ use Rattle.sc_dag.specs.Openings.{AreNumbered}
 use Rattle.sc_dag.specs.Reports.{block_by}
 use Rattle.sc_core.specs.CoreData.{CoreData, ended, shelved_if, without_shelved}
 use Rattle.sc_core.specs.Sound.{was_given}
-use Rattle.sc_core.specs.declared.answers.Job.{Job}
+use Rattle.sc_core.specs.declared.answers.JobState.{JobState}
 use Rattle.sc_core.specs.declared.events.Outcome.{Outcome}
 use Rattle.sc_core.proofs.PlannedLemmas.{counted_more}
 use Rattle.sc_store.specs.StoreData.{StoreData}
@@ -88,10 +88,10 @@ learnt_tied stores t task (findings.Gone on wanted found) after tied says learns
         → AreTied stores after
     by None l = rw l (gone_tied stores t on found tied says)
     by (Some b) l = rw l (gone_tied stores t on found tied says)
-learnt_tied stores t task (findings.Missing last) after tied says learns =
+learnt_tied stores t task (findings.Metadata last) after tied says learns =
     absurd (nothing (block_of_task task) learns)
   where
-    nothing : (o : Option BlockId) → Learns t o (outcome_of (findings.Missing last)) after → ⊥
+    nothing : (o : Option BlockId) → Learns t o (outcome_of (findings.Metadata last)) after → ⊥
     nothing None l = l
     nothing (Some b) l = l
 
@@ -118,7 +118,7 @@ itself_behind work w sound =
       stays = sound.stays;
     }
 
-pub ended_behind : (w : WorldData) (c : CoreData) (job : Job) → IsBehind w c
+pub ended_behind : (w : WorldData) (c : CoreData) (job : JobState) → IsBehind w c
     → IsBehind w (ended c job)
 ended_behind w c job h =
     record {

@@ -15,8 +15,8 @@ use Rattle.sc_task.specs.Attempts.{AttemptData}
 use Rattle.sc_task.specs.Caches.{IsSameButCache}
 use Rattle.sc_world.specs.Places.{ComputesAmong, ComputesAt, EvictsAmong, PutsAmong, PutsAt, ReadsAmong, WipesAmong}
 use Rattle.sc_world.specs.Steps.{ReadsAt, phase_of}
-use Rattle.sc_world.specs.declared.places.Phase.{Phase}
-use Rattle.sc_world.specs.declared.places.Phase.TheVariants as phases
+use Rattle.sc_world.specs.declared.places.AttemptState.{AttemptState}
+use Rattle.sc_world.specs.declared.places.AttemptState.TheVariants as phases
 
 -- ---- places
 
@@ -28,7 +28,7 @@ is_there (x ∷ xs) (suc i) out =
     let below : i < length xs = is_there xs i out in omega (arith, below)
 
 -- so is one whose attempt isn't idle
-pub is_busy : (held : List (Option AttemptData)) (exec : ℕ) (p : Phase)
+pub is_busy : (held : List (Option AttemptData)) (exec : ℕ) (p : AttemptState)
     → phase_of (at_or held exec None) ≡ p → (p ≡ phases.Idle → ⊥) → exec < length held
 is_busy held exec p is busy = is_there held exec (λ none. busy (sym is ∙ ap phase_of none))
 

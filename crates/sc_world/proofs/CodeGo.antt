@@ -15,7 +15,7 @@ use Rattle.sc_task.specs.declared.next.Next.{Next}
 use Rattle.sc_task.specs.declared.next.Next.TheVariants.{Complete, Fetch, Missing}
 use Rattle.sc_world.specs.Places.{AreInOrder, ComputesAt, FetchStands, FetchesTo, NextStands}
 use Rattle.sc_world.specs.Steps.{Makes, ReadsAt, ReadsNext, phase_of, phase_reading}
-use Rattle.sc_world.specs.declared.places.Phase.TheVariants as phases
+use Rattle.sc_world.specs.declared.places.AttemptState.TheVariants as phases
 use Rattle.sc_world.specs.Ties.{StandsAt, StandsIn}
 
 got_is : {A : Type 0} (xs : List A) (i : ℕ) (x d : A) → slice_get xs i ≡ Some x → get_or xs i d ≡ x

@@ -29,8 +29,8 @@ use Rattle.sc_desk.specs.declared.takes.Taken.TheVariants as takes
 use Rattle.sc_world.specs.Places.{ComputesAmong, EvictsAmong, PutsAmong, ReadsAmong, WipesAmong, held_with}
 use Rattle.sc_world.specs.Steps.{Computes, EvictsOne, Posts, Puts, Reads, Takes, WipesOne, given_to, phase_of}
 use Rattle.sc_world.specs.WorldData.{WorldData, core_in, held_at, with_desk, world_data}
-use Rattle.sc_world.specs.declared.places.Phase.{Phase}
-use Rattle.sc_world.specs.declared.places.Phase.TheVariants as phases
+use Rattle.sc_world.specs.declared.places.AttemptState.{AttemptState}
+use Rattle.sc_world.specs.declared.places.AttemptState.TheVariants as phases
 
 -- ---- steps
 

@@ -139,7 +139,7 @@ report_fits work c r t finding numbered task same true_of from no_save =
         (any_there (is_here (loc_at exec wanted)) t.hand_out.inputs
         (locations.Here (loc_at exec wanted)) given (same_loc (loc_at exec wanted)))
         (grind (arith, nat_tests, lt))
-    by (findings.Missing last) given from =
+    by (findings.Metadata last) given from =
         any_there (was_last last) t.hand_out.inputs (locations.Missing (Some last)) given
         (same_loc last)
 

@@ -54,7 +54,7 @@ says_later before after later t (findings.Gone on wanted found) h =
     let up : generation_at before on ≤ generation_at after on = later.reached on in
     let le : found ≤ generation_at before on = h in
     omega (arith, up, le)
-says_later before after later t (findings.Missing last) h = h
+says_later before after later t (findings.Metadata last) h = h
 
 brings_later : (before after : List StoreData) → AreLater before after → (exec : ℕ)
     (a : AttemptData) → Brings before exec a → Brings after exec a

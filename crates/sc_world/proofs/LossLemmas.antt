@@ -14,7 +14,7 @@ use Rattle.sc_core.specs.Sound.{IsSoundCore}
 use Rattle.sc_core.specs.Tells.{released}
 use Rattle.sc_core.specs.declared.answers.Abort.TheVariants.{NoExecutor}
 use Rattle.sc_core.specs.declared.answers.Answer.{Answer}
-use Rattle.sc_core.specs.declared.answers.Job.TheVariants as jobs
+use Rattle.sc_core.specs.declared.answers.JobState.TheVariants as jobs
 use Rattle.sc_core.proofs.LeftLemmas.{Left, left_same, left_then, released_left}
 use Rattle.sc_core.proofs.LossLemmas.{Loses, lost_loses}
 use Rattle.sc_lineage.specs.ScriptData.{WorkData}

@@ -112,4 +112,4 @@ report_in_time work w exec t finding sound held = by finding right.brings.0
         let le : found ≤ generation_at w.stores on = says in
         let due : generation_at w.stores on ≤ wipes_due work (core_in w).told on = sound.due on in
         omega (arith, le, due)
-    by (findings.Missing last) says = tt
+    by (findings.Metadata last) says = tt

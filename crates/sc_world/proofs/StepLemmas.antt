@@ -81,7 +81,7 @@ computes_on work stores exec t next makes =
     fails (findings.Map loc) f = absurd f
     fails (findings.Result rows) f = absurd f
     fails (findings.Gone at wanted found) f = absurd f
-    fails (findings.Missing last) f = absurd f
+    fails (findings.Metadata last) f = absurd f
 
     made : (next : AttemptData) → HasMade work t next
         → (task_of next ≡ t) × Brings stores exec next
@@ -91,7 +91,7 @@ computes_on work stores exec t next makes =
     made (reported u findings.Planned) bad = absurd bad
     made (reported u (findings.Raised r)) bad = absurd bad
     made (reported u (findings.Gone at wanted found)) bad = absurd bad
-    made (reported u (findings.Missing last)) bad = absurd bad
+    made (reported u (findings.Metadata last)) bad = absurd bad
     made (assigned u got) bad = absurd bad
     made (stored u loc) bad = absurd bad
 

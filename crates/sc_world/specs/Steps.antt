@@ -32,8 +32,8 @@ use Rattle.sc_task.specs.Steps.{FailsAs, PutsOwn}
 use Rattle.sc_task.specs.declared.next.Next.{Next}
 use Rattle.sc_task.specs.declared.next.Next.TheVariants.{Complete, Fetch, Missing}
 use Rattle.sc_world.specs.WorldData.{WorldData, core_in, held_at, with_desk, with_held, with_store}
-use Rattle.sc_world.specs.declared.places.Phase.{Phase}
-use Rattle.sc_world.specs.declared.places.Phase.TheVariants as phases
+use Rattle.sc_world.specs.declared.places.AttemptState.{AttemptState}
+use Rattle.sc_world.specs.declared.places.AttemptState.TheVariants as phases
 use Rattle.sc_world.specs.declared.steps.Applied.{Applied}
 use Rattle.sc_world.specs.declared.steps.Applied.TheVariants as applied
 use Rattle.sc_world.specs.declared.steps.Step.{Step}
@@ -68,7 +68,7 @@ Gets t got loc store after =
 abbrev pub ReadsNext : List StoreData → TaskData → ℕ → Next → AttemptData → Type 0
 ReadsNext stores t got (Fetch block loc) after =
     (store : StoreData) × (slice_get stores loc.exec ≡ Some store) × Gets t got loc store after
-ReadsNext stores t got (Missing (Some last)) after = after ≡ reported t (findings.Missing last)
+ReadsNext stores t got (Missing (Some last)) after = after ≡ reported t (findings.Metadata last)
 ReadsNext stores t got (Missing None) after = ⊥
 ReadsNext stores t got Complete after = ⊥
 
@@ -219,13 +219,13 @@ Goes work w step answer after = Does work w step answer after
 -- ---- what comes next for an attempt
 
 -- what an attempt that reads does next
-abbrev pub phase_reading : Next → Phase
+abbrev pub phase_reading : Next → AttemptState
 phase_reading (Fetch block loc) = phases.Reads
 phase_reading (Missing last) = phases.Reads
 phase_reading Complete = phases.Computes
 
 -- how far the attempt is that an executor may have out
-abbrev pub phase_of : Option AttemptData → Phase
+abbrev pub phase_of : Option AttemptData → AttemptState
 phase_of None = phases.Idle
 phase_of (Some (assigned t got)) = phase_reading (next_of t got)
 phase_of (Some (computed t)) = phases.Puts

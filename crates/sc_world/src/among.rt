@@ -7,7 +7,7 @@ ghost use Rattle.sc_ids.specs.Changes.{change_at};
 ghost use Rattle.sc_store.specs.Storing.{IsWipe};
 ghost use Rattle.sc_task.specs.Attempts.{reported};
 ghost use Rattle.sc_world.specs.Places.{AreInOrder, ComputesAmong, EvictsAmong, PutsAmong, ReadStands, ReadsAmong, WipesAmong, held_with};
-ghost use Rattle.sc_world.specs.declared.places.Phase.{Phase};
+ghost use Rattle.sc_world.specs.declared.places.AttemptState.{AttemptState};
 ghost use Rattle.sc_world.specs.Steps.{phase_of};
 
 use crate::places::Place;
@@ -44,7 +44,7 @@ pub(crate) fn read_among<W: Naming>(
 ) -> Result<(), AllocError>
     requires order { AreInOrder stores.now }
     requires stands { IfSome (at_or held.old.items exec None) (ReadStands stores.now) }
-    requires reads { phase_of (at_or held.old.items exec None) ≡ Phase.Reads }
+    requires reads { phase_of (at_or held.old.items exec None) ≡ AttemptState.Reads }
     ensures reads { OnOk result (ReadsAmong stores.now exec held.old.items held.new.items) }
     ensures refused { OnErr result (held.new.items ≡ held.old.items) }
 {
@@ -59,7 +59,7 @@ pub(crate) fn compute_among<W: Naming>(
     exec: ExecId,
 ) -> Result<(), AllocError>
     requires there { exec < length stores.old.items }
-    requires computes { phase_of (at_or held.old.items exec None) ≡ Phase.Computes }
+    requires computes { phase_of (at_or held.old.items exec None) ≡ AttemptState.Computes }
     ensures computes { OnOk result (ComputesAmong W.work exec held.old.items stores.old.items
         held.new.items stores.new.items) }
     ensures refused { OnErr result (held.new.items ≡ held.old.items) }
@@ -77,7 +77,7 @@ pub(crate) fn put_among<W: Naming>(
     exec: ExecId,
 ) -> Result<Loc, AllocError>
     requires there { exec < length stores.old.items }
-    requires puts { phase_of (at_or held.old.items exec None) ≡ Phase.Puts }
+    requires puts { phase_of (at_or held.old.items exec None) ≡ AttemptState.Puts }
     ensures puts { IfOk result (λ loc. PutsAmong W.work exec held.old.items stores.old.items loc
         held.new.items stores.new.items) }
     ensures refused { OnErr result (held.new.items ≡ held.old.items) }
@@ -89,7 +89,7 @@ pub(crate) fn put_among<W: Naming>(
 
 /// The attempt of an executor goes, and what it reports goes on.
 pub(crate) fn report_among<W: Naming>(held: &mut Vec<Place<W>>, exec: ExecId) -> Report<W>
-    requires reports { phase_of (at_or held.old.items exec None) ≡ Phase.Reports }
+    requires reports { phase_of (at_or held.old.items exec None) ≡ AttemptState.Reports }
     ensures held { at_or held.old.items exec None ≡ Some (reported result.task result.finding) }
     ensures gone { held.new.items ≡ change_at held.old.items exec (λ _. None) }
 {

@@ -9,7 +9,7 @@ ghost use Rattle.sc_world.specs.Steps.{Goes};
 ghost use Rattle.sc_world.specs.WorldData.{core_in};
 ghost use Rattle.sc_world.specs.declared.steps.Step.TheVariants as steps;
 
-use crate::places::Phase;
+use crate::places::AttemptState;
 use crate::steps::{Applied, Step};
 use crate::worlds::World;
 use sc_base::OrMemory;
@@ -67,7 +67,7 @@ impl<W: Naming> World<W> {
         ensures goes { IfOk result (λ a. Goes W.work self.old (steps.Read exec) a self.new) }
         ensures refused { OnErr result (self.new ≡ self.old) }
     {
-        if self.phase(exec) == Phase::Reads {
+        if self.phase(exec) == AttemptState::Reads {
             self.read(exec)?;
             Ok(Applied::Done)
         } else {
@@ -79,7 +79,7 @@ impl<W: Naming> World<W> {
         ensures goes { IfOk result (λ a. Goes W.work self.old (steps.Compute exec) a self.new) }
         ensures refused { OnErr result (self.new ≡ self.old) }
     {
-        if self.phase(exec) == Phase::Computes {
+        if self.phase(exec) == AttemptState::Computes {
             self.compute(alloc, exec)?;
             Ok(Applied::Done)
         } else {
@@ -91,7 +91,7 @@ impl<W: Naming> World<W> {
         ensures goes { IfOk result (λ a. Goes W.work self.old (steps.Put exec) a self.new) }
         ensures refused { OnErr result (self.new ≡ self.old) }
     {
-        if self.phase(exec) == Phase::Puts {
+        if self.phase(exec) == AttemptState::Puts {
             Ok(Applied::Put(self.put(exec)?))
         } else {
             Ok(Applied::NotEnabled)
@@ -102,7 +102,7 @@ impl<W: Naming> World<W> {
         ensures goes { IfOk result (λ a. Goes W.work self.old (steps.Post exec) a self.new) }
         ensures refused { OnErr result (self.new ≡ self.old) }
     {
-        if self.phase(exec) == Phase::Reports {
+        if self.phase(exec) == AttemptState::Reports {
             Ok(Applied::Told(self.post(exec)?))
         } else {
             Ok(Applied::NotEnabled)

@@ -10,7 +10,7 @@ ghost use Rattle.sc_task.specs.declared.next.Next.{Next};
 ghost use Rattle.sc_world.specs.Places.{AreInOrder, FetchStands, FetchesTo, IsAtRest, NextStands};
 ghost use Rattle.sc_world.specs.Steps.{HasMade, Makes, ReadsAt, phase_of, phase_reading};
 
-use crate::places::Phase;
+use crate::places::AttemptState;
 use sc_net::Task;
 use sc_store::Store;
 use sc_task::{Assigned, Attempt, Computed, Did, Next, Took};
@@ -18,23 +18,23 @@ use sc_work::Naming;
 use std::alloc::{AllocFailed, Global};
 
 /// How far an attempt is.
-pub(crate) fn phase_of<W: Naming>(attempt: &Attempt<W>) -> Phase
+pub(crate) fn phase_of<W: Naming>(attempt: &Attempt<W>) -> AttemptState
     ensures { result ≡ phase_of (Some (attempt_data_of attempt.now)) }
 {
     match attempt {
         Attempt::Assigned(state) => phase_reading(state.next()),
-        Attempt::Computed(_) => Phase::Puts,
-        Attempt::Stored(_) | Attempt::Reported(_) => Phase::Reports,
+        Attempt::Computed(_) => AttemptState::Puts,
+        Attempt::Stored(_) | Attempt::Reported(_) => AttemptState::Reports,
     }
 }
 
 /// How far an attempt is that reads, by what comes next.
-fn phase_reading(next: Next) -> Phase
+fn phase_reading(next: Next) -> AttemptState
     ensures { result ≡ phase_reading next }
 {
     match next {
-        Next::Fetch { .. } | Next::Missing { .. } => Phase::Reads,
-        Next::Complete => Phase::Computes,
+        Next::Fetch { .. } | Next::Missing { .. } => AttemptState::Reads,
+        Next::Complete => AttemptState::Computes,
     }
 }
 
@@ -46,7 +46,7 @@ pub(crate) fn read_next<W: Naming>(
 ) -> Result<Attempt<W>, AllocFailed<Assigned<W>>>
     requires order { AreInOrder stores.now }
     requires stands { NextStands stores.now (next_of state.task state.got) }
-    requires reads { phase_reading (next_of state.task state.got) ≡ Phase.Reads }
+    requires reads { phase_reading (next_of state.task state.got) ≡ AttemptState.Reads }
     ensures reads { IfOk result (λ next. ReadsAt stores.now
         (Some (assigned state.task state.got)) (Some (attempt_data_of next))) }
     ensures rests { IfOk result (λ next. IsAtRest (Some (attempt_data_of next))) }

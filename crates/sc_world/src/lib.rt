@@ -26,6 +26,6 @@ mod turns;
 mod worlds;
 
 pub use laws::{reports_move_trackers, worlds_stay_sound};
-pub use places::Phase;
+pub use places::AttemptState;
 pub use steps::{Applied, Step};
 pub use worlds::{NoRoom, World};

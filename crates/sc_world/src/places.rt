@@ -18,7 +18,7 @@ use std::marker::Model;
 
 /// How far the attempt is that an executor may have out.
 #[derive(Clone, Copy, Debug, PartialEq, Eq)]
-pub enum Phase {
+pub enum AttemptState {
     /// There is none.
     Idle,
     /// It is to read its next block.
@@ -62,12 +62,12 @@ impl<W: Naming> Place<W> {
     }
 
     /// How far its attempt is.
-    pub(crate) fn phase(&self) -> Phase
+    pub(crate) fn phase(&self) -> AttemptState
         ensures { result ≡ phase_of self.now }
     {
         match &self.attempt {
             Some(attempt) => phase_of(attempt),
-            None => Phase::Idle,
+            None => AttemptState::Idle,
         }
     }
 
@@ -89,7 +89,7 @@ impl<W: Naming> Place<W> {
     pub(crate) fn read(&mut self, stores: &[Store<W>]) -> Result<(), AllocError>
         requires order { AreInOrder stores.now }
         requires stands { IfSome self.old (ReadStands stores.now) }
-        requires reads { phase_of self.old ≡ Phase.Reads }
+        requires reads { phase_of self.old ≡ AttemptState.Reads }
         ensures reads { OnOk result (ReadsAt stores.now self.old self.new) }
         ensures refused { OnErr result (self.new ≡ self.old) }
     {
@@ -114,7 +114,7 @@ impl<W: Naming> Place<W> {
     /// The attempt has read all, and computes; meanwhile the store of its executor may use cached
     /// blocks, and keep more of them. A refused call changes nothing.
     pub(crate) fn compute(&mut self, alloc: Global, store: &mut Store<W>) -> Result<(), AllocError>
-        requires computes { phase_of self.old ≡ Phase.Computes }
+        requires computes { phase_of self.old ≡ AttemptState.Computes }
         ensures computes { OnOk result (ComputesAt W.work self.old self.new) }
         ensures cached { OnOk result (IsSameButCache store.old store.new) }
         ensures refused { OnErr result (self.new ≡ self.old) }
@@ -141,7 +141,7 @@ impl<W: Naming> Place<W> {
     /// The attempt puts the block that it has computed into the store of its executor, and is to
     /// report where it lies. A refused call changes nothing.
     pub(crate) fn put(&mut self, store: &mut Store<W>) -> Result<Loc, AllocError>
-        requires puts { phase_of self.old ≡ Phase.Puts }
+        requires puts { phase_of self.old ≡ AttemptState.Puts }
         ensures puts { IfOk result
             (λ loc. PutsAt W.work self.old store.old loc self.new store.new) }
         ensures refused { OnErr result (self.new ≡ self.old) }
@@ -168,7 +168,7 @@ impl<W: Naming> Place<W> {
 
     /// The attempt leaves the place, and what it reports goes on.
     pub(crate) fn take_report(&mut self) -> Report<W>
-        requires reports { phase_of self.old ≡ Phase.Reports }
+        requires reports { phase_of self.old ≡ AttemptState.Reports }
         ensures held { self.old ≡ Some (reported result.task result.finding) }
         ensures empty { self.new ≡ None }
     {

@@ -11,7 +11,7 @@ ghost use Rattle.sc_desk.specs.Orders.{IsDueAmong};
 ghost use Rattle.sc_plan.specs.Orders.{wipes_of};
 ghost use Rattle.sc_desk.specs.declared.posts.Posted.{Posted};
 ghost use Rattle.sc_world.specs.Places.{IsReceived};
-ghost use Rattle.sc_world.specs.declared.places.Phase.{Phase};
+ghost use Rattle.sc_world.specs.declared.places.AttemptState.{AttemptState};
 ghost use Rattle.sc_world.specs.Steps.{Computes, EvictsOne, HandsOrder, LosesOne, Posts, Puts, Reads, ReleasesOne, Takes, WipesOne, phase_of};
 ghost use Rattle.sc_world.specs.WorldData.{core_in, held_at};
 
@@ -45,7 +45,7 @@ impl<W: Naming> World<W> {
     /// An executor's attempt reads its next block, or finds that it can't. A refused call changes
     /// nothing.
     pub fn read(&mut self, exec: ExecId) -> Result<(), AllocError>
-        requires reads { phase_of (held_at self.old exec) ≡ Phase.Reads }
+        requires reads { phase_of (held_at self.old exec) ≡ AttemptState.Reads }
         ensures reads { OnOk result (Reads self.old exec self.new) }
         ensures refused { OnErr result (self.new ≡ self.old) }
     {
@@ -55,7 +55,7 @@ impl<W: Naming> World<W> {
     /// An executor's attempt computes, which has read all; its store may use and keep cached blocks
     /// meanwhile. A refused call changes nothing.
     pub fn compute(&mut self, alloc: Global, exec: ExecId) -> Result<(), AllocError>
-        requires computes { phase_of (held_at self.old exec) ≡ Phase.Computes }
+        requires computes { phase_of (held_at self.old exec) ≡ AttemptState.Computes }
         ensures computes { OnOk result (Computes W.work self.old exec self.new) }
         ensures refused { OnErr result (self.new ≡ self.old) }
     {
@@ -65,7 +65,7 @@ impl<W: Naming> World<W> {
     /// An executor's attempt puts the block that it has computed into the executor's store. A
     /// refused call changes nothing.
     pub fn put(&mut self, exec: ExecId) -> Result<Loc, AllocError>
-        requires puts { phase_of (held_at self.old exec) ≡ Phase.Puts }
+        requires puts { phase_of (held_at self.old exec) ≡ AttemptState.Puts }
         ensures puts { IfOk result (λ loc. Puts W.work self.old exec loc self.new) }
         ensures refused { OnErr result (self.new ≡ self.old) }
     {
@@ -75,7 +75,7 @@ impl<W: Naming> World<W> {
     /// An executor's attempt reports, and the executor has none out any more. A refused call
     /// changes nothing.
     pub fn post(&mut self, exec: ExecId) -> Result<Answer, AllocError>
-        requires reports { phase_of (held_at self.old exec) ≡ Phase.Reports }
+        requires reports { phase_of (held_at self.old exec) ≡ AttemptState.Reports }
         ensures posts { IfOk result (λ answer. Posts W.work self.old exec answer self.new) }
         ensures refused { OnErr result (self.new ≡ self.old) }
     {

@@ -8,7 +8,7 @@ ghost use Rattle.sc_desk.specs.Orders.{IsDueOrder};
 ghost use Rattle.sc_world.specs.Serial.{Advances, Asks, Drives, Finishes, GoesOn, IsAlone, IsLive, IsResting, Turns};
 ghost use Rattle.sc_world.specs.WorldData.{core_in, held_at};
 
-use crate::places::Phase;
+use crate::places::AttemptState;
 use crate::worlds::World;
 use sc_ids::ExecId;
 use sc_plan::{Order, OrderKind};
@@ -132,14 +132,14 @@ impl<W: Naming> World<W> {
     {
         self.is_world();
         match self.phase(exec) {
-            Phase::Idle => unreachable!(),
-            Phase::Reads => self.read(exec),
-            Phase::Computes => self.compute(alloc, exec),
-            Phase::Puts => {
+            AttemptState::Idle => unreachable!(),
+            AttemptState::Reads => self.read(exec),
+            AttemptState::Computes => self.compute(alloc, exec),
+            AttemptState::Puts => {
                 self.put(exec)?;
                 Ok(())
             }
-            Phase::Reports => {
+            AttemptState::Reports => {
                 let _ = self.post(exec)?;
                 Ok(())
             }

@@ -4,7 +4,7 @@
 ghost use Rattle.std.specs.Prelude.{◌≡◌, IfErr, IfOk, None, Some, replicate};
 ghost use Rattle.sc_core.specs.CoreData.{job_runs};
 ghost use Rattle.sc_core.specs.Journals.{Replays};
-ghost use Rattle.sc_core.specs.declared.answers.Job.TheVariants.{Done};
+ghost use Rattle.sc_core.specs.declared.answers.JobState.TheVariants.{Done};
 ghost use Rattle.sc_desk.specs.Begins.{FitsLast, IsPassedFor};
 ghost use Rattle.sc_desk.specs.DeskData.{core_of};
 ghost use Rattle.sc_desk.specs.Sound.{AreAllResults, AreEvident};
@@ -13,7 +13,7 @@ ghost use Rattle.sc_world.specs.Sound.{IsSoundWorld};
 ghost use Rattle.sc_world.specs.Steps.{phase_of};
 ghost use Rattle.sc_world.specs.WorldData.{core_in, held_at};
 
-use crate::places::{Phase, Place};
+use crate::places::{AttemptState, Place};
 use sc_desk::{Closed, Desk};
 use sc_ids::ExecId;
 use sc_store::Store;
@@ -87,12 +87,12 @@ impl<W: Naming> World<W> {
     }
 
     /// How far the attempt is that an executor may have out.
-    pub fn phase(&self, exec: ExecId) -> Phase
+    pub fn phase(&self, exec: ExecId) -> AttemptState
         ensures { result ≡ phase_of (held_at self.now exec) }
     {
         match self.held.get(exec as usize) {
             Some(place) => place.phase(),
-            None => Phase::Idle,
+            None => AttemptState::Idle,
         }
     }
 
@@ -101,8 +101,8 @@ impl<W: Naming> World<W> {
         ensures { result ≡ job_runs (core_in self.now) }
     {
         match self.desk.core().job() {
-            sc_core::Job::Running => true,
-            sc_core::Job::Done | sc_core::Job::Aborted(_) => false,
+            sc_core::JobState::Running => true,
+            sc_core::JobState::Done | sc_core::JobState::Aborted(_) => false,
         }
     }
 

@@ -1,7 +1,7 @@
 use Rattle.std.proofs.Common.{◌≡◌, ◌∙◌, List, Option, Some, map, ap, subst, sym}
 use Rattle.sc_value.specs.Datum.{Datum}
 use Rattle.sc_core.specs.CoreData.{CoreData}
-use Rattle.sc_core.specs.declared.answers.Job.TheVariants.{Done}
+use Rattle.sc_core.specs.declared.answers.JobState.TheVariants.{Done}
 use Rattle.sc_jobs.specs.JobData.{JobData}
 use Rattle.sc_jobs.specs.Plans.{IsJobFor}
 use Rattle.sc_desk.specs.DeskData.{DeskData}

@@ -1,6 +1,6 @@
 use Rattle.std.proofs.Common.{rules}
 use Rattle.sc_world.proofs.CodeAmong.{both_ok, computes_among, is_busy}
-use Rattle.sc_world.specs.declared.places.Phase.TheVariants as phases
+use Rattle.sc_world.specs.declared.places.AttemptState.TheVariants as phases
 use Rattle.sc_world.proofs.among.compute_among.Goals as goal
 
 pub returns-clause-computes : goal.returns-clause-computes

@@ -1,7 +1,7 @@
 use Rattle.std.proofs.Common.{rules}
 use Rattle.std.proofs.lemmas.Result.{IfOk-weaker}
 use Rattle.sc_world.proofs.CodeAmong.{is_busy, puts_among}
-use Rattle.sc_world.specs.declared.places.Phase.TheVariants as phases
+use Rattle.sc_world.specs.declared.places.AttemptState.TheVariants as phases
 use Rattle.sc_world.proofs.among.put_among.Goals as goal
 
 pub returns-clause-puts : goal.returns-clause-puts

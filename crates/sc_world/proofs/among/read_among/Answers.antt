@@ -1,7 +1,7 @@
 use Rattle.std.proofs.Common.{rules}
 use Rattle.std.proofs.lemmas.Result.{on_ok_weaker}
 use Rattle.sc_world.proofs.CodeAmong.{is_busy, reads_among}
-use Rattle.sc_world.specs.declared.places.Phase.TheVariants as phases
+use Rattle.sc_world.specs.declared.places.AttemptState.TheVariants as phases
 use Rattle.sc_world.proofs.among.read_among.Goals as goal
 
 pub returns-clause-reads : goal.returns-clause-reads

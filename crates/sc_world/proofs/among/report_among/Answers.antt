@@ -1,6 +1,6 @@
 use Rattle.std.proofs.Common.{None, rules}
 use Rattle.sc_world.proofs.CodeAmong.{is_busy, written_as}
-use Rattle.sc_world.specs.declared.places.Phase.TheVariants as phases
+use Rattle.sc_world.specs.declared.places.AttemptState.TheVariants as phases
 use Rattle.sc_world.proofs.among.report_among.Goals as goal
 
 pub returns-clause-gone : goal.returns-clause-gone

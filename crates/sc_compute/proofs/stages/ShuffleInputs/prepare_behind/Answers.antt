@@ -1,5 +1,5 @@
 use Rattle.sc_compute.proofs.LeftLemmas.{direct_made}
-use Rattle.sc_compute.proofs.stages.Stages.prepare_behind.Goals as goal
+use Rattle.sc_compute.proofs.stages.ShuffleInputs.prepare_behind.Goals as goal
 
 pub put-requires-clause-parents : goal.put-requires-clause-parents
 put-requires-clause-parents c =

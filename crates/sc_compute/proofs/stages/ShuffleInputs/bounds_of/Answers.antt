@@ -5,7 +5,7 @@ use Rattle.sc_lineage.specs.Views.{shuffling_data_of}
 use Rattle.sc_lineage.specs.declared.nodes.Shuffling.{Shuffling}
 use Rattle.sc_compute.specs.Stages.{HasBounds, bounds_told}
 use Rattle.sc_compute.proofs.StageLemmas.{not_there}
-use Rattle.sc_compute.proofs.stages.Stages.bounds_of.Goals as goal
+use Rattle.sc_compute.proofs.stages.ShuffleInputs.bounds_of.Goals as goal
 
 pub unreachable-requires : goal.unreachable-requires
 unreachable-requires c =

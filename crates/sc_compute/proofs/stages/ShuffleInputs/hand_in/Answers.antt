@@ -5,7 +5,7 @@ use Rattle.sc_value.specs.Datum.{Datum}
 use Rattle.sc_compute.specs.Keeping.{same_place}
 use Rattle.sc_compute.specs.Stages.{AreOutputs}
 use Rattle.sc_compute.proofs.KeepingLemmas.{right-under_two}
-use Rattle.sc_compute.proofs.stages.Stages.hand_in.Goals as goal
+use Rattle.sc_compute.proofs.stages.ShuffleInputs.hand_in.Goals as goal
 
 pub returns-clause-right : goal.returns-clause-right
 returns-clause-right c =

@@ -4,7 +4,7 @@ use Rattle.std.specs.HashMap.{get}
 use Rattle.std.specs.Map.{lookup}
 use Rattle.std.specs.Prelude.{nat_eq}
 use Rattle.sc_compute.proofs.StageLemmas.{right-put, right-same}
-use Rattle.sc_compute.proofs.stages.Stages.put.Goals as goal
+use Rattle.sc_compute.proofs.stages.ShuffleInputs.put.Goals as goal
 
 pub returns-in_err-insert-clause-right : goal.returns-in_err-insert-clause-right
 returns-in_err-insert-clause-right c =

@@ -5,8 +5,8 @@ use Rattle.sc_lineage.proofs.MeaningLemmas.{reads_before}
 use Rattle.sc_compute.specs.Stages.{AreRight, HasMade, handed_in}
 use Rattle.sc_compute.proofs.LeftLemmas.{left_same, of_left}
 use Rattle.sc_compute.proofs.StageLemmas.{hold_both, of_same}
-use Rattle.sc_compute.proofs.stages.Stages.+prepare.Goals.{in-Some+in_ok-prepare, in_default, in-Some-second+in_ok-prepare-2, in_default-second}
-use Rattle.sc_compute.proofs.stages.Stages.+prepare.Goals as goal
+use Rattle.sc_compute.proofs.stages.ShuffleInputs.+prepare.Goals.{in-Some+in_ok-prepare, in_default, in-Some-second+in_ok-prepare-2, in_default-second}
+use Rattle.sc_compute.proofs.stages.ShuffleInputs.+prepare.Goals as goal
 
 pub prepare-requires : goal.prepare-requires
 prepare-requires t c =

@@ -1,2 +1,0 @@
-pub mod ShelfLemmas
-pub mod LawLemmas
