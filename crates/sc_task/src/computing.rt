@@ -16,7 +16,7 @@ ghost use Rattle.sc_task.specs.States.{AreOf, HasReadAll};
 use crate::caching::left_with;
 use crate::cursors::parents_of;
 use sc_compute::{ShuffleInputs, TaskOutput, TaskTarget};
-use sc_ids::{Stage, TaskTarget as StageTarget};
+use sc_ids::{Stage, Target};
 use sc_lineage::{Action, Node, NodeId, Work};
 use sc_net::Task;
 use sc_shuffle::MapOutput;
@@ -130,8 +130,8 @@ fn count_left(stage: &Stage) -> usize
     ensures { result ≡ length (blocks_left (Some stage.now)) }
 {
     match stage.target() {
-        StageTarget::Map(_) => stage.tasks() as usize,
-        StageTarget::Result { .. } => 0,
+        Target::Map(_) => stage.tasks() as usize,
+        Target::Result { .. } => 0,
     }
 }
 
@@ -149,11 +149,11 @@ fn hand_in(
     ensures right { AreRight work.now stages.new }
 {
     match stage.target() {
-        StageTarget::Map(shuffle) => {
+        Target::Map(shuffle) => {
             let outputs = shared(alloc, outputs)?;
             stages.hand_in(work, shuffle.node, shuffle.side, outputs)
         }
-        StageTarget::Result { .. } => Ok(()),
+        Target::Result { .. } => Ok(()),
     }
 }
 
