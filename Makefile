@@ -1,4 +1,4 @@
-# What to type on a machine that has the kit (`rt`, which is a program of Python's).
+# What to type on a machine that has the kit (`rt`), and with it Python.
 
 EXAMPLE := examples/first_path
 PROGRAM := crates/spark_run/out/spark_run
