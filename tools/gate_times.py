@@ -14,6 +14,7 @@ and in FILE, stand tables in Markdown:
   start at which its first check began, its proof ended, and its last check ended;
 - the chain of crates, each on the one before, whose proofs take longest together. The gate can't be
   faster than that;
+- the dearest edits;
 - the longest functions.
 
 `rt ci` tells what its edits came to only at its end, so the times are those of the processes of
@@ -44,7 +45,7 @@ from running_checks import Check, checks_below
 
 PAUSE = 1.0
 KINDS = ("proof", "tests", "seed", "edit")
-FUNCTIONS = 25
+FUNCTIONS, EDITS = 25, 10
 GAP = 600  # the most seconds between two files of one run
 MODULE = re.compile(r"Rattle-(\w+)-proofs\.(.+?)(?:\.decls)?\.oantt$")
 PART_OF_A_PROOF = re.compile(r"(?:\.[A-Z][^.]*(?<!Lemmas))+$")
@@ -103,28 +104,6 @@ def function_times(folder: pathlib.Path) -> dict[tuple[str, str], float]:
     return found
 
 
-def dependencies(crates: Crates) -> dict[str, list[str]]:
-    """The crates of the repository that each crate stands on directly."""
-    lines = [it for it in crates.text("crates.txt").splitlines() if it and it[0] != "#"]
-    split = [it.partition(":") for it in lines]
-    return {it[0].split()[0]: [dep for dep in it[2].split() if dep in crates.names] for it in split}
-
-
-def longest_chain(below: dict[str, list[str]], cost: dict[str, float]) -> list[str]:
-    """The chain of crates with the highest cost, lowest first."""
-    chains: dict[str, list[str]] = {}
-
-    def total(chain: list[str]) -> float:
-        return sum(cost.get(it, 0) for it in chain)
-
-    def chain_to(crate: str) -> list[str]:
-        if crate not in chains:
-            chains[crate] = max(map(chain_to, below[crate]), key=total, default=[]) + [crate]
-        return chains[crate]
-
-    return max(map(chain_to, below), key=total)
-
-
 def minutes(seconds: float) -> str:
     return f"{seconds / 60:.1f}"
 
@@ -160,6 +139,19 @@ def crate_table(crates: Crates, seen: list[Seen]) -> Iterator[str]:
     yield f"| all | {' | '.join(cells)} |"
 
 
+def edit_table(crates: Crates, seen: list[Seen]) -> Iterator[str]:
+    """The table of the dearest edits. `rt` numbers those of a crate in the order of their names."""
+    yield "| crate | edit | processor-seconds |"
+    yield "|---|---|---:|"
+    tried = [it.check for it in seen if it.check.kind == "edit"]
+    for check in sorted(tried, key=lambda it: -it.seconds)[:EDITS]:
+        names = [pathlib.Path(it).stem for it in crates.files(f"{check.crate}/must-fail/*.edit")]
+        number = int(pathlib.Path(check.kept).name) if check.kept else 0
+        known = check.kept or len(names) == 1
+        name = names[number] if known and number < len(names) else "one, tried from nothing"
+        yield f"| `{check.crate}` | {name} | {check.seconds:.0f} |"
+
+
 def chain_lines(crates: Crates, seen: list[Seen]) -> Iterator[str]:
     """The longest chain of crates, by the processor time of their proofs."""
     cost: dict[str, float] = {}
@@ -169,7 +161,7 @@ def chain_lines(crates: Crates, seen: list[Seen]) -> Iterator[str]:
             crate = it.check.crate
             cost[crate] = cost.get(crate, 0) + it.check.seconds
             clock[crate] = clock.get(crate, 0) + it.last - it.first
-    chain = longest_chain(dependencies(crates), cost)
+    chain = crates.longest_chain(cost)
     names = ", ".join(f"`{it}` {minutes(cost.get(it, 0))}" for it in chain)
     whole = [minutes(sum(by.get(it, 0) for it in chain)) for by in (cost, clock)]
     yield f"The longest chain takes {whole[0]} processor-minutes, {whole[1]} by the clock: {names}."
@@ -180,7 +172,7 @@ def function_table(found: dict[tuple[str, str], float]) -> Iterator[str]:
     yield "| crate | function, or file of lemmas | seconds |"
     yield "|---|---|---:|"
     for (crate, name), seconds in sorted(found.items(), key=lambda it: -it[1])[:FUNCTIONS]:
-        yield f"| `{crate}` | `{name}` | {seconds:.0f} |"
+        yield f"| `{crate}` | {name} | {seconds:.0f} |"
 
 
 def printed(command: list[str], folder: pathlib.Path) -> tuple[Sampler, int]:
@@ -213,6 +205,7 @@ def report(crates: Crates, sampler: Sampler | None, whole: str) -> Iterator[str]
     if sampler:
         seen = list(sampler.seen.values())
         yield from ("", *crate_table(crates, seen), "", *chain_lines(crates, seen))
+        yield from ("", *edit_table(crates, seen))
     yield from ("", *function_table(functions))
 
 
