@@ -6,8 +6,8 @@
     tools/gate_times.py --functions [--root FOLDER] [--page FILE]
 
 The first runs `rt ci --anew`, with --kept `rt ci`, or another command, and prints each of its lines
-behind the time. The second looks at an `rt` that runs already, until it ends. At the end of each,
-and in FILE, stand tables in Markdown:
+behind the time. The second looks at an `rt` that runs already, until it ends or until Ctrl-C. At
+the end of each, and in FILE, stand tables in Markdown:
 
 - of each crate the processor-minutes of its proof, of its tests, and of its must-fail edits: of the
   seed, which is one more check of the crate, and of the edits over it. And the minutes since the
@@ -28,6 +28,7 @@ files for seeds alone. Of a crate without one, and with --functions of each crat
 `rt all check` left in out/incremental; a later check that made some anew spoils them.
 """
 import argparse
+import contextlib
 import dataclasses
 import datetime
 import os
@@ -188,11 +189,12 @@ def printed(command: list[str], folder: pathlib.Path) -> tuple[Sampler, int]:
 
 
 def watched(pid: int) -> Sampler:
-    """What is seen of a process until it ends."""
+    """What is seen of a process until it ends, or until Ctrl-C."""
     sampler = Sampler(pid)
-    while os.path.exists(f"/proc/{pid}"):
-        sampler.look()
-        time.sleep(PAUSE)
+    with contextlib.suppress(KeyboardInterrupt):
+        while os.path.exists(f"/proc/{pid}"):
+            sampler.look()
+            time.sleep(PAUSE)
     return sampler
 
 
