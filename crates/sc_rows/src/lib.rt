@@ -17,15 +17,7 @@
 #![tactic(auto)]
 
 #[cfg(test)]
-mod actions;
-#[cfg(test)]
-mod arithmetic;
-#[cfg(test)]
-mod borders;
-#[cfg(test)]
 mod caches;
-#[cfg(test)]
-mod choices;
 #[cfg(test)]
 mod claims;
 #[cfg(test)]
@@ -35,15 +27,11 @@ mod combining;
 #[cfg(test)]
 mod committing;
 #[cfg(test)]
-mod comparisons;
-#[cfg(test)]
 mod contexts;
 #[cfg(test)]
 mod cutting;
 #[cfg(test)]
 mod failing_tasks;
-#[cfg(test)]
-mod faults;
 #[cfg(test)]
 mod forms;
 #[cfg(test)]
@@ -73,25 +61,13 @@ mod late_reports;
 #[cfg(test)]
 mod layouts;
 #[cfg(test)]
-mod limits;
-#[cfg(test)]
 mod lost_executors;
 #[cfg(test)]
 mod map_outputs;
 #[cfg(test)]
-mod mixed;
-#[cfg(test)]
-mod operations;
-#[cfg(test)]
 mod outside;
 #[cfg(test)]
-mod partitions;
-#[cfg(test)]
 mod paths;
-#[cfg(test)]
-mod plan_faults;
-#[cfg(test)]
-mod planned;
 #[cfg(test)]
 mod plans;
 #[cfg(test)]
@@ -101,13 +77,7 @@ mod ranges;
 #[cfg(test)]
 mod readers;
 #[cfg(test)]
-mod scripts;
-#[cfg(test)]
-mod shapes;
-#[cfg(test)]
 mod shelves;
-#[cfg(test)]
-mod shuffles;
 #[cfg(test)]
 mod statuses;
 #[cfg(test)]
@@ -117,23 +87,17 @@ mod stories;
 #[cfg(test)]
 mod streams;
 #[cfg(test)]
-mod structures;
-#[cfg(test)]
 mod task_sets;
 #[cfg(test)]
 mod tracking;
 #[cfg(test)]
 mod transcripts;
 #[cfg(test)]
-mod typing;
-#[cfg(test)]
 mod values;
 #[cfg(test)]
 mod wiped_stores;
 #[cfg(test)]
 mod words;
-#[cfg(test)]
-mod worked;
 #[cfg(test)]
 mod works;
 #[cfg(test)]
@@ -142,5 +106,3 @@ mod world_lines;
 mod worlds;
 #[cfg(test)]
 mod writers;
-#[cfg(test)]
-mod writing;
