@@ -1,36 +1,32 @@
 #!/usr/bin/env python3
-r"""Runs the cases of cases/*.txt over the built program, and compares what comes with what they say.
+r"""Runs the cases of cases/*.txt over the built program, and compares what it does with them.
 
     tools/check_cases.py [-k TEXT]
 
-A file begins with '# cases/NAME.txt: SUBJECT'. A case is '== CLAIM' and its parts; cases of one
-claim may follow one another. A part is '-- HEAD' and the lines below it, up to the next line that
-begins with '-- ' or '== '; blank lines at the end of a case belong to nothing. Lines with '#' are
-reasons, above the parts of a case and in tables.
+A file begins with '# cases/NAME.txt: SUBJECT'. A case is '== CLAIM' and its parts; several may have
+one claim. A part is '-- HEAD' and the lines up to the next that begins with '-- ' or '== '; blank
+lines at the end of a case belong to nothing. Lines with '#' above parts and in tables are reasons.
 
     -- NAME                 a file of this name
-    -- out                  the standard output; left out: nothing
-    -- err                  the standard error; left out: nothing
+    -- out    -- err        the standard output, and the standard error; left out: nothing
     -- status N             how the program ends; left out: 0
     -- words WORD..         left out: run job.spark, and --plan plan.txt where there is that file
     -- more words WORD..    words behind these
     -- rows NAME | NAME..   a table: each line below is a row, which makes a case
 
-'-- NAME = LITERALS' gives the exact bytes of a file or an output. A literal is "text", or "text"*N
-for N times that text; several are put together. Escapes are \n \r \t \0 \" \\, a byte \xFF, a
-character \u{A0}, and in what is repeated \# for its number from 0 and \+ for that from 1. A word,
-and the name of a file, may be a literal too.
+'-- NAME = LITERALS' gives the exact bytes of a file or an output. A literal, as words and names may
+be, is "text", or "text"*N for N times that text; several are put together. Escapes are \n \r \t \0
+\" \\, a byte \xFF, a character \u{A0}, and in what is repeated \# for its number, \+ for the next.
 
 In the parts {NAME} stands for the cell of a row, and the last cell takes the rest of the row. Where
 its column is called NAME.. it has lines: each ' | ' in it ends one, an empty cell has none, and
 {NAME} stands alone on its line. A cell '= LITERALS' is what these say. A cell may have the names of
 other cells in it. Several tables make a case for each choice of their rows.
 
-Each case runs in a folder of its own, with a minute's time. One that names no output, no error and
-no status is wrong. Prints what differs, and a last line with the counts; ends with 1 where a case
-differs or a file hasn't this form. With -k only cases run whose place and claim have TEXT. The
-program is crates/spark_run/out/spark_run, or the file that SPARK_RUN names; where there is none
-this says so and ends with 0.
+A case runs in a folder of its own, for a minute at most; it has to want an output, an error or a
+status. Prints what differs and the counts, and ends with 1 where a case differs or a file hasn't
+this form. With -k only cases run whose place and claim have TEXT. The program is that of
+crates/spark_run/out, or the file SPARK_RUN; where there is none this says so and ends with 0.
 """
 import argparse
 import concurrent.futures
@@ -51,12 +47,11 @@ ESCAPE = re.compile(rb"\\(x([0-9a-fA-F]{2})|u\{([0-9a-fA-F]+)\}|.)", re.DOTALL)
 ESCAPED = {b"n": b"\n", b"r": b"\r", b"t": b"\t", b"0": b"\0", b'"': b'"', b"\\": b"\\"}
 CLAIM = re.compile(rb"== (\w+)")
 SETTING = re.compile(rb"-- (status|words|more words|rows)(?: (.*))?")
-CONTENT = re.compile(rb'-- (?:(out|err)|(\w\S*|-|[./]\S*|"(?:[^"\\]|\\.)*"))(?: = (.*))?')
+CONTENT = re.compile(rb'-- (?:(out|err)|([^"= ]\S*|"(?:[^"\\]|\\.)*"))(?: = (.*))?')
 WORD = re.compile(rb'"(?:[^"\\]|\\.)*"(?:\*\d+)?|\S+')
 COLUMNS = re.compile(rb"\w+( \| \w+)*(\.\.)?")
 OUTPUTS = (b"out", b"err")
-LIMIT = 60
-SHOWN = 24
+LIMIT, SHOWN = 60, 24
 
 
 class Malformed(Exception):
@@ -65,8 +60,7 @@ class Malformed(Exception):
 
 @dataclasses.dataclass
 class Part:
-    """A part of a case, with what stands behind its head and the lines below. The head of a file is
-    its name behind '-- '."""
+    """A part of a case. The head of a file is its name behind '-- '."""
 
     line: int
     head: bytes
@@ -94,23 +88,24 @@ class Case:
 def meant(literals: bytes) -> bytes:
     """The bytes that literals stand for."""
     if not LITERALS.fullmatch(literals):
-        raise Malformed(f"no literals: {literals!r}")
-    out = b""
-    for text, count in LITERAL.findall(literals):
-        for number in range(int(count or 1)):
-            known = {**ESCAPED, b"#": b"%d" % number, b"+": b"%d" % (number + 1)}
-            out += ESCAPE.sub(lambda it: escaped(it, known), text) if b"\\" in text else text
-    return out
+        raise Malformed(f"?: no literals: {literals!r}")
+    found = [(text, int(count or 1)) for text, count in LITERAL.findall(literals)]
+    return b"".join(unescaped(text, number) for text, count in found for number in range(count))
 
 
-def escaped(escape: re.Match[bytes], known: dict[bytes, bytes]) -> bytes:
-    """What an escape stands for."""
-    code, byte, character = escape.groups()
-    if byte or character:
-        return bytes([int(byte, 16)]) if byte else chr(int(character, 16)).encode()
-    if code not in known:
-        raise Malformed(f"no escape: {escape.group()!r}")
-    return known[code]
+def unescaped(text: bytes, number: int) -> bytes:
+    """What the text of a literal means where it stands for the time of this number."""
+    known = {**ESCAPED, b"#": b"%d" % number, b"+": b"%d" % (number + 1)}
+
+    def meaning(escape: re.Match[bytes]) -> bytes:
+        code, byte, character = escape.groups()
+        if byte or character:
+            return bytes([int(byte, 16)]) if byte else chr(int(character, 16)).encode()
+        if code not in known:
+            raise Malformed(f"?: no escape: {escape.group()!r}")
+        return known[code]
+
+    return ESCAPE.sub(meaning, text) if b"\\" in text else text
 
 
 def word_of(written: bytes) -> bytes:
@@ -123,13 +118,13 @@ def part_of(number: int, line: bytes) -> Part:
     setting, content = SETTING.fullmatch(line), CONTENT.fullmatch(line)
     if setting:
         return Part(number, setting.group(1), setting.group(2) or b"")
-    if not content:
-        raise Malformed(f"{number}: begins no part")
-    output, name, literals = content.groups()
-    return Part(number, output or b"-- " + word_of(name), literals)
+    if content:
+        output, name, literals = content.groups()
+        return Part(number, output or b"-- " + word_of(name), literals)
+    raise Malformed(f"{number}: begins no part")
 
 
-def blocks(text: bytes) -> Iterator[tuple[str, int, list[Part]]]:
+def blocks(text: bytes) -> list[tuple[str, int, list[Part]]]:
     """The claims of a file, each with its line and its parts."""
     found: list[tuple[str, int, list[Part]]] = []
     for number, line in enumerate(text.split(b"\n"), 1):
@@ -142,14 +137,11 @@ def blocks(text: bytes) -> Iterator[tuple[str, int, list[Part]]]:
             parts[-1].lines.append(line)
         elif line and not line.startswith(b"#"):
             raise Malformed(f"{number}: stands in no part")
-    for _, _, parts in found:
-        while parts and parts[-1].lines and not parts[-1].lines[-1]:
-            parts[-1].lines.pop()
-    yield from found
+    return found
 
 
 def rows_of(part: Part) -> list[tuple[int, dict[bytes, bytes]]]:
-    """The rows of a table: the line of each, and what stands for which mark."""
+    """The rows of a table: the line of each, and the cell that stands for each mark."""
     if not COLUMNS.fullmatch(part.behind or b""):
         raise Malformed(f"{part.line}: no names of columns")
     columns = (part.behind or b"").split(b" | ")
@@ -161,10 +153,9 @@ def rows_of(part: Part) -> list[tuple[int, dict[bytes, bytes]]]:
             continue
         if len(cells) != len(columns):
             raise Malformed(f"{number}: has {len(cells)} cells of {len(columns)}")
-        has_lines = columns[-1].endswith(b"..") and not cells[-1].startswith(b'= "')
+        if marks[-1].endswith(b"\n") and cells[-1] and not cells[-1].startswith(b'= "'):
+            cells[-1] = cells[-1].replace(b" | ", b"\n") + b"\n"
         cells = [meant(it[2:]) if it.startswith(b'= "') else it for it in cells]
-        if has_lines:
-            cells[-1] = cells[-1].replace(b" | ", b"\n") + b"\n" if cells[-1] else b""
         rows.append((number, dict(zip(marks, cells))))
     return rows
 
@@ -173,19 +164,18 @@ def case_of(name: str, parts: list[Part], cells: dict[bytes, bytes], tables: int
     """The case of some parts with these cells."""
 
     def filled(text: bytes) -> bytes:
-        for _ in range(tables):
-            for mark, cell in cells.items():
-                text = text.replace(mark, cell)
+        for mark, cell in [*cells.items()] * tables:
+            text = text.replace(mark, cell)
         return text
 
     settings = {it.head: filled(it.behind or b"") for it in parts}
     contents = {it.head: filled(it.content()) for it in parts if it.head[:3] in (*OUTPUTS, b"-- ")}
     files = {head[3:]: content for head, content in contents.items() if head not in OUTPUTS}
     plan = b" --plan plan.txt" if b"plan.txt" in files else b""
-    words = settings.get(b"words", b"run job.spark" + plan) + b" " + settings.get(b"more words", b"")
+    words = settings.get(b"words", b"run job.spark" + plan), settings.get(b"more words", b"")
+    found = [word_of(it) for it in WORD.findall(b" ".join(words))]
     wanted = {it: contents.get(it, b"") for it in OUTPUTS}
-    status = int(settings.get(b"status", b"0"))
-    return Case(name, [word_of(it) for it in WORD.findall(words)], files, status, wanted)
+    return Case(name, found, files, int(settings.get(b"status", b"0")), wanted)
 
 
 def cases_of(path: pathlib.Path) -> Iterator[Case]:
@@ -194,46 +184,36 @@ def cases_of(path: pathlib.Path) -> Iterator[Case]:
     if not text.startswith(f"# cases/{path.name}: ".encode()):
         raise Malformed("1: doesn't begin with its subject")
     for claim, line, parts in blocks(text):
+        while parts and parts[-1].lines[-1:] == [b""]:
+            parts[-1].lines.pop()
         tables = [rows_of(it) for it in parts if it.head == b"rows"]
         heads = [it.head for it in parts if it.head != b"rows"]
-        if len(heads) != len(set(heads)):
-            raise Malformed(f"{line}: {claim} has a part twice")
-        if not {*OUTPUTS, b"status"} & set(heads) or not all(tables):
-            raise Malformed(f"{line}: {claim} has no expectation, or a table without rows")
+        if len(heads) != len(set(heads)) or not all(tables):
+            raise Malformed(f"{line}: {claim} has a part twice, or a table without rows")
+        if not {*OUTPUTS, b"status"} & set(heads):
+            raise Malformed(f"{line}: {claim} has no expectation")
         for choice in itertools.product(*tables):
             cells = {mark: cell for _, row in choice for mark, cell in row.items()}
             place = "-".join(str(number) for number, _ in choice) or str(line)
             yield case_of(f"cases/{path.name}:{place}: {claim}", parts, cells, len(tables))
 
 
-def ended(program: pathlib.Path, case: Case) -> tuple[int | str, dict[bytes, bytes]]:
-    """How the program ended, and what it printed."""
-    with tempfile.TemporaryDirectory() as scratch:
-        folder = os.path.join(scratch, "here")
-        os.mkdir(folder)
-        for name, content in case.files.items():
-            pathlib.Path(folder, os.fsdecode(name)).write_bytes(content)
-        try:
-            ran = subprocess.run(
-                [bytes(program), *case.words],
-                cwd=folder,
-                stdin=subprocess.DEVNULL,
-                capture_output=True,
-                timeout=LIMIT,
-                check=False,
-            )
-        except subprocess.TimeoutExpired:
-            return f"none in {LIMIT} s", dict.fromkeys(OUTPUTS, b"")
-    return ran.returncode, {b"out": ran.stdout, b"err": ran.stderr}
-
-
 def differences(program: pathlib.Path, case: Case) -> list[str]:
-    """What differs, in lines; where all is as expected, none."""
-    status, came = ended(program, case)
-    told = [f"  status {status}, not {case.status}"] if status != case.status else []
-    for name in OUTPUTS:
-        if came[name] != case.wanted[name]:
-            texts = [it.decode(errors="backslashreplace") for it in (case.wanted[name], came[name])]
+    """Runs a case: what differs, in lines; where all is as expected, none."""
+    with tempfile.TemporaryDirectory() as scratch:
+        folder = pathlib.Path(scratch, "here")
+        folder.mkdir()
+        for name, content in case.files.items():
+            (folder / os.fsdecode(name)).write_bytes(content)
+        words = [bytes(program.resolve()), *case.words]
+        try:
+            ran = subprocess.run(words, cwd=folder, input=b"", capture_output=True, timeout=LIMIT)
+        except subprocess.TimeoutExpired:
+            return [f"  has no end in {LIMIT} seconds"]
+    told = [f"  status {ran.returncode}, not {case.status}"] * (ran.returncode != case.status)
+    for name, came in zip(OUTPUTS, (ran.stdout, ran.stderr)):
+        if came != case.wanted[name]:
+            texts = [it.decode(errors="backslashreplace") for it in (case.wanted[name], came)]
             lines = difflib.unified_diff(*(it.split("\n") for it in texts), lineterm="", n=1)
             told.append(f"  {name.decode()}: - what was wanted, + what came")
             told += [f"  {it[:120]}" for it in itertools.islice(lines, 2, SHOWN)]
@@ -241,26 +221,21 @@ def differences(program: pathlib.Path, case: Case) -> list[str]:
 
 
 def main() -> int:
-    parser = argparse.ArgumentParser(
-        description=__doc__, formatter_class=argparse.RawDescriptionHelpFormatter
-    )
+    parser = argparse.ArgumentParser(description="Runs the cases of cases/*.txt.")
     parser.add_argument("-k", metavar="TEXT", default="", help="run only cases that have TEXT")
     arguments = parser.parse_args()
     top = pathlib.Path(__file__).resolve().parent.parent
-    built = top / "crates/spark_run/out/spark_run"
-    program = pathlib.Path(os.environ.get("SPARK_RUN", built)).resolve()
+    program = pathlib.Path(os.environ.get("SPARK_RUN", top / "crates/spark_run/out/spark_run"))
     if not os.access(program, os.X_OK):
         print(f"check_cases: skipped, since {program} isn't built")
         return 0
-    cases: list[Case] = []
-    faults = 0
+    cases, faults = [], 0
     for path in sorted(top.glob("cases/*.txt")):
         try:
-            cases += cases_of(path)
+            cases += [it for it in cases_of(path) if arguments.k in it.name]
         except (Malformed, ValueError) as fault:
             print(f"cases/{path.name}:{fault}")
             faults += 1
-    cases = [it for it in cases if arguments.k in it.name]
     with concurrent.futures.ThreadPoolExecutor(2 * (os.cpu_count() or 1)) as pool:
         for case, told in zip(cases, pool.map(lambda it: differences(program, it), cases)):
             if told:

@@ -1,4 +1,4 @@
-//! What is claimed of runs, case by case of a table.
+//! What is claimed of runs, row by row of a table.
 //!
 //! A fault is told with the row of the table that shows it. Want of memory, and a row without the
 //! marks of its table, end a test too.

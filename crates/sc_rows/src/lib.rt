@@ -1,12 +1,13 @@
 //! Worked examples through the calls that programs make: tests alone, with no code of its own.
 //!
-//! Each expected value comes from the definition of scripts, from another implementation of the
-//! same arithmetic or from a small sum by hand, and never from the program's own output. Most tests
-//! are tables of text, which cost the check next to nothing: `claims` has a function that runs each
-//! kind of table, `given` makes a run of a script over files and tells what was seen of it, and
-//! `streams` shows the raise that a run doesn't tell. `jobs` begins jobs without a script, and
-//! `transcripts` lets their events happen. `histories` runs a script under a fault plan and counts
-//! what its history shows. The other modules have a subject each.
+//! What the program's text and status show is no test here, but a case of `cases/`: a test is for
+//! what lies below that. Each expected value comes from the definition of scripts, from another
+//! implementation of the same arithmetic or from a small sum by hand, and never from the program's
+//! own output. Most tests are tables of text, which cost the check next to nothing: `claims` has
+//! what is claimed of a row, `given` makes a run of a script over files and tells what was seen of
+//! it, and `streams` shows the raise that a run doesn't tell. `jobs` begins jobs without a script,
+//! and `transcripts` lets their events happen. `histories` runs a script under a fault plan and
+//! counts what its history shows. The other modules have a subject each.
 //!
 //! A test is code, so it is proved too. It is cheap where it is one call with a table, and where
 //! want of memory ends it by `expect`: a `?` is one more way out, on which all that is held has to

@@ -1,5 +1,5 @@
-//! Runs as the outside sees them: the names that are asked for, how many files are read and how many
-//! pieces written, and reads and writes that fail.
+//! Runs as the outside sees them: the names that are asked for, how many files are read and how
+//! many pieces written, and reads and writes that fail.
 //!
 //! The texts and the statuses of the same runs are in `cases/`, but for calls that fail.
 #![tactic(auto)]
@@ -67,8 +67,8 @@ c = reduceByKey p 2 (+ a b)
 collect c
 "#;
 
-/// The words, the files, the read that fails, the write that fails and after how many bytes, and what
-/// is seen. Calls are counted from 1, so none has the number 0.
+/// The words, the files, the read that fails, the write that fails and after how many bytes, and
+/// what is seen. Calls are counted from 1, so none has the number 0.
 const ROWS: [(&[&str], &[(&str, &[u8])], u64, (u64, usize), &str); 63] = [
     // Words that are no command: nothing is read.
     (
@@ -276,7 +276,8 @@ const ROWS: [(&[&str], &[(&str, &[u8])], u64, (u64, usize), &str); 63] = [
         )],
         0,
         (0, 0),
-        "status 6, asked [job.spark], 1 read, 1 written\n1\n0\ntask limit: stage 1 attempt 0 partition 1\n",
+        "status 6, asked [job.spark], 1 read, 1 written\n1\n0\n\
+         task limit: stage 1 attempt 0 partition 1\n",
     ),
     (
         &RUN,
@@ -505,7 +506,8 @@ const ROWS: [(&[&str], &[(&str, &[u8])], u64, (u64, usize), &str); 63] = [
         &[("job.spark", b"l = text \"job.spark\" 2\ncollect l\n")],
         0,
         (0, 0),
-        "status 0, asked [job.spark job.spark], 2 read, 1 written\nl = text \"job.spark\" 2\ncollect l\n",
+        "status 0, asked [job.spark job.spark], 2 read, 1 written\n\
+         l = text \"job.spark\" 2\ncollect l\n",
     ),
     // An input's name is the text that is written, after its escapes.
     (

@@ -298,8 +298,8 @@ const STOPPING: [(&str, &str, &str); 13] = [
     ),
 ];
 
-/// How many lines stand before the odd one, and how many behind it: their numbers lie about those of
-/// one and of two batches.
+/// How many lines stand before the odd one, and how many behind it: their numbers lie about those
+/// of one and of two batches.
 const PLACES: [(usize, usize); 11] = [
     (0, 4094),
     (4094, 0),

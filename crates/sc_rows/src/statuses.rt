@@ -1,5 +1,5 @@
-//! Statuses that words, files and a plan can't force: each in words, and its number. The others are in
-//! `cases/statuses.txt`.
+//! Statuses that words, files and a plan can't force: each in words, and its number. The others are
+//! in `cases/statuses.txt`.
 #![tactic(auto)]
 
 use sc_app::{Status, fault_text};
