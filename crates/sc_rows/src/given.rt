@@ -57,6 +57,16 @@ impl Row {
         self
     }
 
+    /// Adds files.
+    pub fn files<R: Abort>(mut self, rt: &R, files: &[(&str, &[u8])]) -> Row {
+        for (name, bytes) in files {
+            let name = Name::new(self.alloc, *name).expect(rt, "memory");
+            let bytes = Octets::copy_of(self.alloc, *bytes).expect(rt, "memory");
+            self.source.add(name, bytes).expect(rt, "memory");
+        }
+        self
+    }
+
     /// Adds more words.
     pub fn words<R: Abort>(mut self, rt: &R, words: &[&str]) -> Row {
         for word in words {

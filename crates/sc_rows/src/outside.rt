@@ -621,23 +621,16 @@ const ROWS: [(&[&str], &[(&str, &[u8])], u64, (u64, usize), &str); 63] = [
     ),
 ];
 
-/// A run to be with further files.
-fn with_files<R: Abort>(rt: &R, row: Row, files: &[(&str, &[u8])]) -> Row {
-    let mut row = row;
-    for (name, bytes) in files {
-        row = row.file(rt, *name, *bytes);
-    }
-    row
-}
-
-/// Sees that a run ends so, where a read and a write fail.
+/// Sees that a run of words over files ends so, where a read and a write fail.
 fn assert_run<R: Abort + AllocGlobal>(
     rt: &R,
-    row: Row,
+    words: &[&str],
+    files: &[(&str, &[u8])],
     read: u64,
     (write, bytes): (u64, usize),
     end: &str,
 ) {
+    let row = Row::of_words(rt, words).files(rt, files);
     let row = row.failing_read(rt, read).failing_write(rt, write, bytes);
     assert_end(rt, &row.run(rt), end, "");
 }
@@ -645,7 +638,6 @@ fn assert_run<R: Abort + AllocGlobal>(
 #[test]
 fn the_outside_sees_each_run_so(rt: HostRuntime) {
     for (words, files, read, write, end) in &ROWS {
-        let row = with_files(&rt, Row::of_words(&rt, *words), *files);
-        assert_run(&rt, row, *read, *write, *end);
+        assert_run(&rt, *words, *files, *read, *write, *end);
     }
 }
