@@ -180,8 +180,7 @@ def case_of(name: str, parts: list[Part], cells: dict[bytes, bytes], tables: int
 
 def cases_of(path: pathlib.Path) -> Iterator[Case]:
     """The cases of a file."""
-    text = path.read_bytes()
-    if not text.startswith(f"# cases/{path.name}: ".encode()):
+    if not (text := path.read_bytes()).startswith(f"# cases/{path.name}: ".encode()):
         raise Malformed("1: doesn't begin with its subject")
     for claim, line, parts in blocks(text):
         while parts and parts[-1].lines[-1:] == [b""]:
@@ -229,7 +228,8 @@ def main() -> int:
     if not os.access(program, os.X_OK):
         print(f"check_cases: skipped, since {program} isn't built")
         return 0
-    cases, faults = [], 0
+    cases: list[Case] = []
+    faults = 0
     for path in sorted(top.glob("cases/*.txt")):
         try:
             cases += [it for it in cases_of(path) if arguments.k in it.name]

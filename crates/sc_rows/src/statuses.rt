@@ -30,6 +30,8 @@ fn each_status_has_its_text_and_its_number(rt: HostRuntime) {
     };
     let text = "task limit: stage 7 attempt 4294967296 partition 1023";
     assert_told(&rt, Status::Aborted(limit), 6, text);
+    let limit = sc_core::Abort::StageLimit { stage: 0 };
+    assert_told(&rt, Status::Aborted(limit), 7, "stage limit: stage 0");
     let limit = sc_core::Abort::StageLimit { stage: 12 };
     assert_told(&rt, Status::Aborted(limit), 7, "stage limit: stage 12");
     assert_told(&rt, Status::WriteFault, 12, "write failed");
