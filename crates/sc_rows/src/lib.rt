@@ -1,12 +1,13 @@
 //! Worked examples through the calls that programs make: tests alone, with no code of its own.
 //!
-//! Each expected value comes from the definition of scripts, from another implementation of the
-//! same arithmetic or from a small sum by hand, and never from the program's own output. Most tests
-//! are tables of text, which cost the check next to nothing: `claims` has a function that runs each
-//! kind of table, `given` makes a run of a script over files and tells what was seen of it, and
-//! `streams` shows the raise that a run doesn't tell. `jobs` begins jobs without a script, and
-//! `transcripts` lets their events happen. `histories` runs a script under a fault plan and counts
-//! what its history shows. The other modules have a subject each.
+//! What the program's text and status show is no test here, but a case of `cases/`: a test is for
+//! what lies below that. Each expected value comes from the definition of scripts, from another
+//! implementation of the same arithmetic or from a small sum by hand, and never from the program's
+//! own output. Most tests are tables of text, which cost the check next to nothing: `claims` has
+//! what is claimed of a row, `given` makes a run of a script over files and tells what was seen of
+//! it, and `streams` shows the raise that a run doesn't tell. `jobs` begins jobs without a script,
+//! and `transcripts` lets their events happen. `histories` runs a script under a fault plan and
+//! counts what its history shows. The other modules have a subject each.
 //!
 //! A test is code, so it is proved too. It is cheap where it is one call with a table, and where
 //! want of memory ends it by `expect`: a `?` is one more way out, on which all that is held has to
@@ -17,15 +18,7 @@
 #![tactic(auto)]
 
 #[cfg(test)]
-mod actions;
-#[cfg(test)]
-mod arithmetic;
-#[cfg(test)]
-mod borders;
-#[cfg(test)]
 mod caches;
-#[cfg(test)]
-mod choices;
 #[cfg(test)]
 mod claims;
 #[cfg(test)]
@@ -35,15 +28,11 @@ mod combining;
 #[cfg(test)]
 mod committing;
 #[cfg(test)]
-mod comparisons;
-#[cfg(test)]
 mod contexts;
 #[cfg(test)]
 mod cutting;
 #[cfg(test)]
 mod failing_tasks;
-#[cfg(test)]
-mod faults;
 #[cfg(test)]
 mod forms;
 #[cfg(test)]
@@ -73,25 +62,13 @@ mod late_reports;
 #[cfg(test)]
 mod layouts;
 #[cfg(test)]
-mod limits;
-#[cfg(test)]
 mod lost_executors;
 #[cfg(test)]
 mod map_outputs;
 #[cfg(test)]
-mod mixed;
-#[cfg(test)]
-mod operations;
-#[cfg(test)]
 mod outside;
 #[cfg(test)]
-mod partitions;
-#[cfg(test)]
 mod paths;
-#[cfg(test)]
-mod plan_faults;
-#[cfg(test)]
-mod planned;
 #[cfg(test)]
 mod plans;
 #[cfg(test)]
@@ -101,13 +78,7 @@ mod ranges;
 #[cfg(test)]
 mod readers;
 #[cfg(test)]
-mod scripts;
-#[cfg(test)]
-mod shapes;
-#[cfg(test)]
 mod shelves;
-#[cfg(test)]
-mod shuffles;
 #[cfg(test)]
 mod statuses;
 #[cfg(test)]
@@ -117,23 +88,17 @@ mod stories;
 #[cfg(test)]
 mod streams;
 #[cfg(test)]
-mod structures;
-#[cfg(test)]
 mod task_sets;
 #[cfg(test)]
 mod tracking;
 #[cfg(test)]
 mod transcripts;
 #[cfg(test)]
-mod typing;
-#[cfg(test)]
 mod values;
 #[cfg(test)]
 mod wiped_stores;
 #[cfg(test)]
 mod words;
-#[cfg(test)]
-mod worked;
 #[cfg(test)]
 mod works;
 #[cfg(test)]
@@ -142,5 +107,3 @@ mod world_lines;
 mod worlds;
 #[cfg(test)]
 mod writers;
-#[cfg(test)]
-mod writing;
