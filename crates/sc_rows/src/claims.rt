@@ -7,13 +7,6 @@
 use crate::given::Seen;
 use std::process::Abort;
 
-/// What stands before and behind the first such mark of a row. Where there is none, what stands
-/// behind it is nothing that a run gives.
-pub fn halves<'a>(row: &'a str, mark: &str) -> (&'a str, &'a str) {
-    row.split_once(mark)
-        .unwrap_or((row, "(a row without its mark)"))
-}
-
 /// Sees that a text is the one that is wanted, and tells by which script it came about.
 pub fn assert_text<R: Abort>(rt: &R, seen: &str, want: &str, script: &str) {
     assert_eq!(rt; seen, want, "by the script {script:?}");

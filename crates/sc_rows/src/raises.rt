@@ -3,8 +3,9 @@
 //! The statuses of the same scripts are in `cases/`.
 #![tactic(auto)]
 
-use crate::claims::{assert_text, halves};
+use crate::claims::assert_text;
 use crate::streams::{kind_of, last_stream};
+use crate::works::halves;
 use std::alloc::{AllocError, Global};
 use std::process::Abort;
 use std::str;
