@@ -23,6 +23,7 @@ use Rattle.sc_core.proofs.LeftLemmas.{Left, left_same, left_then, released_left,
 use Rattle.sc_core.proofs.PlannedLemmas.{counted_more}
 use Rattle.sc_desk.proofs.TrackLemmas.{Sees, ShowsWithin, StaysOrDrops, Tracks, all_released_trust, lost_sees, sees_same, sees_then, tells_track}
 use Rattle.sc_core.proofs.TakeCases.{TakesSo, takes_so}
+use Rattle.sc_dag.specs.DagData.{DagData}
 use Rattle.sc_core.specs.Sides.{IsAside}
 
 -- the shelf of a job that has ended is empty
@@ -138,7 +139,7 @@ aside_pass bound c after is =
           record {
             plan = is.plan;
             told = rw is.told (omega arith);
-            sees = sees_same bound c.dag after.dag is.dag;
+            sees = sees_same bound c.dag after.dag (ap (λ (d : DagData). d.tracker.trust) is.dag);
             ends = λ h over. is.shelf ∙ h (ap is_running_job (sym is.job) ∙ over);
           };
       shelf = λ r. is.shelf;
