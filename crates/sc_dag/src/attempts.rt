@@ -5,11 +5,11 @@ ghost use Rattle.std.specs.Prelude.{◌≡◌, ◌↔◌, ◌-◌, OnOk, OnErr, 
 ghost use Rattle.std.specs.Option.{option_map};
 ghost use Rattle.sc_ids.specs.Changes.{change_at};
 ghost use Rattle.sc_taskset.specs.Offers.{handed};
-ghost use Rattle.sc_taskset.specs.Reports.{after_failure, after_loss};
+ghost use Rattle.sc_taskset.specs.Reports.{after_failure};
 ghost use Rattle.sc_dag.specs.Changes.{attempt_by};
 ghost use Rattle.sc_dag.specs.DagData.{set_in, with_set};
 ghost use Rattle.sc_dag.specs.Offers.{may_be_given_in};
-ghost use Rattle.sc_dag.specs.Reports.{forgiven, reaches_limit_in};
+ghost use Rattle.sc_dag.specs.Reports.{reaches_limit_in};
 
 use sc_ids::{AttemptId, ExecId, FailureCause};
 use sc_taskset::{TaskSet, Verdict};
@@ -29,6 +29,10 @@ pub(crate) enum AttemptChange {
     Zombie,
     /// It failed, and starts nothing more.
     Failed,
+    /// Its stage is complete: that it failed is forgotten.
+    Forgiven,
+    /// An executor is lost.
+    Lost(ExecId),
 }
 
 /// An attempt of a stage.
@@ -56,21 +60,9 @@ impl StageAttempt {
                 self.set.zombie();
                 self.has_failed = true;
             }
+            AttemptChange::Forgiven => self.has_failed = false,
+            AttemptChange::Lost(exec) => self.set.executor_lost(exec),
         }
-    }
-
-    /// Its stage is complete: that it failed is forgotten.
-    fn forgive(&mut self)
-        ensures { self.new ≡ forgiven self.old }
-    {
-        self.has_failed = false;
-    }
-
-    /// An executor is lost.
-    fn lose(&mut self, exec: ExecId)
-        ensures { self.new ≡ with_set (λ set. after_loss set exec) self.old }
-    {
-        self.set.executor_lost(exec);
     }
 }
 
@@ -130,38 +122,20 @@ pub(crate) fn fail_in(
     }
 }
 
-/// The stage is complete: that attempts failed is forgotten.
-pub(crate) fn forgive_all(attempts: &mut Vec<StageAttempt>)
-    ensures items { attempts.new.items ≡ map forgiven attempts.old.items }
+/// Changes all attempts.
+pub(crate) fn change_all(attempts: &mut Vec<StageAttempt>, change: AttemptChange)
+    ensures items { attempts.new.items ≡ map (attempt_by change) attempts.old.items }
     ensures len { vec_len attempts.new ≡ vec_len attempts.old }
     ensures capacity { vec_capacity attempts.new ≡ vec_capacity attempts.old }
 {
-    forgive_each(attempts.as_mut_slice());
+    change_each(attempts.as_mut_slice(), change);
 }
 
-fn forgive_each(attempts: &mut [StageAttempt])
-    ensures { attempts.new ≡ map forgiven attempts.old }
+fn change_each(attempts: &mut [StageAttempt], change: AttemptChange)
+    ensures { attempts.new ≡ map (attempt_by change) attempts.old }
 {
     for attempt in attempts.iter_mut() {
-        attempt.forgive();
-    }
-}
-
-/// An executor is lost.
-pub(crate) fn lose_in(attempts: &mut Vec<StageAttempt>, exec: ExecId)
-    ensures items { attempts.new.items
-        ≡ map (with_set (λ set. after_loss set exec)) attempts.old.items }
-    ensures len { vec_len attempts.new ≡ vec_len attempts.old }
-    ensures capacity { vec_capacity attempts.new ≡ vec_capacity attempts.old }
-{
-    lose_each(attempts.as_mut_slice(), exec);
-}
-
-fn lose_each(attempts: &mut [StageAttempt], exec: ExecId)
-    ensures { attempts.new ≡ map (with_set (λ set. after_loss set exec)) attempts.old }
-{
-    for attempt in attempts.iter_mut() {
-        attempt.lose(exec);
+        attempt.change(change);
     }
 }
 

@@ -7,14 +7,13 @@ ghost use Rattle.sc_taskset.specs.Offers.{handed};
 ghost use Rattle.sc_taskset.specs.Reports.{after_failure};
 ghost use Rattle.sc_dag.specs.Changes.{state_by};
 ghost use Rattle.sc_dag.specs.DagData.{attempt_in, changed_newest, changed_set, newest_set, set_in};
-ghost use Rattle.sc_dag.specs.Losses.{without_executor};
 ghost use Rattle.sc_dag.specs.Offers.{may_be_given_in};
 ghost use Rattle.sc_dag.specs.Outputs.{is_complete_by};
 ghost use Rattle.sc_dag.specs.Reports.{reaches_limit_in};
-ghost use Rattle.sc_dag.specs.Submission.{as_waiting, started};
+ghost use Rattle.sc_dag.specs.Submission.{started};
 
 use crate::attempts::{
-    AttemptChange, StageAttempt, change_in, fail_in, forgive_all, give_in, lose_in,
+    AttemptChange, StageAttempt, change_all, change_in, fail_in, give_in,
 };
 use crate::outputs::missing_set;
 use crate::rows::StageRow;
@@ -30,8 +29,12 @@ pub(crate) enum RowChange {
     Own(u64, AttemptChange),
     /// Its newest attempt changes.
     Newest(AttemptChange),
+    /// All its attempts change.
+    All(AttemptChange),
     /// A partition has a result.
     HasResult(u32),
+    /// It waits for its parents.
+    Waits,
     /// All its partitions are done.
     Complete,
 }
@@ -65,14 +68,16 @@ impl StageRow {
                 let place = self.last();
                 change_in(&mut self.attempts, place, change);
             }
+            RowChange::All(change) => change_all(&mut self.attempts, change),
             RowChange::HasResult(partition) => {
                 if put_result_in(&mut self.results, partition) {
                     self.done += 1;
                 }
             }
+            RowChange::Waits => self.waits = true,
             RowChange::Complete => {
                 self.waits = false;
-                forgive_all(&mut self.attempts);
+                change_all(&mut self.attempts, AttemptChange::Forgiven);
             }
         }
     }
@@ -89,24 +94,6 @@ impl StageRow {
     {
         let place = self.place(a.stage_attempt);
         fail_in(&mut self.attempts, place, a, cause)
-    }
-
-    /// An executor is lost.
-    pub fn lose(&mut self, exec: ExecId)
-        ensures state { self.new.state ≡ without_executor exec self.old.state }
-        ensures stage { self.new.stage ≡ self.old.stage }
-        ensures ready { self.new.is_ready ≡ self.old.is_ready }
-    {
-        lose_in(&mut self.attempts, exec);
-    }
-
-    /// It waits for its parents.
-    pub fn wait(&mut self)
-        ensures state { self.new.state ≡ as_waiting self.old.state }
-        ensures stage { self.new.stage ≡ self.old.stage }
-        ensures ready { self.new.is_ready ≡ self.old.is_ready }
-    {
-        self.waits = true;
     }
 
     /// A new attempt for the partitions that aren't done, in the room that was made. It takes no

@@ -9,6 +9,7 @@ ghost use Rattle.sc_dag.specs.DagData.{no_stage};
 ghost use Rattle.sc_dag.specs.Rows.{AreFates, AreOlder, SuitFates, are_ready, dag_of, fate_at, fate_for, fated, is_complete_in, is_looked_at, is_submitted, is_submitted_in, is_to_look_at, moves, outlook, ready_of, stages_of, states_of};
 ghost use Rattle.sc_dag.specs.Submission.{IsSubmitted, by_number, is_idle_in, moved_if, waits_in};
 
+use crate::changes::RowChange;
 use crate::rows::StageRow;
 use crate::stages::is_complete_at;
 use sc_ids::{Limits, StageId};
@@ -230,7 +231,7 @@ fn move_at(rows: &mut Vec<StageRow>, k: usize, fate: Fate, tracker: &Tracker, li
 {
     match fate {
         Fate::Stays => {}
-        Fate::Waits => rows[k].wait(),
+        Fate::Waits => rows[k].change(RowChange::Waits),
         Fate::Starts => rows[k].start(tracker, limits),
     }
 }

@@ -15,6 +15,7 @@ ghost use Rattle.sc_dag.specs.Rows.{are_ready, dag_of, is_complete_in, ready_of,
 ghost use Rattle.sc_tracker.specs.TrackerData.{TrackerData};
 ghost use Rattle.sc_ids.specs.declared.limits.Limits.{Limits};
 
+use crate::attempts::AttemptChange;
 use crate::changes::RowChange;
 use crate::rows::StageRow;
 use sc_ids::{AttemptId, ExecId, FailureCause, StageId, Target};
@@ -136,6 +137,6 @@ fn lose_each(rows: &mut [StageRow], exec: ExecId)
     ensures { rows.new ≡ map (row_without_executor exec) rows.old }
 {
     for row in rows.iter_mut() {
-        row.lose(exec);
+        row.change(RowChange::All(AttemptChange::Lost(exec)));
     }
 }
