@@ -40,7 +40,8 @@ impl Model for Dag {
     ghost view = { λ d. (dag_of d.rows.items d.tracker d.limits, are_ready d.rows.items) };
 
     ghost invariant = { λ d. AreOlder (stages_of d.rows.items)
-        × (length d.fates.items ≡ length d.rows.items) × (length d.rows.items ≤ 2 ^ 32) };
+        × (length d.fates.items ≡ length (stages_of d.rows.items))
+        × (length (stages_of d.rows.items) ≤ 2 ^ 32) };
 }
 
 impl Dag {

@@ -11,7 +11,7 @@ ghost use Rattle.sc_dag.specs.Submission.{IsSubmitted, by_number, is_idle_in, mo
 
 use crate::changes::RowChange;
 use crate::rows::StageRow;
-use crate::stages::is_complete_at;
+use crate::stages::{is_complete_at, parents_at};
 use sc_ids::{Limits, StageId};
 use sc_tracker::Tracker;
 
@@ -58,13 +58,12 @@ pub(crate) fn submit(
 )
     requires older { AreOlder (stages_of rows.old.items) }
     requires ready { are_ready rows.old.items ≡ true }
-    requires fates { length fates.old.items ≡ length rows.old.items }
-    requires few { length rows.old.items ≤ 2 ^ 32 }
+    requires fates { length fates.old.items ≡ length (stages_of rows.old.items) }
+    requires few { length (stages_of rows.old.items) ≤ 2 ^ 32 }
     ensures submitted { IsSubmitted (dag_of rows.old.items tracker.now limits)
         (is_submitted submitted (dag_of rows.old.items tracker.now limits))
         (dag_of rows.new.items tracker.now limits) }
     ensures stages { stages_of rows.new.items ≡ stages_of rows.old.items }
-    ensures len { length rows.new.items ≡ length rows.old.items }
     ensures fates { length fates.new.items ≡ length fates.old.items }
 {
     note_fates(rows, tracker, submitted, fates);
@@ -180,16 +179,6 @@ fn has_inputs_at(rows: &[StageRow], tracker: &Tracker, stage: StageId) -> bool
     parents_at(rows, stage as usize)
         .iter()
         .all(|parent| is_complete_at(rows, tracker, *parent))
-}
-
-/// The stages whose outputs a stage reads.
-fn parents_at(rows: &[StageRow], stage: usize) -> &[StageId]
-    ensures { result.now ≡ (at_or (stages_of rows.now) stage no_stage).parents }
-{
-    match rows.get(stage) {
-        Some(row) => row.stage().parents(),
-        None => &[],
-    }
 }
 
 /// What a submission makes of a stage: of one that isn't there, nothing.

@@ -1,7 +1,7 @@
 //! The stages of a job, each told what becomes of it.
 #![tactic(auto)]
 
-ghost use Rattle.std.specs.Prelude.{◌≡◌, ◌↔◌, OnOk, OnErr, length, map, slice_get, true};
+ghost use Rattle.std.specs.Prelude.{◌≡◌, ◌↔◌, OnOk, OnErr, map, slice_get, true};
 ghost use Rattle.sc_base.specs.Lists.{at_or};
 ghost use Rattle.sc_ids.specs.Changes.{change_at};
 ghost use Rattle.sc_taskset.specs.Offers.{handed};
@@ -53,12 +53,21 @@ pub(crate) fn target_at(rows: &[StageRow], stage: StageId) -> Target
     }
 }
 
+/// The stages whose outputs a stage reads: of one that isn't there, none.
+pub(crate) fn parents_at(rows: &[StageRow], stage: usize) -> &[StageId]
+    ensures { result.now ≡ (at_or (stages_of rows.now) stage no_stage).parents }
+{
+    match rows.get(stage) {
+        Some(row) => row.stage().parents(),
+        None => &[],
+    }
+}
+
 /// Makes room for one more attempt of each stage. Nothing that is seen of the stages changes.
 pub(crate) fn prepare_all(rows: &mut Vec<StageRow>, alloc: Global) -> Result<(), AllocError>
     ensures states { states_of rows.new.items ≡ states_of rows.old.items }
     ensures stages { stages_of rows.new.items ≡ stages_of rows.old.items }
     ensures ready { OnOk result (are_ready rows.new.items ≡ true) }
-    ensures len { length rows.new.items ≡ length rows.old.items }
 {
     for k in 0..rows.len() {
         rows[k].prepare(alloc)?;
@@ -81,7 +90,6 @@ pub(crate) fn give_at(
     ensures err { OnErr result (states_of rows.new.items ≡ states_of rows.old.items) }
     ensures stages { stages_of rows.new.items ≡ stages_of rows.old.items }
     ensures ready { ready_of rows.new.items ≡ ready_of rows.old.items }
-    ensures len { length rows.new.items ≡ length rows.old.items }
 {
     let stage = a.stage;
     if (stage as usize) < rows.len() {
@@ -97,7 +105,6 @@ pub(crate) fn change_row(rows: &mut Vec<StageRow>, stage: StageId, change: RowCh
         (state_by change) }
     ensures stages { stages_of rows.new.items ≡ stages_of rows.old.items }
     ensures ready { ready_of rows.new.items ≡ ready_of rows.old.items }
-    ensures len { length rows.new.items ≡ length rows.old.items }
 {
     if (stage as usize) < rows.len() {
         rows[stage as usize].change(change);
@@ -112,7 +119,6 @@ pub(crate) fn fail_at(rows: &mut Vec<StageRow>, a: AttemptId, cause: FailureCaus
         (changed_set a.stage_attempt (λ set. after_failure set a.partition a.nth cause)) }
     ensures stages { stages_of rows.new.items ≡ stages_of rows.old.items }
     ensures ready { ready_of rows.new.items ≡ ready_of rows.old.items }
-    ensures len { length rows.new.items ≡ length rows.old.items }
 {
     let stage = a.stage;
     if (stage as usize) < rows.len() {
@@ -128,7 +134,6 @@ pub(crate) fn lose_all(rows: &mut Vec<StageRow>, exec: ExecId)
         ≡ map (without_executor exec) (states_of rows.old.items) }
     ensures stages { stages_of rows.new.items ≡ stages_of rows.old.items }
     ensures ready { ready_of rows.new.items ≡ ready_of rows.old.items }
-    ensures len { length rows.new.items ≡ length rows.old.items }
 {
     lose_each(rows.as_mut_slice(), exec);
 }
