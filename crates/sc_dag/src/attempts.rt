@@ -18,13 +18,23 @@ use std::alloc::AllocError;
 /// What becomes of an attempt of a stage.
 #[derive(Clone, Copy)]
 pub(crate) enum AttemptChange {
-    /// A partition succeeded, at this time: its own attempt of this number did, or with none one of
-    /// an older task set.
-    Success(u32, Option<u32>, u64),
+    /// A partition succeeded: its attempt of this number did, or with none one of an older attempt
+    /// of the stage.
+    Success {
+        partition: u32,
+        nth: Option<u32>,
+        now: u64,
+    },
     /// An attempt of a partition ended, and that changes nothing else.
-    End(u32, u32),
-    /// A held grant has denied an attempt of a partition, or doesn't any more.
-    Held(u32, bool),
+    End {
+        partition: u32,
+        nth: u32,
+    },
+    /// Whether a held grant has denied an attempt of a partition.
+    Held {
+        partition: u32,
+        denied: bool,
+    },
     /// It starts nothing more.
     Zombie,
     /// It failed, and starts nothing more.
@@ -50,11 +60,15 @@ impl StageAttempt {
         ensures { self.new ≡ attempt_by change self.old }
     {
         match change {
-            AttemptChange::Success(partition, nth, now) => {
+            AttemptChange::Success {
+                partition,
+                nth,
+                now,
+            } => {
                 let _ = self.set.succeeded(partition, nth, now);
             }
-            AttemptChange::End(partition, nth) => self.set.ended(partition, nth),
-            AttemptChange::Held(partition, denied) => self.set.held(partition, denied),
+            AttemptChange::End { partition, nth } => self.set.ended(partition, nth),
+            AttemptChange::Held { partition, denied } => self.set.held(partition, denied),
             AttemptChange::Zombie => self.set.zombie(),
             AttemptChange::Failed => {
                 self.set.zombie();

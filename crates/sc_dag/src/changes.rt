@@ -12,9 +12,7 @@ ghost use Rattle.sc_dag.specs.Outputs.{is_complete_by};
 ghost use Rattle.sc_dag.specs.Reports.{reaches_limit_in};
 ghost use Rattle.sc_dag.specs.Submission.{started};
 
-use crate::attempts::{
-    AttemptChange, StageAttempt, change_all, change_in, fail_in, give_in,
-};
+use crate::attempts::{AttemptChange, StageAttempt, change_all, change_in, fail_in, give_in};
 use crate::outputs::missing_set;
 use crate::rows::StageRow;
 use sc_ids::{AttemptId, ExecId, FailureCause, Limits};

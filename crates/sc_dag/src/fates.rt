@@ -199,7 +199,6 @@ fn carry_out(rows: &mut Vec<StageRow>, fates: &[Fate], tracker: &Tracker, limits
         ≡ by_number (moved_if (dag_of rows.old.items tracker.now limits) (is_looked_at fates.now))
         0 (states_of rows.old.items) }
     ensures stages { stages_of rows.new.items ≡ stages_of rows.old.items }
-    ensures len { length rows.new.items ≡ length rows.old.items }
 {
     for k in 0..rows.len() {
         move_at(rows, k, fate_at(fates, k), tracker, limits);

@@ -67,7 +67,10 @@ impl Dag {
         ensures state { self.new.0 ≡ ended_in_own self.old.0 attempt }
         ensures ready { self.new.1 ≡ self.old.1 }
     {
-        let end = AttemptChange::End(attempt.partition, attempt.nth);
+        let end = AttemptChange::End {
+            partition: attempt.partition,
+            nth: attempt.nth,
+        };
         self.change(attempt.stage, RowChange::Own(attempt.stage_attempt, end));
     }
 
@@ -87,7 +90,7 @@ impl Dag {
         ensures state { self.new.0 ≡ after_hold self.old.0 stage partition denied }
         ensures ready { self.new.1 ≡ self.old.1 }
     {
-        let held = AttemptChange::Held(partition, denied);
+        let held = AttemptChange::Held { partition, denied };
         self.change(stage, RowChange::Newest(held));
     }
 
@@ -108,8 +111,15 @@ impl Dag {
         ensures state { self.new.0 ≡ succeeded_in_own self.old.0 attempt now }
         ensures ready { self.new.1 ≡ self.old.1 }
     {
-        let success = AttemptChange::Success(attempt.partition, Some(attempt.nth), now);
-        self.change(attempt.stage, RowChange::Own(attempt.stage_attempt, success));
+        let success = AttemptChange::Success {
+            partition: attempt.partition,
+            nth: Some(attempt.nth),
+            now,
+        };
+        self.change(
+            attempt.stage,
+            RowChange::Own(attempt.stage_attempt, success),
+        );
     }
 
     /// A success told to its own task set, and to the newest one of its stage.
@@ -120,7 +130,11 @@ impl Dag {
         let is_newest = self.is_of_newest(attempt);
         self.succeed_own(attempt, now);
         if !is_newest {
-            let success = AttemptChange::Success(attempt.partition, None, now);
+            let success = AttemptChange::Success {
+                partition: attempt.partition,
+                nth: None,
+                now,
+            };
             self.change(attempt.stage, RowChange::Newest(success));
         }
     }
