@@ -1,5 +1,5 @@
 -- The stages of a job read all shuffles that their tasks take in.
-use Rattle.std.proofs.Common.{◌≡◌, ◌∙◌, ℕ, zero, suc, true, List, [], ◌∷◌, ◌++◌, Option, Some, None, map, filter, flat_map, refl, ap, sym, subst, arith}
+use Rattle.std.proofs.Common.{◌≡◌, ◌∙◌, ℕ, zero, suc, Bool, true, false, cond, List, [], ◌∷◌, ◌++◌, Option, Some, None, map, filter, flat_map, refl, ap, sym, subst, arith}
 use Rattle.std.proofs.lemmas.List.Elements.{All-contains, All-contains_itself, All-weaker}
 use Rattle.std.specs.List.{All, Contains, slice_get}
 use Rattle.sc_ids.specs.Graphs.{StageData}
@@ -9,12 +9,12 @@ use Rattle.sc_ids.specs.declared.blocks.Target.TheVariants as targets
 use Rattle.sc_lineage.specs.Dependencies.{Dependency, one_to_one, range_behind, grouped, shuffled, dependencies_by, parent_of}
 use Rattle.sc_lineage.specs.Meaning.{known_of}
 use Rattle.sc_lineage.specs.NodeData.{NodeData}
+use Rattle.sc_lineage.specs.Partitioners.{PartitionerData}
 use Rattle.sc_lineage.specs.ScriptData.{WorkData}
 use Rattle.sc_stagecut.specs.Carrying.{CarriedData}
 use Rattle.sc_stagecut.specs.CutLaws.{HasStage, IsLawfulCut, taken_node}
-use Rattle.sc_stagecut.specs.Numbering.{dependency_of, is_shuffle, is_some_shuffle, mapped_node, parent_or, side_of}
-use Rattle.sc_stagecut.specs.Reaching.{IsReached, IsWithin, Leads, dependencies_at, followed_from, is_followed}
-use Rattle.sc_stagecut.specs.declared.reads.Follow.TheVariants as follows
+use Rattle.sc_stagecut.specs.Numbering.{is_shuffle, is_some_shuffle, mapped_node, parent_or, side_of}
+use Rattle.sc_stagecut.specs.Reaching.{IsReached, IsWithin, Leads, Reaches, dependencies_among, dependencies_at}
 use Rattle.sc_stagecut.proofs.PathLemmas.{reaches-further, within-reached}
 use Rattle.sc_compute.specs.Inputs.{Leads as LeadsDirectly, TakesIn, direct_parent, direct_parents, direct_parents_of}
 use Rattle.sc_compute.specs.Stages.{GoesThrough, mapped_in, node_at}
@@ -23,48 +23,84 @@ use Rattle.sc_jobs.specs.Plans.{AreTasksFor, IsStageFor, ReadsInputs, ReadsSide,
 use Rattle.sc_jobs.specs.declared.goals.Goal.{Goal}
 use Rattle.sc_jobs.proofs.NodeLemmas.{mapped_same, shuffle_of_through}
 
--- the parents that are read as they are, are those that are followed without a shuffle
-direct_followed : (ds : List Dependency)
-    → flat_map direct_parent ds ≡ map parent_of (filter (is_followed follows.Narrow) ds)
-direct_followed [] = refl
-direct_followed (one_to_one parent ∷ ds) = ap (λ ps. parent ∷ ps) (direct_followed ds)
-direct_followed (range_behind parent others ∷ ds) = ap (λ ps. parent ∷ ps) (direct_followed ds)
-direct_followed (grouped parent n ∷ ds) = ap (λ ps. parent ∷ ps) (direct_followed ds)
-direct_followed (shuffled parent by ∷ ds) = direct_followed ds
+-- The parents by the dependencies that pass a test.
+abbrev passing : (Dependency → Bool) → List NodeData → ℕ → List ℕ
+passing test nodes k = map parent_of (filter test (dependencies_at nodes k))
 
-parents_same : (work : WorkData) (k : ℕ)
-    → direct_parents work k ≡ followed_from follows.Narrow work.script.nodes k
-parents_same work k = at (slice_get work.script.nodes k) refl
-  where
-    at : (node : Option NodeData) → slice_get work.script.nodes k ≡ node
-        → direct_parents work k ≡ followed_from follows.Narrow work.script.nodes k
-    at None is = rw is refl
-    at (Some node) is = rw is (direct_followed (dependencies_by (known_of work) node))
+-- where each but a shuffle passes, those are the parents that are read as they are
+module _ (test : Dependency → Bool) (one : (parent : ℕ) → test (one_to_one parent) ≡ true)
+    (range : (parent : ℕ) (others : List ℕ) → test (range_behind parent others) ≡ true)
+    (group : (parent n : ℕ) → test (grouped parent n) ≡ true)
+    (through : (parent : ℕ) (by : PartitionerData) → test (shuffled parent by) ≡ false) where
+  abbrev Passing : Bool → Dependency → List Dependency → List ℕ
+  Passing passes d ds = map parent_of (cond passes (d ∷ filter test ds) (filter test ds))
+
+  direct_passing : (ds : List Dependency)
+      → flat_map direct_parent ds ≡ map parent_of (filter test ds)
+  direct_passing [] = refl
+  direct_passing (one_to_one parent ∷ ds) =
+      ap (λ ps. parent ∷ ps) (direct_passing ds)
+      ∙ sym (ap (λ b. Passing b (one_to_one parent) ds) (one parent))
+  direct_passing (range_behind parent others ∷ ds) =
+      ap (λ ps. parent ∷ ps) (direct_passing ds)
+      ∙ sym (ap (λ b. Passing b (range_behind parent others) ds) (range parent others))
+  direct_passing (grouped parent n ∷ ds) =
+      ap (λ ps. parent ∷ ps) (direct_passing ds)
+      ∙ sym (ap (λ b. Passing b (grouped parent n) ds) (group parent n))
+  direct_passing (shuffled parent by ∷ ds) =
+      direct_passing ds ∙ sym (ap (λ b. Passing b (shuffled parent by) ds) (through parent by))
+
+  parents_passing : (work : WorkData) (k : ℕ)
+      → direct_parents work k ≡ passing test work.script.nodes k
+  parents_passing work k = at (slice_get work.script.nodes k)
+    where
+      at : (node : Option NodeData) → direct_parents_of work node
+          ≡ map parent_of (filter test (dependencies_among (known_of work) node))
+      at None = refl
+      at (Some node) = direct_passing (dependencies_by (known_of work) node)
+
+  taken_by : (work : WorkData) (from to : ℕ) → TakesIn work from to
+      → Reaches (passing test work.script.nodes) from to
+  taken_by work from to takes = (takes.0, along from takes.0 takes.1)
+    where
+      along : (i : ℕ) (path : List ℕ) → LeadsDirectly work i path to
+          → Leads (passing test work.script.nodes) i path to
+      along i [] leads = leads
+      along i (via ∷ path) leads =
+          (subst (λ ps. Contains ps via) (parents_passing work i) leads.0, along via path leads.1)
 
 -- what a node takes in is within it
 within_taken : (work : WorkData) (from to : ℕ) → TakesIn work from to
     → IsWithin work.script.nodes from to
-within_taken work from to takes = (takes.0, along from takes.0 takes.1)
-  where
-    along : (i : ℕ) (path : List ℕ) → LeadsDirectly work i path to
-        → Leads (followed_from follows.Narrow work.script.nodes) i path to
-    along i [] leads = leads
-    along i (via ∷ path) leads =
-        (subst (λ ps. Contains ps via) (parents_same work i) leads.0, along via path leads.1)
+within_taken work from to takes =
+    taken_by _ (λ parent. refl) (λ parent others. refl) (λ parent n. refl) (λ parent by. refl) work
+    from to takes
 
--- the parent of a side is followed
-followed_side : (ds : List Dependency) (side : ℕ) → is_some_shuffle (slice_get ds side) ≡ true
-    → Contains (map parent_of (filter (is_followed follows.Every) ds))
-    (parent_or (slice_get ds side))
-followed_side [] side some = cc
-followed_side (d ∷ ds) zero some = (0, omega arith, refl)
-followed_side (d ∷ ds) (suc side) some =
-    let rest = followed_side ds side some in (suc rest.0, omega (arith, rest.1), rest.2)
+-- where each dependency passes, the parent of a side is among those
+followed_side : (test : Dependency → Bool) → ((d : Dependency) → test d ≡ true)
+    → (ds : List Dependency) (side : ℕ) → is_some_shuffle (slice_get ds side) ≡ true
+    → Contains (map parent_of (filter test ds)) (parent_or (slice_get ds side))
+followed_side test all [] side some = cc
+followed_side test all (d ∷ ds) zero some =
+    subst (λ b. Contains (map parent_of (cond b (d ∷ filter test ds) (filter test ds)))
+    (parent_of d)) (sym (all d)) (0, omega arith, refl)
+followed_side test all (d ∷ ds) (suc side) some =
+    let rest = followed_side test all ds side some in
+    subst (λ b. Contains (map parent_of (cond b (d ∷ filter test ds) (filter test ds)))
+    (parent_or (slice_get ds side))) (sym (all d)) (suc rest.0, omega (arith, rest.1), rest.2)
 
+side_by : (test : Dependency → Bool) → ((d : Dependency) → test d ≡ true)
+    → (nodes : List NodeData) (s : ShuffleId) → is_shuffle nodes s ≡ true
+    → Reaches (passing test nodes) s.node (mapped_node nodes s)
+side_by test all nodes s some = (
+  mapped_node nodes s ∷ [],
+  (followed_side test all (dependencies_at nodes s.node) s.side some, refl),
+)
+
+-- so the node whose partitions the map tasks of a shuffle take is reached from its node
 side_reached : (nodes : List NodeData) (s : ShuffleId) → is_shuffle nodes s ≡ true
     → IsReached nodes s.node (mapped_node nodes s)
-side_reached nodes s some =
-    (mapped_node nodes s ∷ [], (followed_side (dependencies_at nodes s.node) s.side some, refl))
+side_reached nodes s some = side_by _ (λ d. refl) nodes s some
 
 -- The stages of a job that was cut.
 module _ (work : WorkData) (carried : CarriedData) (goal : Goal) (graph : List StageData)
@@ -93,7 +129,7 @@ module _ (work : WorkData) (carried : CarriedData) (goal : Goal) (graph : List S
           let only = lawful.only s stage.id (stage, there, makes, refl) in
           let P : Target → Type 0 = λ t. IsReached nodes node (taken_node nodes t) in
           subst P (sym makes)
-          (reaches-further (followed_from follows.Every nodes) node s.node (mapped_node nodes s)
+          (reaches-further _ node s.node (mapped_node nodes s)
           only.1 (side_reached nodes s only.0))
       by (targets.Result k) makes are =
           let P : Target → Type 0 = λ t. IsReached nodes node (taken_node nodes t) in
@@ -111,7 +147,7 @@ module _ (work : WorkData) (carried : CarriedData) (goal : Goal) (graph : List S
       let within = subst From (taken_same stage.target)
       (within_taken work (node_taken_by work stage.target) k takes) in
       let made = lawful.made s some
-      (reaches-further (followed_from follows.Every nodes) node (taken_node nodes stage.target) k
+      (reaches-further _ node (taken_node nodes stage.target) k
       (taken_reached stage there)
       (within-reached nodes (taken_node nodes stage.target) k within)) in
       let has : HasStage graph s made.0 = made.1 in

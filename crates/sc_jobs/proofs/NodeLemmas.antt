@@ -80,8 +80,8 @@ goes_through work (meet_node kind left right n) (suc (suc side)) h = absurd (fal
 -- a side that goes through is a shuffle
 shuffled_so : (skipped : Bool) (parent : ℕ) (by : PartitionerData) → skipped ≡ false
     → is_shuffled (if skipped then one_to_one parent else shuffled parent by) ≡ true
-shuffled_so true parent by no = absurd (false≢true (sym no))
-shuffled_so false parent by no = refl
+shuffled_so true parent by isnt = absurd (false≢true (sym isnt))
+shuffled_so false parent by isnt = refl
 
 pub through_shuffle : (work : WorkData) (node : NodeData) (side : ℕ) → GoesThrough work node side
     → is_some_shuffle (slice_get (dependencies_by (known_of work) node) side) ≡ true
