@@ -172,6 +172,19 @@ module _ (work : WorkData) (graph : List StageData) (items : List ℕ) (i : ℕ)
         subst (λ k. AreOf work others (drop k rest)) (sym count) both.1,
       )
 
+  -- where there is no next stage, those of the others are left
+  pub next_none : (d : ℕ) → i < length items → stage_in graph (get_or items i d) ≡ None
+      → AreOf work (flat_map (λ id. blocks_left (stage_in graph id)) (drop i items)) rest
+      → AreOf work (flat_map (λ id. blocks_left (stage_in graph id)) (drop (i + 1) items)) rest
+  next_none d within none are =
+      let f = λ (id : ℕ). blocks_left (stage_in graph id) in
+      let x = get_or items i d in
+      let others = flat_map f (drop (i + 1) items) in
+      let at : x ≡ get_or items i x =
+      sym (get_or_from_slice_get items i x x (slice_get-get_or items i d within)) in
+      subst (λ bs. AreOf work bs rest)
+      (flat_next f items i x within at ∙ ap (λ o. blocks_left o ++ others) none) are
+
 -- the only or left parent of a node is one of its script, and so is the right one
 pub mapped_known : (node : NodeData) (side n : ℕ) → IsSideOf node side
     → All (λ q. q < n) (parents_of node) → mapped_in node side < n

@@ -3,6 +3,7 @@ use Rattle.std.proofs.Common.{◌≡◌, ◌∙◌, ℕ, ◌+◌, ◌<◌, List,
 use Rattle.std.proofs.lemmas.List.{take_more}
 use Rattle.std.proofs.lemmas.List.Elements.{All-append, All-cons, All-contains, All-nil, All-weaker}
 use Rattle.std.specs.List.{Contains}
+use Rattle.std.specs.Option.{option_map}
 use Rattle.sc_ids.specs.Graphs.{StageData}
 use Rattle.sc_ids.specs.declared.blocks.Target.{Target}
 use Rattle.sc_ids.specs.declared.blocks.Target.TheVariants as targets
@@ -50,6 +51,12 @@ pub handed_found : (graph : List StageData) (inputs : ShuffleInputs) (id : ℕ) 
 handed_found graph inputs id stage found handed =
     let P : Option StageData → Type 0 = λ o. IfSome o (IsHanded inputs) in
     subst P (sym found) handed
+
+-- nothing was found
+pub none_if : {A B : Type 0} (o : Option A) (f : A → B) (p : Option B)
+    → ((x : A) → o ≡ Some x → ⊥) → option_map f o ≡ p → p ≡ None
+none_if None f p nothing is = sym is
+none_if (Some x) f p nothing is = absurd (nothing x refl)
 
 pub handed_none : (graph : List StageData) (inputs : ShuffleInputs) (id : ℕ)
     → stage_in graph id ≡ None → IsHandedBy graph inputs id

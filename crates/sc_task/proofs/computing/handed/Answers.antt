@@ -1,4 +1,4 @@
-use Rattle.std.proofs.Common.{◌∙◌, ◌+◌, Some, All, drop, get_or, take, subst, sym, ap, arith}
+use Rattle.std.proofs.Common.{◌≡◌, ◌∙◌, ◌+◌, None, Some, All, drop, get_or, take, subst, sym, ap, arith}
 use Rattle.std.proofs.lemmas.List.{take_all}
 use Rattle.std.proofs.lemmas.List.Elements.{All-nil}
 use Rattle.std.specs.List.{flat_map}
@@ -6,8 +6,8 @@ use Rattle.sc_jobs.specs.JobData.{JobData, blocks_left, stage_in}
 use Rattle.sc_jobs.specs.Plans.{IsJobFor}
 use Rattle.sc_task.specs.Handing.{IsHandedBy}
 use Rattle.sc_task.specs.States.{AreOf}
-use Rattle.sc_task.proofs.HandingLemmas.{found_of_work, next_cut}
-use Rattle.sc_task.proofs.InputLemmas.{handed_found, handed_more}
+use Rattle.sc_task.proofs.HandingLemmas.{found_of_work, next_cut, next_none}
+use Rattle.sc_task.proofs.InputLemmas.{handed_found, handed_more, handed_none, none_if}
 use Rattle.sc_task.proofs.computing.handed.Goals as goal
 
 pub loop-parent-init : goal.loop-parent-init
@@ -87,3 +87,23 @@ returns-clause-handed g c =
     let items = c.parents_of-parent-items.result.now in
     subst (All handed) (take_all c.loop-parent.parent-index items (omega arith)
     ∙ c.parents_of-parent-items.ensures) c.loop-parent.invariant.handed
+
+pub loop-parent-preserved-in_default : goal.loop-parent-preserved-in_default
+loop-parent-preserved-in_default g c =
+    let graph = c.args.task.now.job.graph in
+    let items = c.parents_of-parent-items.result.now in
+    let i = c.loop-parent.parent-index in
+    let stages = c.loop-parent.stages in
+    let none : stage_in graph (get_or items i 0) ≡ None =
+    none_if c.stage.result _ (stage_in graph (get_or items i 0))
+    (λ x is. c.in_default.not-Some x is)
+    (c.stage.ensures ∙ ap (λ (j : JobData). stage_in j.graph (get_or items i 0))
+    c.job-in-loop-parent.ensures) in
+    record {
+      right = c.loop-parent.invariant.right;
+      unmade = c.loop-parent.invariant.unmade;
+      handed = handed_more stages stages graph items i 0 c.loop-parent-test.true (λ k s has. has)
+          (handed_none graph stages (get_or items i 0) none) c.loop-parent.invariant.handed;
+      left = next_none c.args.work.now graph items i c.loop-parent.rest.now 0
+          c.loop-parent-test.true none c.loop-parent.invariant.left;
+    }
