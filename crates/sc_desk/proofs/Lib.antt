@@ -9,6 +9,7 @@ pub mod AnswerLemmas
 pub mod TaskLemmas
 pub mod EvidenceLemmas
 pub mod KeepLemmas
+pub mod KeyLemmas
 pub mod ShelfLemmas
 pub mod EndLemmas
 pub mod PostLemmas

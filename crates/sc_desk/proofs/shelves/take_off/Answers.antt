@@ -1,9 +1,8 @@
 use Rattle.std.proofs.Common.{◌≡◌, ◌∙◌, ap, sym, Some, None}
 use Rattle.std.specs.List.{position}
 use Rattle.std.specs.Option.{option_map}
-use Rattle.sc_net.specs.Shelves.{ShelfData, is_under}
-use Rattle.sc_net.proofs.ShelfLemmas.{none_found, none_goes, place_found}
-use Rattle.sc_net.specs.Reports.{ReportData}
+use Rattle.sc_net.specs.Shelves.{is_under}
+use Rattle.sc_desk.proofs.KeyLemmas.{none_found, none_goes, place_found}
 use Rattle.sc_desk.proofs.shelves.take_off.Goals as goal
 
 pub returns-in-Some-clause-report : goal.returns-in-Some-clause-report
@@ -38,4 +37,4 @@ returns-in-None-clause-shelf g c =
     let place : None ≡ position (is_under c.args.key) reports =
     sym c.in-None.is ∙ c.place_of.ensures
     ∙ ap (position (is_under c.args.key)) c.as_slice.ensures.value in
-    ap (λ (s : ShelfData ReportData). s.reports) (none_goes reports c.args.key 0 place)
+    none_goes reports c.args.key place

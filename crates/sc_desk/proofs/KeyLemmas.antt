@@ -1,0 +1,124 @@
+-- Where a report stands on a shelf.
+use Rattle.std.proofs.Common.{◌≡◌, ◌∙◌, ℕ, ◌+◌, ◌<◌, ◌≤◌, suc, Bool, true, false, not, cond, List, [], ◌∷◌, length, remove, Some, None, get_or, nat_lt, refl, ap, sym, arith}
+use Rattle.std.specs.List.{All, AllPairs, filter, find, position, position_or_len}
+use Rattle.std.specs.Option.{option_map}
+use Rattle.std.proofs.lemmas.Bool.Decides.{nat_tests}
+use Rattle.std.proofs.lemmas.List.Elements.{All-head, All-tail}
+use Rattle.std.proofs.lemmas.List.Folds.{find_at}
+use Rattle.std.proofs.lemmas.Option.{slice_get_past, slice_get_read}
+use Rattle.sc_net.specs.declared.shelved.ShelvedReport.{ShelvedReport}
+use Rattle.sc_net.specs.Shelves.{is_under}
+use Rattle.sc_desk.specs.Shelves.{IsBefore}
+
+-- the first of a list is before each other one, and those stand as it asks for
+pub pairs_head : {A : Type 0} (P : A → A → Type 0) (x : A) (xs : List A)
+    → AllPairs P (x ∷ xs) → All (P x) xs
+pairs_head P x xs pairs k d l = pairs 0 (suc k) d (omega arith) (omega (arith, l))
+
+pub pairs_tail : {A : Type 0} (P : A → A → Type 0) (x : A) (xs : List A)
+    → AllPairs P (x ∷ xs) → AllPairs P xs
+pairs_tail P x xs pairs i j d lt l = pairs (suc i) (suc j) d (omega (arith, lt)) (omega (arith, l))
+
+module _ {A : Type 0} (P : A → A → Type 0) (p : A → Bool)
+    (clash : (x y : A) → P x y → p x ≡ true → p y ≡ false) where
+  -- behind one that passes none does
+  none_passes : (x : A) (xs : List A) → p x ≡ true → All (P x) xs
+      → filter (λ y. not (p y)) xs ≡ xs
+  none_passes x [] e all = refl
+  none_passes x (y ∷ ys) e all =
+      rw (clash x y (All-head (P x) y ys all) e)
+      (ap (λ zs. y ∷ zs) (none_passes x ys e (All-tail (P x) y ys all)))
+
+  -- so without it those are left that don't pass
+  removed_alone : (xs : List A) → AllPairs P xs → position_or_len p xs < length xs
+      → remove xs (position_or_len p xs) ≡ filter (λ y. not (p y)) xs
+  removed_alone [] pairs lt = absurd (omega (arith, lt))
+  removed_alone (x ∷ xs) pairs lt = by (p x) refl lt (removed_alone xs (pairs_tail P x xs pairs))
+    where
+      place : ℕ
+      place = position_or_len p xs
+
+      by : (b : Bool) → p x ≡ b → cond (not b) (1 + place) 0 < suc (length xs)
+          → (place < length xs → remove xs place ≡ filter (λ y. not (p y)) xs)
+          → remove (x ∷ xs) (cond (not (p x)) (1 + place) 0)
+          ≡ cond (not (p x)) (x ∷ filter (λ y. not (p y)) xs) (filter (λ y. not (p y)) xs)
+      by true e l rest = rw e (sym (none_passes x xs e (pairs_head P x xs pairs)))
+      by false e l rest =
+          let one : 1 + place ≡ suc place = omega arith in
+          rw (e, one) (ap (λ zs. x ∷ zs) (rest (omega (arith, l))))
+
+-- where none passes, all are left that don't
+none_removed : {A : Type 0} (p : A → Bool) (xs : List A) → find p xs ≡ None
+    → filter (λ y. not (p y)) xs ≡ xs
+none_removed p [] none = refl
+none_removed p (x ∷ xs) none = by (p x) refl none (λ h. none_removed p xs h)
+  where
+    by : (b : Bool) → p x ≡ b → cond b (Some x) (find p xs) ≡ None
+        → (find p xs ≡ None → filter (λ y. not (p y)) xs ≡ xs)
+        → cond (not (p x)) (x ∷ filter (λ y. not (p y)) xs) (filter (λ y. not (p y)) xs)
+        ≡ x ∷ xs
+    by true e h rest = absurd (cc)
+    by false e h rest = rw e (ap (λ ys. x ∷ ys) (rest h))
+
+module _ {R : Type 0} where
+  -- a later report has another key
+  clash : (key : ℕ) (q r : ShelvedReport R) → IsBefore q r → is_under key q ≡ true
+      → is_under key r ≡ false
+  clash key q r before e = grind (arith, nat_tests)
+
+  -- the report under a key stands there
+  pub record IsUnderAt (reports : List (ShelvedReport R)) (key place : ℕ) : Type 0 where
+    pub within : place < length reports
+    pub found : (r : ShelvedReport R) → r ≡ get_or reports place r
+        → Some r.report ≡ option_map (λ q. q.report) (find (is_under key) reports)
+    pub alone : remove reports place ≡ filter (λ r. not (is_under key r)) reports
+
+  -- the place at which it is found
+  pub place_found : (reports : List (ShelvedReport R)) (key place : ℕ)
+      → AllPairs IsBefore reports → Some place ≡ position (is_under key) reports
+      → IsUnderAt reports key place
+  place_found reports key place pairs is = by (nat_lt at (length reports)) refl is
+    where
+      at : ℕ
+      at = position_or_len (is_under key) reports
+
+      here : at < length reports → place ≡ at → IsUnderAt reports key place
+      here lt same =
+          rw same
+          (record {
+            within = lt;
+            found = λ r read.
+                ap (option_map (λ q. q.report))
+                (sym (find_at (is_under key) reports
+                ∙ slice_get_read reports (length reports) at r refl lt read));
+            alone = removed_alone IsBefore (is_under key) (clash key) reports pairs lt;
+          })
+
+      by : (b : Bool) → nat_lt at (length reports) ≡ b → Some place ≡ cond b (Some at) None
+          → IsUnderAt reports key place
+      by true lt e =
+          let same : place ≡ at = cc in
+          here (grind (arith, nat_tests, lt)) same
+      by false lt e = absurd (cc)
+
+  -- where none is found, there is none
+  pub none_found : (reports : List (ShelvedReport R)) (key : ℕ)
+      → None ≡ position (is_under key) reports → find (is_under key) reports ≡ None
+  none_found reports key is = by (nat_lt at (length reports)) refl is
+    where
+      at : ℕ
+      at = position_or_len (is_under key) reports
+
+      by : (b : Bool) → nat_lt at (length reports) ≡ b → None ≡ cond b (Some at) None
+          → find (is_under key) reports ≡ None
+      by true lt e = absurd (cc)
+      by false lt e =
+          let past : length reports ≤ at = grind (arith, nat_tests, lt) in
+          find_at (is_under key) reports ∙ slice_get_past reports at past
+
+  -- and it stays as it is without one
+  pub none_goes : (reports : List (ShelvedReport R)) (key : ℕ)
+      → None ≡ position (is_under key) reports
+      → reports ≡ filter (λ r. not (is_under key r)) reports
+  none_goes reports key is =
+      sym (none_removed (is_under key) reports (none_found reports key is))
