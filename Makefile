@@ -1,4 +1,4 @@
-# What to type on a machine that has the kit (`rt`).
+# What to type on a machine that has the kit (`rt`), and with it Python.
 
 EXAMPLE := examples/first_path
 PROGRAM := crates/spark_run/out/spark_run
@@ -6,7 +6,7 @@ PROGRAM := crates/spark_run/out/spark_run
 # How many crates are checked at a time. A check takes 1 to 4 GB of memory.
 JOBS ?= $(shell nproc 2>/dev/null || echo 2)
 
-.PHONY: try run test bench docs fmt
+.PHONY: try run test times bench docs fmt
 
 # Runs the example with no proof of anything.
 try:
@@ -18,8 +18,9 @@ try:
 run:
 	@echo "Proves every crate, $(JOBS) at a time and lowest first, then builds the program and runs"
 	@echo "$(EXAMPLE). From nothing it takes some 40 minutes on four processors; what was proved is"
-	@echo "kept, so a second run takes seconds. A line is printed for each crate as it is done."
-	rt all check --jobs $(JOBS)
+	@echo "kept, so a second run takes seconds. A line tells each crate that begins or ends, how many"
+	@echo "are left, and the minutes and seconds so far."
+	python3 tools/progress.py --jobs $(JOBS)
 	cd crates/spark_run && rt run -- run ../../tools/built.spark
 	cd $(EXAMPLE) && ../../$(PROGRAM) run job.spark
 
@@ -29,6 +30,10 @@ test:
 	@echo "as two compilers build it, the documents and the examples. It takes more than an hour on"
 	@echo "four processors, where this machine has passed nothing yet."
 	bash .ci/run
+
+# Proves and tries all anew, and tells what that took, crate by crate.
+times:
+	python3 tools/gate_times.py
 
 # Times the program beside a plain Rust program.
 bench:

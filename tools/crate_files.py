@@ -28,6 +28,27 @@ class Crates:
         self.names = [it.split()[0].rstrip(":") for it in lines if it.strip() and it[0] != "#"]
         self.text = functools.cache(self._text)
 
+    def dependencies(self) -> dict[str, list[str]]:
+        """The crates of the repository that each crate stands on directly."""
+        lines = [it for it in self.text("crates.txt").splitlines() if it.strip() and it[0] != "#"]
+        split = [it.partition(":") for it in lines]
+        own = {*self.names}
+        return {it[0].split()[0]: [dep for dep in it[2].split() if dep in own] for it in split}
+
+    def longest_chain(self, cost: dict[str, float]) -> list[str]:
+        """The chain of crates, each on the one before, whose costs have the highest sum."""
+        below, chains = self.dependencies(), dict[str, list[str]]()
+
+        def total(chain: list[str]) -> float:
+            return sum(cost.get(it, 0) for it in chain)
+
+        def chain_to(crate: str) -> list[str]:
+            if crate not in chains:
+                chains[crate] = max(map(chain_to, below[crate]), key=total, default=[]) + [crate]
+            return chains[crate]
+
+        return max(map(chain_to, below), key=total)
+
     def _text(self, path: str) -> str:
         file = self.root / path
         return file.read_text(encoding="utf-8") if file.is_file() else ""

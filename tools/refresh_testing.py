@@ -25,7 +25,7 @@ FUNCTION = re.compile(r"^\s*(?:pub(?:\([^)]*\))? )?(?:const )?fn (\w+)")
 IMPL = re.compile(r"^impl(?:<.*?>)? (?:\w+(?:<.*?>)? for )?(\w+)")
 CONSTANT = re.compile(r"^(?:pub(?:\([^)]*\))? )?const (\w+)")
 TEST = re.compile(r"#\[test\]\s*(?:#\[[^\]]*\]\s*)*fn (\w+)")
-EDITS = 6
+EDITS = 4
 WIDTH = 100
 ENSURES = re.compile(r"^\s*ensures (\w*) ?\{")
 

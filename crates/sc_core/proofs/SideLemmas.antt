@@ -15,7 +15,7 @@ use Rattle.sc_core.specs.CoreData.{CoreData, is_of, is_running_job, job_runs}
 use Rattle.sc_core.specs.HandOuts.{HandOutData}
 use Rattle.sc_core.specs.Laws.{left_to_do, is_untold}
 use Rattle.sc_core.specs.Posts.{fits, is_save}
-use Rattle.sc_core.specs.Sides.{IsAside, IsFurther, Sides, StepsAside}
+use Rattle.sc_core.specs.Sides.{IsAside, IsFurther, Sides, StepsAside, first_with}
 use Rattle.sc_core.specs.Sound.{AreLostAsPlanned, AreOnExecutors, AreTwo, AwaitsTelling, GoesOn, IsShelvedWell, IsSoundCore, IsSoundJob, IsSoundShelf, RunsWell, WasHandedOut, is_shelved}
 use Rattle.sc_core.specs.declared.answers.Answer.{Answer}
 use Rattle.sc_core.specs.declared.answers.SideAnswer.{SideAnswer}
@@ -33,10 +33,10 @@ use Rattle.sc_core.proofs.ShelfLemmas.{find_mapped, fits_still}
 itself : (r : Running) → IsFurther r r
 itself r = record { hand_out = refl; exec = refl; is_out = refl; phase = λ h. refl }
 
-same_aside : (c after : CoreData) → after ≡ c → IsAside c after
-same_aside c after is =
-    subst (IsAside c) (sym is)
-    (record {
+-- a core where another executor left first
+led_aside : (c : CoreData) (first : Option ℕ) → IsAside c (record c { left_first = first })
+led_aside c first =
+    record {
       told = refl;
       handed = refl;
       job = refl;
@@ -48,26 +48,14 @@ same_aside c after is =
       saves = refl;
       dag = refl;
       plan = refl;
-    })
+    }
 
 sides_aside : (c after : CoreData) (event : SideEvent) (said : SideAnswer)
     → Sides c event said after → IsAside c after
-sides_aside c after (Leave exec) Ignored (runs, is) = same_aside c after is
+sides_aside c after (Leave exec) Ignored (runs, is) =
+    subst (IsAside c) (sym is) (led_aside c c.left_first)
 sides_aside c after (Leave exec) Left (runs, is) =
-    subst (IsAside c) (sym is)
-    (record {
-      told = refl;
-      handed = refl;
-      job = refl;
-      further = λ r. r;
-      each = itself;
-      running = sym (map-id c.running);
-      shelf = refl;
-      next_key = refl;
-      saves = refl;
-      dag = refl;
-      plan = refl;
-    })
+    subst (IsAside c) (sym is) (led_aside c (first_with c.left_first exec))
 
 pub steps_aside : (c after : CoreData) (event : SideEvent) (answer : Answer)
     → StepsAside c event answer after → IsAside c after

@@ -75,7 +75,7 @@ impl Core {
             Event::Post { attempt, outcome } => self.state.post(attempt, outcome),
             Event::Release { key } => self.state.release_key(key),
             Event::TellLost { exec } => self.state.tell_lost(exec),
-            Event::Side(event) => Ok(self.state.step_aside(event)),
+            Event::Side(side) => Ok(self.state.step_aside(side)),
         }
     }
 

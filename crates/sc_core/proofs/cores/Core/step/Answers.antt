@@ -25,7 +25,7 @@ invariant_of-self-in-Release c =
 
 pub invariant_of-self-in-Side : goal.invariant_of-self-in-Side
 invariant_of-self-in-Side c =
-    steps_keep_sound c.self.inside.state.0 c.step_aside.new.self.0 (Side c.in-Side.field-0)
+    steps_keep_sound c.self.inside.state.0 c.step_aside.new.self.0 (Side c.in-Side.side)
     c.step_aside.result.answer c.self.invariant c.step_aside.ensures.steps
 
 pub invariant_of-self-in-TellLost : goal.invariant_of-self-in-TellLost
