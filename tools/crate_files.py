@@ -1,4 +1,4 @@
-"""What the tools know of the crates' files: what a file cites, and how a type is declared."""
+"""What the tools know of the crates: which stand on which, and how a type is declared."""
 import dataclasses
 import functools
 import pathlib
