@@ -1,6 +1,6 @@
 #!/usr/bin/env bash
 # Runs each example and compares what it does with what its folder says, and then the examples of
-# the guide.
+# the guide and the cases of cases/.
 #
 #   tools/check_examples.sh
 #
@@ -88,7 +88,8 @@ done
 
 if command -v python3 >/dev/null 2>&1; then
   python3 "$top/tools/check_guide.py" || result=1
+  python3 "$top/tools/check_cases.py" || result=1
 else
-  echo "skipped: tools/check_guide.py (no python3)"
+  echo "skipped: tools/check_guide.py and tools/check_cases.py (no python3)"
 fi
 exit $result

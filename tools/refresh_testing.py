@@ -1,11 +1,12 @@
 #!/usr/bin/env python3
-"""Brings the lists of docs/TESTING.md up to date with the crates: tests, and edits that must fail.
+"""Brings the lists of docs/TESTING.md up to date: cases, tests, and edits that must fail.
 
     tools/refresh_testing.py [--check]
 
-The tests of sc_rows are listed by module, each with what the module says that it is about. An edit
-is a file crates/NAME/must-fail/DEED.edit. Its row names the function whose body it changes and the
-clauses of that function, which the changed body can't keep.
+The claims of cases/*.txt are listed by file and the tests of sc_rows by module, each with what the
+file or the module says that it is about. An edit is a file crates/NAME/must-fail/DEED.edit, or
+edits/NAME/DEED.edit where it is tried by hand. Its row names the function whose body it changes and
+the clauses of that function, which the changed body can't keep.
 
 Prints a line for an edit whose old text doesn't stand in its file exactly once, and for a crate
 with more than EDITS of them, and ends with 1 where it printed one. With --check it writes nothing,
@@ -25,6 +26,7 @@ FUNCTION = re.compile(r"^\s*(?:pub(?:\([^)]*\))? )?(?:const )?fn (\w+)")
 IMPL = re.compile(r"^impl(?:<.*?>)? (?:\w+(?:<.*?>)? for )?(\w+)")
 CONSTANT = re.compile(r"^(?:pub(?:\([^)]*\))? )?const (\w+)")
 TEST = re.compile(r"#\[test\]\s*(?:#\[[^\]]*\]\s*)*fn (\w+)")
+CLAIM = re.compile(r"^== (\w+)$", re.MULTILINE)
 EDITS = 4
 WIDTH = 100
 ENSURES = re.compile(r"^\s*ensures (\w*) ?\{")
@@ -66,8 +68,10 @@ def clauses(lines: list[str], start: int) -> str:
 
 
 def rows(crates: Crates, crate: str, faults: list[str]) -> Iterator[str]:
-    """The rows of a crate's edits."""
-    for path in crates.files(f"{crate}/must-fail/*.edit"):
+    """The rows of a crate's edits: those of the gate, and behind them those tried by hand."""
+    by_hand = sorted((crates.root / "edits" / crate).glob("*.edit"))
+    placed = [it.relative_to(crates.root).as_posix() for it in by_hand]
+    for path in [*crates.files(f"{crate}/must-fail/*.edit"), *placed]:
         file, old = first_change(crates.text(path))
         text = crates.text(f"crates/{crate}/{file}")
         if not old or text.count(old) != 1:
@@ -75,7 +79,8 @@ def rows(crates: Crates, crate: str, faults: list[str]) -> Iterator[str]:
             continue
         lines = text.splitlines()
         name, start = owner(lines, text[: text.index(old)].count("\n"))
-        yield f"| `{pathlib.Path(path).stem}` | `{name}` | {clauses(lines, start)} |"
+        tried = "by hand" if path.startswith("edits/") else "the gate"
+        yield f"| `{pathlib.Path(path).stem}` | `{name}` | {clauses(lines, start)} | {tried} |"
 
 
 def edit_tables(crates: Crates, faults: list[str]) -> list[str]:
@@ -83,23 +88,40 @@ def edit_tables(crates: Crates, faults: list[str]) -> list[str]:
     lines: list[str] = []
     for crate in crates.names:
         found = list(rows(crates, crate, faults))
-        if len(found) > EDITS:
+        if sum("| the gate |" in row for row in found) > EDITS:
             faults.append(f"crates/{crate}/must-fail: has {len(found)} edits, and {EDITS} serve")
         if found:
             lines += [""] * bool(lines)
-            heading = ["| edit | changes | refused at |", "|---|---|---|"]
+            heading = ["| edit | changes | refused at | tried by |", "|---|---|---|---|"]
             lines += [f"### `{crate}`", "", *heading, *found]
     return lines
 
 
-def subject(text: str) -> str:
-    """What the first comment of a module says."""
+def subject(text: str, mark: str) -> str:
+    """What the first comment of a file says, whose lines begin with a mark."""
     lines = []
     for line in text.splitlines():
-        if not line.startswith("//!") or line.strip() == "//!":
+        if not line.startswith(mark) or line.strip() == mark:
             break
-        lines.append(line.removeprefix("//!").strip())
+        lines.append(line.removeprefix(mark).strip())
     return " ".join(lines)
+
+
+def entry(name: str, about: str, claims: list[str]) -> list[str]:
+    """The lines of a list that tell of a file what it is about and what it claims."""
+    told = ", ".join(f"`{it}`" for it in dict.fromkeys(claims))
+    lines = textwrap.wrap(f"- `{name}`: {about}", WIDTH, subsequent_indent="  ")
+    return lines + textwrap.wrap(told, WIDTH, initial_indent="  ", subsequent_indent="  ")
+
+
+def case_lists(crates: Crates) -> list[str]:
+    """The claims of the cases, file by file."""
+    lines: list[str] = []
+    for path in sorted((crates.root / "cases").glob("*.txt")):
+        text = path.read_text(encoding="utf-8")
+        about = subject(text, "#").removeprefix(f"cases/{path.name}: ")
+        lines += entry(path.name, about, CLAIM.findall(text))
+    return lines
 
 
 def test_lists(crates: Crates) -> list[str]:
@@ -109,15 +131,13 @@ def test_lists(crates: Crates) -> list[str]:
         text = crates.text(path)
         names = TEST.findall(text)
         if names:
-            words = f"`{pathlib.Path(path).stem}`: {subject(text)}"
-            lines += textwrap.wrap(words, WIDTH, initial_indent="- ", subsequent_indent="  ")
-            claims = ", ".join(f"`{it}`" for it in names)
-            lines += textwrap.wrap(claims, WIDTH, initial_indent="  ", subsequent_indent="  ")
+            lines += entry(pathlib.Path(path).stem, subject(text, "//!"), names)
     return lines
 
 
 def refreshed(crates: Crates, page: str, faults: list[str]) -> str:
     """The page as it should be."""
+    page = between(page, "cases", case_lists(crates))
     page = between(page, "tests", test_lists(crates))
     return between(page, "edits", edit_tables(crates, faults))
 

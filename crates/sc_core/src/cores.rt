@@ -63,12 +63,12 @@ impl Core {
 
     /// One event. Where memory is wanting, or the event isn't enabled, nothing changes.
     pub fn step(&mut self, event: &Event) -> Result<Stepped, OrMemory<NotEnabled>>
-        ensures ok { IfOk result (λ s. Steps self.old event.now s.answer self.new) }
+        ensures answered { IfOk result (λ s. Steps self.old event.now s.answer self.new) }
         ensures thrice { IfOk result (λ s. IsThrice s s.answer) }
         ensures not_enabled { (fault : NotEnabled) → result ≡ Err (OrMemory.Fault fault)
             → is_enabled self.old event.now ≡ false }
         ensures enabled { IfOk result (λ s. is_enabled self.old event.now ≡ true) }
-        ensures err { OnErr result (self.new ≡ self.old) }
+        ensures unchanged { OnErr result (self.new ≡ self.old) }
     {
         match *event {
             Event::Take { exec } => Ok(self.state.take(exec)?),

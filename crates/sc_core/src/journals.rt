@@ -83,7 +83,7 @@ impl Journal {
         ensures opening { self.new.opening ≡ self.old.opening }
         ensures not_enabled { (fault : NotEnabled) → result ≡ Err (OrMemory.Fault fault)
             → is_enabled self.old.core event ≡ false }
-        ensures err { OnErr result (self.new ≡ self.old) }
+        ensures unchanged { OnErr result (self.new ≡ self.old) }
     {
         match self.enter_logged(by, event) {
             Ok(entered) => Ok(entered.answer),
@@ -100,7 +100,7 @@ impl Journal {
         ensures opening { self.new.opening ≡ self.old.opening }
         ensures not_enabled { (fault : NotEnabled) → result ≡ Err (OrMemory.Fault fault)
             → is_enabled self.old.core event ≡ false }
-        ensures err { OnErr result (self.new ≡ self.old) }
+        ensures unchanged { OnErr result (self.new ≡ self.old) }
     {
         self.entries.reserve(1)?;
         let Stepped { answer, twin, log } = self.core.step(&event)?;

@@ -19,11 +19,11 @@ use sc_ids::{AttemptId, ExecId};
 impl State {
     /// An executor is told lost. It takes no memory.
     pub fn tell_lost(&mut self, exec: ExecId) -> Result<Stepped, OrMemory<NotEnabled>>
-        ensures ok { IfOk result (λ s. Loses self.old.0 exec s.answer self.new.0) }
+        ensures answered { IfOk result (λ s. Loses self.old.0 exec s.answer self.new.0) }
         ensures thrice { IfOk result (λ s. IsThrice s s.answer) }
         ensures not_enabled { (fault : NotEnabled) → result ≡ Err (OrMemory.Fault fault)
             → may_be_lost self.old.0 exec ≡ false }
-        ensures err { OnErr result (self.new.0 ≡ self.old.0) }
+        ensures unchanged { OnErr result (self.new.0 ≡ self.old.0) }
     {
         if !self.may_be_lost(exec) {
             return Err(OrMemory::Fault(NotEnabled));

@@ -31,11 +31,11 @@ impl State {
         outcome: Outcome,
     ) -> Result<Stepped, OrMemory<NotEnabled>>
         requires { AllPairs AreTwo self.old.0.running }
-        ensures ok { IfOk result (λ s. Posts self.old.0 attempt outcome s.answer self.new.0) }
+        ensures answered { IfOk result (λ s. Posts self.old.0 attempt outcome s.answer self.new.0) }
         ensures thrice { IfOk result (λ s. IsThrice s s.answer) }
         ensures not_enabled { (fault : NotEnabled) → result ≡ Err (OrMemory.Fault fault)
             → is_misfit self.old.0 attempt outcome ≡ true }
-        ensures err { OnErr result (self.new.0 ≡ self.old.0) }
+        ensures unchanged { OnErr result (self.new.0 ≡ self.old.0) }
     {
         if !self.runs() {
             return Ok(Stepped::plain(Answer::Ignored));
@@ -57,12 +57,12 @@ impl State {
         outcome: Outcome,
     ) -> Result<Stepped, OrMemory<NotEnabled>>
         requires { IsRunningAt self.old.0.running attempt place }
-        ensures ok { IfOk result (λ s. PostsOf (running_of self.old.0 attempt) self.old.0 attempt
+        ensures answered { IfOk result (λ s. PostsOf (running_of self.old.0 attempt) self.old.0 attempt
             outcome s.answer self.new.0) }
         ensures thrice { IfOk result (λ s. IsThrice s s.answer) }
         ensures not_enabled { (fault : NotEnabled) → result ≡ Err (OrMemory.Fault fault)
             → misfits self.old.0 (running_of self.old.0 attempt) outcome ≡ true }
-        ensures err { OnErr result (self.new.0 ≡ self.old.0) }
+        ensures unchanged { OnErr result (self.new.0 ≡ self.old.0) }
     {
         if !self.fits(&self.running[place], outcome) {
             return Err(OrMemory::Fault(NotEnabled));
@@ -84,10 +84,10 @@ impl State {
         outcome: Outcome,
     ) -> Result<Answer, AllocError>
         requires { IsRunningAt self.old.0.running attempt place }
-        ensures ok { IfOk result
+        ensures answered { IfOk result
             (λ answer. PostsBy None self.old.0 attempt outcome answer self.new.0) }
         ensures plain { IfOk result (λ answer. has_task answer ≡ false) }
-        ensures err { OnErr result (self.new.0 ≡ self.old.0) }
+        ensures unchanged { OnErr result (self.new.0 ≡ self.old.0) }
     {
         self.make_room(outcome)?;
         self.shelve_copy(attempt, outcome)?;

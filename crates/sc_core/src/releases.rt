@@ -22,11 +22,11 @@ impl State {
     /// A report that was to be told later is told.
     pub fn release_key(&mut self, key: u32) -> Result<Stepped, OrMemory<NotEnabled>>
         requires { AllPairs AreTwo self.old.0.running }
-        ensures ok { IfOk result (λ s. Releases self.old.0 key s.answer self.new.0) }
+        ensures answered { IfOk result (λ s. Releases self.old.0 key s.answer self.new.0) }
         ensures thrice { IfOk result (λ s. IsThrice s s.answer) }
         ensures not_enabled { (fault : NotEnabled) → result ≡ Err (OrMemory.Fault fault)
             → has_no_shelved self.old.0 key ≡ true }
-        ensures err { OnErr result (self.new.0 ≡ self.old.0) }
+        ensures unchanged { OnErr result (self.new.0 ≡ self.old.0) }
     {
         if !self.runs() {
             return Ok(Stepped::plain(Answer::Ignored));
@@ -41,10 +41,10 @@ impl State {
     fn release_report(&mut self, key: u32, report: Shelved) -> Result<Answer, AllocError>
         requires apart { AllPairs AreTwo self.old.0.running }
         requires kept { shelved_of self.old.0 key ≡ Some report }
-        ensures ok { IfOk result (λ answer. ReleasesOf (shelved_of self.old.0 key)
+        ensures answered { IfOk result (λ answer. ReleasesOf (shelved_of self.old.0 key)
             self.old.0 key answer self.new.0) }
         ensures plain { IfOk result (λ answer. has_task answer ≡ false) }
-        ensures err { OnErr result (self.new.0 ≡ self.old.0) }
+        ensures unchanged { OnErr result (self.new.0 ≡ self.old.0) }
     {
         self.make_room(report.outcome)?;
         self.unshelve(key);

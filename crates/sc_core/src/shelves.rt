@@ -21,9 +21,9 @@ impl State {
         outcome: Outcome,
         delay: u64,
     ) -> Result<(), AllocError>
-        ensures ok { OnOk result (self.new.0 ≡ shelved_if (comes_twice self.old.0 attempt)
+        ensures answered { OnOk result (self.new.0 ≡ shelved_if (comes_twice self.old.0 attempt)
             (shelved self.old.0 attempt outcome delay) attempt outcome delay) }
-        ensures err { OnErr result (self.new.0 ≡ self.old.0) }
+        ensures unchanged { OnErr result (self.new.0 ≡ self.old.0) }
     {
         if self.plan.twice(&attempt) {
             self.shelve_twice(attempt, outcome, delay)
@@ -34,9 +34,9 @@ impl State {
 
     /// A second copy of a report that is told now is to be told later, where one comes.
     pub fn shelve_copy(&mut self, attempt: AttemptId, outcome: Outcome) -> Result<(), AllocError>
-        ensures ok { OnOk result (self.new.0 ≡ shelved_if (comes_twice self.old.0 attempt)
+        ensures answered { OnOk result (self.new.0 ≡ shelved_if (comes_twice self.old.0 attempt)
             self.old.0 attempt outcome 0) }
-        ensures err { OnErr result (self.new.0 ≡ self.old.0) }
+        ensures unchanged { OnErr result (self.new.0 ≡ self.old.0) }
         ensures ready { self.new.1 ≡ self.old.1 }
     {
         if self.plan.twice(&attempt) {
@@ -48,8 +48,8 @@ impl State {
 
     /// A report is to be told later.
     fn shelve(&mut self, attempt: AttemptId, outcome: Outcome, delay: u64) -> Result<(), AllocError>
-        ensures ok { OnOk result (self.new.0 ≡ shelved self.old.0 attempt outcome delay) }
-        ensures err { OnErr result (self.new.0 ≡ self.old.0) }
+        ensures answered { OnOk result (self.new.0 ≡ shelved self.old.0 attempt outcome delay) }
+        ensures unchanged { OnErr result (self.new.0 ≡ self.old.0) }
         ensures ready { self.new.1 ≡ self.old.1 }
     {
         if self.next_key == u32::MAX {
@@ -70,9 +70,9 @@ impl State {
         outcome: Outcome,
         delay: u64,
     ) -> Result<(), AllocError>
-        ensures ok { OnOk result (self.new.0 ≡ shelved
+        ensures answered { OnOk result (self.new.0 ≡ shelved
             (shelved self.old.0 attempt outcome delay) attempt outcome delay) }
-        ensures err { OnErr result (self.new.0 ≡ self.old.0) }
+        ensures unchanged { OnErr result (self.new.0 ≡ self.old.0) }
     {
         if self.next_key >= u32::MAX - 1 {
             return Err(AllocError);

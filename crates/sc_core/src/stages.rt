@@ -107,8 +107,8 @@ impl Stages {
     pub fn give(&mut self, attempt: AttemptId, exec: ExecId, now: u64) -> Result<(), AllocError>
         requires { may_be_given_in (newest_at self.old.0 attempt.stage) exec attempt.partition
             ≡ true }
-        ensures ok { OnOk result (self.new.0 ≡ handed_out self.old.0 attempt exec now) }
-        ensures err { OnErr result (self.new.0 ≡ self.old.0) }
+        ensures answered { OnOk result (self.new.0 ≡ handed_out self.old.0 attempt exec now) }
+        ensures unchanged { OnErr result (self.new.0 ≡ self.old.0) }
     {
         self.dag.give(attempt, exec, now)
     }

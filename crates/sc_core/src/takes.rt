@@ -17,9 +17,9 @@ impl State {
     /// An executor asks for a task.
     pub fn take(&mut self, exec: ExecId) -> Result<Stepped, AllocError>
         requires { WaitsWell self.old.0 exec }
-        ensures ok { IfOk result (λ s. Takes self.old.0 exec s.answer self.new.0) }
+        ensures answered { IfOk result (λ s. Takes self.old.0 exec s.answer self.new.0) }
         ensures thrice { IfOk result (λ s. IsThrice s s.answer) }
-        ensures err { OnErr result (self.new.0 ≡ self.old.0) }
+        ensures unchanged { OnErr result (self.new.0 ≡ self.old.0) }
     {
         match self.refusal(exec) {
             Some(answer) => Ok(Stepped::plain(answer)),
@@ -54,9 +54,9 @@ impl State {
     fn next_task(&mut self, exec: ExecId) -> Result<Stepped, AllocError>
         requires asking { IsAsking self.old.0 exec }
         requires waits { WaitsWell self.old.0 exec }
-        ensures ok { IfOk result (λ s. Takes self.old.0 exec s.answer self.new.0) }
+        ensures answered { IfOk result (λ s. Takes self.old.0 exec s.answer self.new.0) }
         ensures thrice { IfOk result (λ s. IsThrice s s.answer) }
-        ensures err { OnErr result (self.new.0 ≡ self.old.0) }
+        ensures unchanged { OnErr result (self.new.0 ≡ self.old.0) }
     {
         match self.stages.dag().next_task(exec, self.tick) {
             Some(attempt) => {
@@ -79,9 +79,9 @@ impl State {
         requires offer { IsOffer self.old.0.dag exec attempt }
         requires budget { self.old.0.handed < self.old.0.dag.limits.hand_outs }
         requires fits { self.old.0.handed + 1 < 2 ^ 32 }
-        ensures ok { IfOk result (λ s. Takes self.old.0 exec s.answer self.new.0) }
+        ensures answered { IfOk result (λ s. Takes self.old.0 exec s.answer self.new.0) }
         ensures thrice { IfOk result (λ s. IsThrice s s.answer) }
-        ensures err { OnErr result (self.new.0 ≡ self.old.0) }
+        ensures unchanged { OnErr result (self.new.0 ≡ self.old.0) }
     {
         let inputs = self.stages.inputs(attempt.stage)?;
         let hand_out = HandOut::new(attempt, self.stages.dag().tracker().epoch(), inputs);

@@ -1,23 +1,14 @@
--- Where a report stands on a shelf.
-use Rattle.std.proofs.Common.{◌≡◌, ◌∙◌, ℕ, ◌+◌, ◌<◌, ◌≤◌, suc, Bool, true, false, not, cond, List, [], ◌∷◌, length, remove, Some, None, get_or, nat_lt, refl, ap, sym, arith}
+-- Where a report stands among those that are to be told later.
+use Rattle.std.proofs.Common.{◌≡◌, ◌∙◌, ℕ, ◌+◌, ◌<◌, ◌≤◌, suc, Bool, true, false, not, cond, List, [], ◌∷◌, length, remove, Some, None, get_or, nat_lt, refl, ap, sym, subst, arith}
 use Rattle.std.specs.List.{All, AllPairs, filter, find, position, position_or_len}
 use Rattle.std.specs.Option.{option_map}
 use Rattle.std.proofs.lemmas.Bool.Decides.{nat_tests}
-use Rattle.std.proofs.lemmas.List.Elements.{All-head, All-tail}
+use Rattle.std.proofs.lemmas.List.Elements.{All-filter, All-head, All-tail}
 use Rattle.std.proofs.lemmas.List.Folds.{find_at}
 use Rattle.std.proofs.lemmas.Option.{slice_get_past, slice_get_read}
 use Rattle.sc_net.specs.declared.shelved.ShelvedReport.{ShelvedReport}
-use Rattle.sc_net.specs.Shelves.{is_under}
-use Rattle.sc_desk.specs.Shelves.{IsBefore}
-
--- the first of a list is before each other one, and those stand as it asks for
-pub pairs_head : {A : Type 0} (P : A → A → Type 0) (x : A) (xs : List A)
-    → AllPairs P (x ∷ xs) → All (P x) xs
-pairs_head P x xs pairs k d l = pairs 0 (suc k) d (omega arith) (omega (arith, l))
-
-pub pairs_tail : {A : Type 0} (P : A → A → Type 0) (x : A) (xs : List A)
-    → AllPairs P (x ∷ xs) → AllPairs P xs
-pairs_tail P x xs pairs i j d lt l = pairs (suc i) (suc j) d (omega (arith, lt)) (omega (arith, l))
+use Rattle.sc_net.specs.Shelves.{IsBefore, is_under}
+use Rattle.sc_taskset.proofs.FindLemmas.{pairs_head, pairs_tail}
 
 module _ {A : Type 0} (P : A → A → Type 0) (p : A → Bool)
     (clash : (x y : A) → P x y → p x ≡ true → p y ≡ false) where
@@ -116,9 +107,8 @@ module _ {R : Type 0} where
           let past : length reports ≤ at = grind (arith, nat_tests, lt) in
           find_at (is_under key) reports ∙ slice_get_past reports at past
 
-  -- and it stays as it is without one
+  -- and all stay as they are without one
   pub none_goes : (reports : List (ShelvedReport R)) (key : ℕ)
       → None ≡ position (is_under key) reports
       → reports ≡ filter (λ r. not (is_under key r)) reports
-  none_goes reports key is =
-      sym (none_removed (is_under key) reports (none_found reports key is))
+  none_goes reports key is = sym (none_removed (is_under key) reports (none_found reports key is))

@@ -7,6 +7,7 @@ use Rattle.sc_commit.specs.declared.committers.Ending.TheVariants as endings
 use Rattle.sc_tracker.specs.Trust.{are_lost}
 use Rattle.sc_dag.specs.Losses.{after_lost}
 use Rattle.sc_dag.proofs.Tests.{both_left, clash}
+use Rattle.sc_dag.specs.DagData.{DagData}
 use Rattle.sc_core.specs.CoreData.{CoreData, has_key, is_running_job, job_runs, running_of, shelved, shelved_if, shelved_of, taken_off, to_be_told, with_dag, without_shelved}
 use Rattle.sc_core.specs.Losses.{Loses, LosesOrAborts, all_released, attempts_on, without_executor}
 use Rattle.sc_core.specs.Posts.{Posts, PostsBy, PostsIf, PostsOf, comes_twice, delay_for}
@@ -138,7 +139,7 @@ aside_pass bound c after is =
           record {
             plan = is.plan;
             told = rw is.told (omega arith);
-            sees = sees_same bound c.dag after.dag is.dag;
+            sees = sees_same bound c.dag after.dag (ap (λ (d : DagData). d.tracker.trust) is.dag);
             ends = λ h over. is.shelf ∙ h (ap is_running_job (sym is.job) ∙ over);
           };
       shelf = λ r. is.shelf;

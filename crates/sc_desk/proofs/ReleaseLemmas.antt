@@ -14,14 +14,14 @@ use Rattle.sc_core.specs.declared.answers.Answer.TheVariants as says
 use Rattle.sc_core.specs.declared.events.Event.TheVariants.{Release, Take, TellLost}
 use Rattle.sc_core.specs.declared.running.Shelved.{Shelved}
 use Rattle.sc_net.specs.Reports.{ReportData, outcome_of}
-use Rattle.sc_net.specs.Shelves.{is_under}
+use Rattle.sc_net.specs.Shelves.{IsBefore, is_under}
 use Rattle.sc_net.specs.Tasks.{IsTaskOf}
 use Rattle.sc_net.specs.declared.shelved.ShelvedReport.{ShelvedReport}
 use Rattle.sc_desk.specs.DeskData.{DeskData, core_of}
 use Rattle.sc_desk.specs.Dues.{IsInTime}
 use Rattle.sc_desk.specs.Entries.{Enters}
 use Rattle.sc_desk.specs.Posts.{attempt_of}
-use Rattle.sc_desk.specs.Shelves.{IsBefore, IsShelvedOf, as_shelved, report_under, shelf_in, without_key}
+use Rattle.sc_desk.specs.Shelves.{IsShelvedOf, as_shelved, report_under, shelf_in, without_key}
 use Rattle.sc_desk.specs.Sound.{EndedFor, IsSoundDesk}
 use Rattle.sc_desk.specs.Tellings.{results_with}
 use Rattle.sc_desk.proofs.KeepLemmas.{Entered, KeepsShelf, bound_of, leaves_keep}

@@ -8,12 +8,12 @@ use Rattle.sc_dag.proofs.Tests.{clash}
 use Rattle.sc_core.specs.CoreData.{CoreData, has_key, job_runs}
 use Rattle.sc_core.specs.declared.running.Shelved.{Shelved}
 use Rattle.sc_net.specs.Reports.{ReportData, outcome_of}
-use Rattle.sc_net.specs.Shelves.{is_under}
+use Rattle.sc_net.specs.Shelves.{IsBefore, is_under}
 use Rattle.sc_net.specs.declared.shelved.ShelvedReport.{ShelvedReport}
 use Rattle.sc_desk.specs.DeskData.{DeskData, core_of}
 use Rattle.sc_desk.specs.Dues.{IsInTime}
 use Rattle.sc_desk.specs.Posts.{attempt_of}
-use Rattle.sc_desk.specs.Shelves.{IsBefore, IsShelvedOf, as_shelved, shelf_if, shelf_in, with_key_of, with_more, without_key}
+use Rattle.sc_desk.specs.Shelves.{IsShelvedOf, as_shelved, shelf_if, shelf_in, with_key_of, with_more, without_key}
 use Rattle.sc_desk.specs.Sound.{IsSoundDesk}
 use Rattle.sc_desk.proofs.KeepLemmas.{KeepsShelf, in_time_later}
 use Rattle.sc_desk.proofs.PassLemmas.{EndsEmpty, IsPutOff}

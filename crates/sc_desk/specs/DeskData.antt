@@ -10,6 +10,7 @@ use Rattle.sc_core.specs.Journals.{JournalData}
 use Rattle.sc_core.specs.contracts.journals.Journal.{the_row as journal}
 use Rattle.sc_jobs.specs.JobData.{JobData, job_code}
 use Rattle.sc_net.specs.Reports.{ReportData, report_code}
+use Rattle.sc_net.specs.Shelves.{shelved}
 use Rattle.sc_net.specs.declared.shelved.ShelvedReport.{ShelvedReport}
 use Rattle.sc_desk.specs.Orders.{orders_code}
 use Rattle.sc_desk.specs.declared.orders.Ordered.{Ordered}
@@ -44,10 +45,6 @@ desk_data job carried journal results shelf ordered =
       shelf = shelf;
       ordered = ordered;
     }
-
--- a report under a key, which is due once so many reports were told
-abbrev pub shelved : ℕ → ℕ → ReportData → ShelvedReport ReportData
-shelved key due report = record { key = key; due = due; report = report }
 
 -- the code of a report on the shelf, by which proofs tell two of them apart
 abbrev pub shelved_code : Coded (ShelvedReport ReportData)

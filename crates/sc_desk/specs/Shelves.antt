@@ -1,5 +1,5 @@
 -- The reports on a desk's shelf.
-use Rattle.std.specs.Prelude.{ℕ, ◌<◌, ◌≡◌, ◌++◌, Bool, true, false, List, [], Option, Some, None, filter, not, drop, length, map}
+use Rattle.std.specs.Prelude.{ℕ, ◌≡◌, ◌++◌, Bool, true, false, List, [], Option, Some, None, filter, not, drop, length, map}
 use Rattle.std.specs.List.{find}
 use Rattle.std.specs.Option.{option_map}
 use Rattle.sc_lineage.specs.ScriptData.{WorkData}
@@ -7,10 +7,9 @@ use Rattle.sc_core.specs.CoreData.{CoreData, job_runs}
 use Rattle.sc_core.specs.declared.running.Shelved.{Shelved}
 use Rattle.sc_jobs.specs.JobData.{JobData}
 use Rattle.sc_net.specs.Reports.{IsTrueReport, ReportData, outcome_of}
-use Rattle.sc_net.specs.Shelves.{is_under}
+use Rattle.sc_net.specs.Shelves.{is_under, shelved}
 use Rattle.sc_net.specs.Tasks.{IsTaskOf}
 use Rattle.sc_net.specs.declared.shelved.ShelvedReport.{ShelvedReport}
-use Rattle.sc_desk.specs.DeskData.{shelved}
 
 -- a report on the shelf, as the core has it
 abbrev pub as_shelved : ShelvedReport ReportData → Shelved
@@ -25,10 +24,6 @@ as_shelved s =
 -- a report under the key of one that the core has
 abbrev pub with_key_of : ReportData → Shelved → ShelvedReport ReportData
 with_key_of report s = shelved s.key s.due report
-
--- one report was put before another
-abbrev pub IsBefore : {R : Type 0} → ShelvedReport R → ShelvedReport R → Type 0
-IsBefore a b = a.key < b.key
 
 -- a shelf with a report wherever the core has one more of it
 abbrev pub with_more : List (ShelvedReport ReportData) → ReportData → List Shelved

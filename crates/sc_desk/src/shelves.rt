@@ -4,8 +4,8 @@
 ghost use Rattle.std.specs.Prelude.{◌≡◌, ◌<◌, ◌≤◌, ◌+◌, ◌++◌, [], ◌∷◌, IfSome, is_some, length, true, vec_capacity, vec_len};
 ghost use Rattle.std.specs.List.{AllPairs, position};
 ghost use Rattle.sc_core.specs.CoreData.{job_runs};
-ghost use Rattle.sc_net.specs.Shelves.{is_under};
-ghost use Rattle.sc_desk.specs.Shelves.{IsBefore, count_of, report_under, shelf_in, with_key_of, with_more, without_key};
+ghost use Rattle.sc_net.specs.Shelves.{IsBefore, is_under};
+ghost use Rattle.sc_desk.specs.Shelves.{count_of, report_under, shelf_in, with_key_of, with_more, without_key};
 
 use sc_core::{Core, Shelved};
 use sc_net::{Report, ShelvedReport};

@@ -52,7 +52,7 @@ pub record ShowsStageLimit (limits : Limits) (opening : CoreData) (entries : Lis
   -- tells reports
   pub failures : List Telling
   pub among : All (Contains (tellings mid since end ends)) failures
-  -- of a missing input of the stage
+  -- of an input of the stage that was gone, or had no location
   pub are : All (λ t. is_miss_of stage t ≡ true) failures
   -- no two of one attempt of it
   pub apart : AllPairs (λ m n. m ≢ n) (map number_of failures)

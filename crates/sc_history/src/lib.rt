@@ -2,7 +2,9 @@
 //!
 //! A journal is read here as `Replays opening entries end` of `sc_core`: from its opening these
 //! entries may be what happened, and they leave its end. Each law stands under a function that
-//! does nothing, for a caller to cite.
+//! does nothing, for a caller to cite. The proofs of `sc_desk` cite what begins a job and what its
+//! results are, and those of `sc_context` what an abort shows. Below it lies `sc_core`, with the
+//! steps that entries record.
 #![tactic(auto)]
 
 mod laws;

@@ -1,7 +1,7 @@
 //! A run to be, and what was seen of it.
 #![tactic(auto)]
 
-use sc_app::{Ran, Status, fault_text, run};
+use sc_app::{Ran, fault_text, run};
 use sc_core::JobHistory;
 use sc_input::MemSource;
 use sc_sink::MemSink;
@@ -54,6 +54,16 @@ impl Row {
         let name = Name::new(self.alloc, name).expect(rt, "memory");
         let bytes = Octets::copy_of(self.alloc, bytes).expect(rt, "memory");
         self.source.add(name, bytes).expect(rt, "memory");
+        self
+    }
+
+    /// Adds files.
+    pub fn files<R: Abort>(mut self, rt: &R, files: &[(&str, &[u8])]) -> Row {
+        for (name, bytes) in files {
+            let name = Name::new(self.alloc, *name).expect(rt, "memory");
+            let bytes = Octets::copy_of(self.alloc, *bytes).expect(rt, "memory");
+            self.source.add(name, bytes).expect(rt, "memory");
+        }
         self
     }
 
@@ -128,11 +138,6 @@ impl Seen {
     /// How its jobs went, in order.
     pub fn histories(&self) -> &[JobHistory] {
         self.ran.history.as_slice()
-    }
-
-    /// Whether the run ended for a fault of its script.
-    pub fn is_refused(&self) -> bool {
-        matches!(&self.ran.status, Status::Script(_))
     }
 
     /// What was written, and on a last line what is told of how the run ended, if anything is.

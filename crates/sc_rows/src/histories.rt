@@ -1,99 +1,133 @@
-//! Runs under fault plans, and how often their histories show something.
+//! Runs under fault plans: how they end, and what their histories show.
 //!
-//! An entry of a history is looked at as the line that its journal writes. What is wanted is how
-//! many of the lines of each job have a text: `4 2` says four lines of the first job and two of the
-//! second one, so it says too how many jobs there were.
+//! A case of a table is a line `====` with what it claims, a script, a line `-- words` with more
+//! words, a fault plan, a line `-- end`, what the run prints with what it tells of its end, a line
+//! `-- history`, and what is seen of the history. A script that defines nothing acts on the word
+//! count `c`. The case holds for each of the plans between lines `or`, and with each of the words
+//! between `or`.
+//!
+//! An entry of a history is looked at as the line that its journal writes. What is wanted of it is
+//! how many lines of each job have a text: `4 2 | take: task` says four lines of the first job and
+//! two of the second, so it says too how many jobs there were. Or it is the whole history, with an
+//! empty line between two jobs.
 #![tactic(auto)]
 
-use crate::claims::assert_end;
-use crate::given::{Row, Seen};
-use sc_core::{JobState, JobHistory};
+use crate::works::{INPUT, halves, source_of, words_of};
+use sc_app::{Status, fault_text, run};
+use sc_core::JobHistory;
+use sc_sink::MemSink;
 use std::process::Abort;
+use std::str;
 
 /// A count of words in two partitions: stage 0 makes two map outputs, and stage 1 reads them for
 /// two results.
-pub const WORD_COUNT: &str = r#"
+const WORD_COUNT: &str = r#"
 l = text "in.txt" 2
 w = flatMap l (words x)
 p = map w (pair x 1)
 c = reduceByKey p 2 (+ a b)
-collect c
 "#;
 
-/// A word count, and the number of its words.
-pub const TWO_ACTIONS: &str = r#"
-l = text "in.txt" 2
-w = flatMap l (words x)
-p = map w (pair x 1)
-c = reduceByKey p 2 (+ a b)
-collect c
-count c
-"#;
+/// What was seen of a run: what it printed and told of its end, and its history.
+#[derive(Drop)]
+struct Seen {
+    end: String,
+    history: String,
+}
 
-/// What is seen of a word count that is done.
-pub const COUNTED: &str =
-    "status 0, asked [job.spark plan.txt in.txt], 3 read, 1 written\n(b,2)\n(a,1)\n";
+/// Sees that each case of a table holds.
+pub fn assert_runs<R: Abort + AllocGlobal>(rt: &R, table: &str) {
+    for case in table.split("==== ") {
+        if !case.is_empty() {
+            assert_case(rt, case);
+        }
+    }
+}
 
-/// What is seen of a run of a script over two lines, under a plan and with further words.
-pub fn run_planned<R: Abort + AllocGlobal>(
+/// Sees that a case holds.
+fn assert_case<R: Abort + AllocGlobal>(rt: &R, case: &str) {
+    let (label, rest) = halves(case, "\n");
+    let (given, want) = halves(rest, "-- end\n");
+    let (script, rest) = halves(given, "-- words");
+    let (words, plans) = halves(rest, "\n");
+    let count = if script.contains("=") { "" } else { WORD_COUNT };
+    let script = format!(in rt.alloc(); "{count}{script}").expect(rt, "memory");
+    for plan in plans.split("or\n") {
+        assert_plan(rt, script.as_str(), plan, words, want, label);
+    }
+}
+
+/// Sees that it holds under a plan.
+fn assert_plan<R: Abort + AllocGlobal>(
     rt: &R,
     script: &str,
     plan: &str,
-    words: &[&str],
-) -> Seen {
-    Row::planned(rt, script, plan.as_bytes())
-        .words(rt, words)
-        .file(rt, "in.txt", b"b a\nb\n")
-        .run(rt)
-}
-
-/// What is seen of a word count under a plan, which is to end so.
-pub fn counted<R: Abort + AllocGlobal>(rt: &R, plan: &str, words: &[&str], end: &str) -> Seen {
-    let seen = run_planned(rt, WORD_COUNT, plan, words);
-    assert_end(rt, &seen, end, plan);
-    seen
-}
-
-/// Sees that a word count under a plan is done with each of these words.
-pub fn assert_each_counted<R: Abort + AllocGlobal>(rt: &R, plan: &str, words: &[&str]) {
-    for word in words {
-        let _ = counted(rt, plan, &[*word], COUNTED);
+    words: &str,
+    want: &str,
+    label: &str,
+) {
+    let (end, history) = halves(want, "-- history\n");
+    for words in words.split(" or") {
+        let seen = seen_of(rt, script, plan, words);
+        assert_eq!(rt; seen.end.as_str(), end, "{label}: {words} {plan:?}");
+        assert_history(rt, seen.history.as_str(), history, label);
     }
 }
 
-/// Sees that for each of these texts so many lines of each job have it.
-pub fn assert_counts<R: Abort + AllocGlobal>(rt: &R, seen: &Seen, rows: &[(&str, &str)]) {
-    for (text, want) in rows {
-        let counts = counts_of(rt, seen.histories(), *text);
-        assert_eq!(rt; counts.as_str(), *want, "of {text:?}");
+/// What is seen of a run.
+fn seen_of<R: Abort + AllocGlobal>(rt: &R, script: &str, plan: &str, words: &str) -> Seen {
+    let mut source = source_of(rt, script, plan, INPUT);
+    let mut sink = MemSink::new(rt.alloc());
+    let words = words_of(rt, words);
+    let ran = run(rt, rt.alloc(), &words, &mut source, &mut sink);
+    Seen {
+        end: end_of(rt, sink.bytes(), &ran.status),
+        history: history_of(rt, ran.history.as_slice()),
     }
 }
 
-/// For each job how many of its lines have a text.
-fn counts_of<R: Abort + AllocGlobal>(rt: &R, histories: &[JobHistory], text: &str) -> String {
-    let mut counts = String::new(rt.alloc());
+/// What was printed, and on a last line what is told of the end, if anything is.
+fn end_of<R: Abort + AllocGlobal>(rt: &R, printed: &[u8], status: &Status) -> String {
+    let text = str::from_utf8(printed).unwrap_or("(no text)");
+    let told = fault_text(rt.alloc(), status).expect(rt, "memory");
+    let end = if told.is_empty() { "" } else { "\n" };
+    format!(in rt.alloc(); "{text}{told}{end}").expect(rt, "memory")
+}
+
+/// The entries of jobs, with an empty line between two jobs.
+fn history_of<R: Abort + AllocGlobal>(rt: &R, histories: &[JobHistory]) -> String {
+    let mut out = String::new(rt.alloc());
     for history in histories {
+        if !out.is_empty() {
+            out.push('\n').expect(rt, "memory");
+        }
+        for entry in &history.entries {
+            writeln!(out, "{entry}").expect(rt, "memory");
+        }
+    }
+    out
+}
+
+/// Sees that a history is as it is wanted.
+fn assert_history<R: Abort + AllocGlobal>(rt: &R, history: &str, want: &str, label: &str) {
+    if want.contains(" | ") {
+        for line in want.lines() {
+            let (count, text) = halves(line, " | ");
+            let counts = counts_of(rt, history, text);
+            assert_eq!(rt; counts.as_str(), count, "{label}: {text}");
+        }
+    } else {
+        assert_eq!(rt; history, want, "{label}");
+    }
+}
+
+/// For each job how many of its lines have a text, which no line has twice.
+fn counts_of<R: Abort + AllocGlobal>(rt: &R, history: &str, text: &str) -> String {
+    let mut counts = String::new(rt.alloc());
+    for job in history.split("\n\n") {
         let gap = if counts.is_empty() { "" } else { " " };
-        let count = count_of(rt, history, text);
+        let count = job.split(text).count().saturating_sub(1);
         write!(counts, "{gap}{count}").expect(rt, "memory");
     }
     counts
-}
-
-/// How many lines of a job have a text.
-fn count_of<R: Abort + AllocGlobal>(rt: &R, history: &JobHistory, text: &str) -> u32 {
-    let mut count = 0_u32;
-    for entry in &history.entries {
-        let line = format!(in rt.alloc(); "{entry}").expect(rt, "memory");
-        if line.as_str().contains(text) {
-            count = count.saturating_add(1);
-        }
-    }
-    count
-}
-
-/// How the last job of a run ended.
-pub fn last_job<R: Abort>(rt: &R, seen: &Seen) -> JobState {
-    let last = seen.histories().last().expect(rt, "a job");
-    last.end.job()
 }

@@ -1,14 +1,15 @@
-//! Jobs under fault plans: reports that come late or twice, and executors that are told lost.
+//! Jobs under fault plans: reports that come late or twice, executors that are told lost, and those
+//! that leave early.
 #![tactic(auto)]
 
-use crate::jobs::counting_under;
-use crate::transcripts::assert_transcript;
-use sc_core::{Abort, JobState};
-use sc_ids::Limits;
+use crate::transcripts::assert_jobs;
 
-/// The first map output is told once another report was, and its second copy changes nothing. Until
-/// then its executor may take another task.
-const LATE: &str = "\
+const FAULTS: &str =
+    r#"==== a late report is told when it is released, and its second copy changes nothing
+counts: task failures 4, stage attempts 4, hand-outs 99
+late 0 0 0 1
+twice 0 0 0
+----
 0 take: task 0.0.0.0, epoch 0
 0 post 0.0.0.0 map at 0@0: shelved
 told 0
@@ -22,33 +23,38 @@ told 0
 0 release 1: ignored
 told 3
 1 take: task 1.0.0.0, epoch 0, from 0@0 0@0
-";
-
-#[test]
-fn a_late_report_is_told_when_it_is_released(rt: HostRuntime) {
-    let plan = "late 0 0 0 1\ntwice 0 0 0\n";
-    let mut journal = counting_under(&rt, Limits::default(), plan);
-    assert_transcript(&rt, &mut journal, LATE);
-    assert_eq!(rt; journal.core().job(), JobState::Running);
-}
-
-/// A second copy of a report that is told at once.
-const TWICE: &str = "\
+==== a second copy of a report that is told at once is ignored
+counts: task failures 4, stage attempts 4, hand-outs 99
+twice 0 0 0
+----
 0 take: task 0.0.0.0, epoch 0
 0 post 0.0.0.0 map at 0@0: registered
 0 release 0: ignored
 told 2
-";
-
-#[test]
-fn a_second_copy_is_ignored(rt: HostRuntime) {
-    let mut journal = counting_under(&rt, Limits::default(), "twice 0 0 0\n");
-    assert_transcript(&rt, &mut journal, TWICE);
-}
-
-/// Executor 0 is told lost while its report is still to be told: its output is made again, and the
-/// report that comes later is of no running attempt.
-const LOST: &str = "\
+==== four reports come late at once, in whatever order they are released
+counts: task failures 4, stage attempts 4, hand-outs 99
+late 0 0 0 9
+twice 0 0 0
+late 0 1 0 9
+twice 0 1 0
+----
+0 take: task 0.0.0.0, epoch 0
+0 post 0.0.0.0 map at 0@0: shelved
+1 take: task 0.0.1.0, epoch 0
+1 post 0.0.1.0 map at 1@0: shelved
+told 0
+0 release 4: not enabled
+0 release 3: registered
+0 release 2: ignored
+0 release 0: registered
+0 release 1: ignored
+told 4
+0 take: task 1.0.0.0, epoch 0, from 0@0 1@0
+==== a lost executor's output is made again, and its late report is of no running attempt
+counts: task failures 4, stage attempts 4, hand-outs 99
+late 0 0 0 1
+lose 0 0 1
+----
 0 take: task 0.0.0.0, epoch 0
 0 post 0.0.0.0 map at 0@0: shelved
 0 take: task 0.0.1.0, epoch 0
@@ -65,18 +71,11 @@ told 2
 1 take: task 0.0.1.1, epoch 1
 1 post 0.0.1.1 map at 1@0: registered
 1 take: task 1.0.0.0, epoch 1, from 1@0 1@0
-";
-
-#[test]
-fn a_lost_executor_is_survived(rt: HostRuntime) {
-    let plan = "late 0 0 0 1\nlose 0 0 1\n";
-    let mut journal = counting_under(&rt, Limits::default(), plan);
-    assert_transcript(&rt, &mut journal, LOST);
-    assert_eq!(rt; journal.core().job(), JobState::Running);
-}
-
-/// Both executors are told lost.
-const ALL_LOST: &str = "\
+==== a job ends with its last executor
+counts: task failures 4, stage attempts 4, hand-outs 99
+lose 0 0 0
+lose 1 0 0
+----
 0 take: task 0.0.0.0, epoch 0
 0 lost 1: told
 0 lost 0: aborted: no executor
@@ -85,12 +84,30 @@ const ALL_LOST: &str = "\
 0 post 0.0.0.0 map at 0@0: ignored
 0 release 0: ignored
 told 0
-";
+==== who asks behind a leave is stopped by the first that left
+results: task failures 4, stage attempts 4, hand-outs 99
+----
+0 take: task 0.0.0.0, epoch 0
+1 leave 1: left
+0 take: stopped by 1
+1 take: stopped by 1
+0 post 0.0.0.0 result: finished
+0 leave 0: left
+1 take: stopped by 1
+1 leave 1: left
+0 take: stopped by 1
+told 1
+==== a leave behind the end of the job is ignored
+results: task failures 1, stage attempts 4, hand-outs 99
+----
+0 take: task 0.0.0.0, epoch 0
+0 post 0.0.0.0 failed: raised: aborted: task limit of 0.0 partition 0
+0 leave 0: ignored
+1 take: ended
+told 1
+"#;
 
 #[test]
-fn a_job_ends_with_its_last_executor(rt: HostRuntime) {
-    let plan = "lose 0 0 0\nlose 1 0 0\n";
-    let mut journal = counting_under(&rt, Limits::default(), plan);
-    assert_transcript(&rt, &mut journal, ALL_LOST);
-    assert_eq!(rt; journal.core().job(), JobState::Aborted(Abort::NoExecutor));
+fn faults_are_survived_as_their_transcripts_say(rt: HostRuntime) {
+    assert_jobs(&rt, FAULTS);
 }

@@ -8,21 +8,14 @@ ghost use Rattle.sc_core.specs.Openings.{IsOpening, tracker_behind};
 ghost use Rattle.sc_core.specs.Sound.{IsSoundCore};
 ghost use Rattle.sc_rows.specs.Jobs.{results_alone, room_of, word_count};
 
-use crate::plans::plan_of;
 use sc_core::{Core, Journal};
 use sc_ids::{Limits, ShuffleId, Stage, StageGraph, StageId, Target};
-use sc_plan::Plan;
+use sc_plan::{Plan, parse_plan};
+use sc_value::Octets;
 use std::process::Abort;
 
-/// The journal of a word count over two partitions: stage 0 makes two outputs of a shuffle, and
-/// stage 1 reads them for two results.
-pub fn counting<R: Abort + AllocGlobal>(rt: &R, limits: Limits) -> Journal
-    ensures { room_of result.core ≡ 2 }
-{
-    counting_under(rt, limits, "")
-}
-
-/// The same under a fault plan.
+/// The journal of a word count over two partitions, under a fault plan: stage 0 makes two outputs
+/// of a shuffle, and stage 1 reads them for two results.
 pub fn counting_under<R: Abort + AllocGlobal>(rt: &R, limits: Limits, plan: &str) -> Journal
     ensures { room_of result.core ≡ 2 }
 {
@@ -43,6 +36,15 @@ pub fn counting_again<R: Abort + AllocGlobal>(rt: &R, limits: Limits, last: &Cor
 pub fn results<R: Abort + AllocGlobal>(rt: &R, limits: Limits) -> Journal {
     let graph = results_alone(rt);
     begun(rt, &graph, limits, &plan_of(rt, ""), None)
+}
+
+/// A plan for two executors.
+fn plan_of<R: Abort + AllocGlobal>(rt: &R, text: &str) -> Plan {
+    let bytes = Octets::copy_of(rt.alloc(), text.as_bytes()).expect(rt, "memory");
+    match parse_plan(rt.alloc(), &bytes, 2) {
+        Ok(plan) => plan,
+        Err(_) => panic!(rt; "no plan: {text:?}"),
+    }
 }
 
 /// The journal of a job with these stages, which saves nothing.

@@ -1,11 +1,13 @@
 //! How rows are held: as a column of their kind wherever a head or an operation can give one.
 //!
-//! No contract says so, since every view may answer None. What is lost without it is speed.
+//! No contract says so, since every view may answer None. What is lost without it is speed. In each
+//! form that comes up here, rows are shared, selected, printed and put together too: contracts say
+//! what that gives, and not that there is memory for it.
 #![tactic(auto)]
 
-use crate::claims::halves;
 use crate::streams::last_stream;
 use sc_columns::Rows;
+use sc_keys::Keys;
 use std::alloc::{AllocError, Global};
 use std::process::Abort;
 
@@ -61,104 +63,99 @@ fn word_of(rows: &Rows) -> Option<&'static str> {
     }
 }
 
-/// Sees that the last node of each case of a table is held so. A case is a line with literals and
-/// one with an operation or more, each on the one before, a `|` between them, and the layout.
-fn assert_held<R: Abort + AllocGlobal>(rt: &R, table: &str) {
-    for line in table.lines() {
+/// Sees that there is memory for what can be made of three rows.
+fn assert_made<R: Abort + AllocGlobal>(rt: &R, rows: &Rows, line: &str) {
+    let alloc = rt.alloc();
+    let marks = [true, false, true];
+    assert!(rt; rows.filter(alloc, &marks).is_ok(), "{line}");
+    assert!(rt; rows.part(alloc, 1, 3).is_ok(), "{line}");
+    assert!(rt; rows.flat(alloc).is_ok(), "{line}");
+    assert!(rt; rows.printed_rows(alloc).is_ok(), "{line}");
+    assert!(rt; Keys::of(alloc, rows).is_ok(), "{line}");
+    let first = rows.share().expect(rt, "memory");
+    let second = rows.joined(alloc).expect(rt, "memory");
+    let both = Rows::concat(alloc, first, second).expect(rt, "memory");
+    assert!(rt; both.filter(alloc, &marks).is_ok(), "{line}");
+    assert!(rt; both.part(alloc, 1, 3).is_ok(), "{line}");
+    assert!(rt; both.joined(alloc).is_ok(), "{line}");
+}
+
+/// Sees that the last node of a script is held so. The script is a line with literals, which are
+/// `n0`, and definitions, each of which reads the one before, a `|` between them.
+fn assert_held<R: Abort + AllocGlobal>(rt: &R, line: &str) {
+    let (operations, want) = line.rsplit_once(" | ").unwrap_or((line, "no layout"));
+    let lines = operations
+        .replace(rt.alloc(), " | ", "\n")
+        .expect(rt, "memory");
+    let script = format!(in rt.alloc(); "n0 = parallelize 1 {lines}\n").expect(rt, "memory");
+    let stream = last_stream(rt, script.as_str(), "");
+    let layout = layout_of(rt.alloc(), &stream.rows).expect(rt, "memory");
+    assert_eq!(rt; layout.as_str(), want, "{line}");
+    assert_made(rt, &stream.rows, line);
+}
+
+/// In each line: literals, definitions, and how the rows of the last one are held.
+const LAYOUTS: &str = r#"
+1 2 | n1 = map n0 x | ints
+"a" "b" | n1 = map n0 x | texts
+1 2 | n1 = map n0 "k" | same
+1 2 | n1 = map n0 (+ x 1) | ints
+1 2 | n1 = map n0 (+ x x) | ints
+1 2 | n1 = map n0 (- 1 x) | ints
+1 2 | n1 = map n0 (* x x) | ints
+1 2 | n1 = map n0 (/ 4 x) | ints
+1 2 | n1 = map n0 (% x 2) | ints
+1 2 | n1 = map n0 (== x 1) | bools
+1 2 | n1 = map n0 (< x 2) | bools
+1 2 | n1 = map n0 (<= 1 x) | bools
+"a" "b" | n1 = map n0 (== x "a") | bools
+"a" "b" | n1 = map n0 (< "a" x) | bools
+1 2 | n1 = map n0 (== (< x 2) true) | bools
+1 2 | n1 = map n0 (not (== x 1)) | bools
+1 2 | n1 = map n0 (and (< 0 x) (< x 2)) | bools
+1 2 | n1 = map n0 (or (< x 1) (< 1 x)) | bools
+1 2 | n1 = map n0 (if (< x 2) x 7) | ints
+1 2 | n1 = map n0 (if (< x 2) (== x 1) false) | bools
+"a" "b" | n1 = map n0 (if (== x "a") x "c") | texts
+1 2 | n1 = map n0 (pair x x) | (ints,ints)
+1 2 | n1 = map n0 (pair "k" x) | (same,ints)
+1 2 | n1 = map n0 (pair (text x) (pair x (< x 2))) | (texts,(ints,bools))
+1 2 | n1 = map n0 (fst (pair x "k")) | ints
+1 2 | n1 = map n0 (snd (pair x (text x))) | texts
+"a b" "c" | n1 = map n0 (words x) | [texts]
+"a,b" "c" | n1 = map n0 (cut x ",") | [texts]
+"a b" "c" | n1 = map n0 (len (words x)) | ints
+"a,b" "c" | n1 = map n0 (len (cut x ",")) | ints
+"a b" "c" | n1 = map n0 (nth (words x) 0) | texts
+"a,b" "c" | n1 = map n0 (nth (cut x ",") 0) | texts
+"1 b" "2" | n1 = map n0 (int (nth (words x) 0)) | ints
+"1" "2" | n1 = map n0 (int x) | ints
+1 2 | n1 = map n0 (text x) | texts
+"a" "b" | n1 = map n0 (text x) | texts
+1 2 | n1 = map n0 (text (pair x x)) | texts
+"a" "b" | n1 = map n0 (concat x "!") | texts
+"a" "b" | n1 = map n0 (concat x x) | texts
+1 2 3 | n1 = filter n0 (< 1 x) | ints
+"a" "b" | n1 = filter n0 (< "a" x) | texts
+1 2 | n1 = map n0 (== x 1) | n2 = filter n1 x | bools
+1 2 3 | n1 = map n0 (pair x "k") | n2 = filter n1 (< 1 (fst x)) | (ints,same)
+"a b" "c" | n1 = flatMap n0 (words x) | texts
+"a,b" "c" | n1 = flatMap n0 (cut x ",") | texts
+"a b" "c" | n1 = map n0 (words x) | n2 = filter n1 (< 1 (len x)) | [texts]
+"a b" "c" | n1 = flatMap n0 (words x) | n2 = map n1 (pair x 1) | (texts,same)
+1 2 | n1 = map n0 (pair x "k") | n2 = mapValues n1 (concat x "!") | (ints,texts)
+1 2 | n1 = map n0 (pair (text x) x) | n2 = mapValues n1 (* x x) | (texts,ints)
+1 2 | n1 = map n0 (pair x "a b") | n2 = flatMapValues n1 (words x) | (ints,texts)
+1 2 | n1 = cache n0 | ints
+1 2 | n1 = coalesce n0 1 | n2 = map n1 (+ x 1) | ints
+1 2 | n1 = union n0 n0 | n2 = cache n1 | ints
+"#;
+
+#[test]
+fn what_is_made_of_columns_is_held_in_columns(rt: HostRuntime) {
+    for line in LAYOUTS.lines() {
         if !line.is_empty() {
-            let (literals, rest) = halves(line, " | ");
-            let (operations, want) = rest.rsplit_once(" | ").unwrap_or((rest, "no layout"));
-            let script = script_of(rt.alloc(), literals, operations).expect(rt, "memory");
-            let stream = last_stream(rt, script.as_str(), "");
-            let layout = layout_of(rt.alloc(), &stream.rows).expect(rt, "memory");
-            assert_eq!(rt; layout.as_str(), want, "by {line}");
+            assert_held(&rt, line);
         }
     }
-}
-
-/// A script with literals and operations, each of which is written with `_` for the node before it.
-fn script_of(alloc: Global, literals: &str, operations: &str) -> Result<String, AllocError> {
-    let mut script = format!(in alloc; "n0 = parallelize 1 {literals}\n")?;
-    for (i, operation) in operations.split(" | ").enumerate() {
-        let line = line_of(alloc, i, operation)?;
-        script.push_str(line.as_str())?;
-    }
-    Ok(script)
-}
-
-/// The line of an operation on the node of this number, which the next number names.
-fn line_of(alloc: Global, parent: usize, operation: &str) -> Result<String, AllocError> {
-    let name = format!(in alloc; "n{parent}")?;
-    let operation = operation.replace(alloc, "_", name.as_str())?;
-    let node = parent.saturating_add(1);
-    format!(in alloc; "n{node} = {operation}\n")
-}
-
-const HEADS: &str = r#"
-1 2 | map _ x | ints
-"a" "b" | map _ x | texts
-1 2 | map _ "k" | same
-1 2 | map _ (+ x 1) | ints
-1 2 | map _ (+ x x) | ints
-1 2 | map _ (- 1 x) | ints
-1 2 | map _ (* x x) | ints
-1 2 | map _ (/ 4 x) | ints
-1 2 | map _ (% x 2) | ints
-1 2 | map _ (== x 1) | bools
-1 2 | map _ (< x 2) | bools
-1 2 | map _ (<= 1 x) | bools
-"a" "b" | map _ (== x "a") | bools
-"a" "b" | map _ (< "a" x) | bools
-1 2 | map _ (== (< x 2) true) | bools
-1 2 | map _ (not (== x 1)) | bools
-1 2 | map _ (and (< 0 x) (< x 2)) | bools
-1 2 | map _ (or (< x 1) (< 1 x)) | bools
-1 2 | map _ (if (< x 2) x 7) | ints
-1 2 | map _ (if (< x 2) (== x 1) false) | bools
-"a" "b" | map _ (if (== x "a") x "c") | texts
-1 2 | map _ (pair x x) | (ints,ints)
-1 2 | map _ (pair "k" x) | (same,ints)
-1 2 | map _ (pair (text x) (pair x (< x 2))) | (texts,(ints,bools))
-1 2 | map _ (fst (pair x "k")) | ints
-1 2 | map _ (snd (pair x (text x))) | texts
-"a b" "c" | map _ (words x) | [texts]
-"a,b" "c" | map _ (cut x ",") | [texts]
-"a b" "c" | map _ (len (words x)) | ints
-"a,b" "c" | map _ (len (cut x ",")) | ints
-"a b" "c" | map _ (nth (words x) 0) | texts
-"a,b" "c" | map _ (nth (cut x ",") 0) | texts
-"1 b" "2" | map _ (int (nth (words x) 0)) | ints
-"1" "2" | map _ (int x) | ints
-1 2 | map _ (text x) | texts
-"a" "b" | map _ (text x) | texts
-1 2 | map _ (text (pair x x)) | texts
-"a" "b" | map _ (concat x "!") | texts
-"a" "b" | map _ (concat x x) | texts
-"#;
-
-#[test]
-fn a_head_over_a_column_gives_a_column(rt: HostRuntime) {
-    assert_held(&rt, HEADS);
-}
-
-const OPERATIONS: &str = r#"
-1 2 3 | filter _ (< 1 x) | ints
-"a" "b" | filter _ (< "a" x) | texts
-1 2 | map _ (== x 1) | filter _ x | bools
-1 2 3 | map _ (pair x "k") | filter _ (< 1 (fst x)) | (ints,same)
-"a b" "c" | flatMap _ (words x) | texts
-"a,b" "c" | flatMap _ (cut x ",") | texts
-"a b" "c" | map _ (words x) | filter _ (< 1 (len x)) | [texts]
-"a b" "c" | flatMap _ (words x) | map _ (pair x 1) | (texts,same)
-1 2 | map _ (pair x "k") | mapValues _ (concat x "!") | (ints,texts)
-1 2 | map _ (pair (text x) x) | mapValues _ (* x x) | (texts,ints)
-1 2 | map _ (pair x "a b") | flatMapValues _ (words x) | (ints,texts)
-1 2 | cache _ | ints
-1 2 | coalesce _ 1 | map _ (+ x 1) | ints
-1 2 | union _ _ | cache _ | ints
-"#;
-
-#[test]
-fn an_operation_over_a_column_gives_a_column(rt: HostRuntime) {
-    assert_held(&rt, OPERATIONS);
 }

@@ -1,57 +1,30 @@
 //! Worked examples through the calls that programs make: tests alone, with no code of its own.
 //!
 //! Each expected value comes from the definition of scripts, from another implementation of the
-//! same arithmetic or from a small sum by hand, and never from the program's own output. Most tests
-//! are tables of text, which cost the check next to nothing: `claims` has a function that runs each
-//! kind of table, `given` makes a run of a script over files and tells what was seen of it, and
-//! `streams` shows the raise that a run doesn't tell. `jobs` begins jobs without a script, and
-//! `transcripts` lets their events happen. `histories` runs a script under a fault plan and counts
-//! what its history shows. The other modules have a subject each.
+//! same arithmetic or from a small sum by hand, and never from the program's own output. A test is
+//! code, so it is proved too, and again whenever a crate below it changes. So the tests are tables
+//! of text, which cost the check next to nothing, and a few small functions that walk them; where a
+//! case fails, what it claims is told. `histories` walks runs under fault plans, `transcripts` the
+//! jobs that `jobs` begins without a script, and `world_lines` worlds step by step. `given` makes a
+//! run whose calls outside may fail. `works` reads the words and files of a case, and `streams`
+//! gives the rows of a node. What the program shows of a run is tested by the cases of `cases/`.
 //!
-//! A test is code, so it is proved too. It is cheap where it is one call with a table, and where
-//! want of memory ends it by `expect`: a `?` is one more way out, on which all that is held has to
-//! be let go. A loop holds one call, and a table holds tuples of texts and numbers.
+//! Want of memory ends a test by `expect`: a `?` is one more way out, on which all that is held has
+//! to be let go. A loop holds one call, and a table texts or tuples of texts and numbers.
 //!
 //! What the contracts of the crates below promise for all inputs isn't tried again: a row here is
-//! for what no clause says, or for whether a clause says what was meant.
+//! for what no clause says, for whether a clause says what was meant, or for whether a call
+//! succeeds at all.
 #![tactic(auto)]
 
 #[cfg(test)]
-mod actions;
-#[cfg(test)]
-mod arithmetic;
-#[cfg(test)]
-mod borders;
-#[cfg(test)]
-mod caches;
-#[cfg(test)]
-mod choices;
+mod calls;
 #[cfg(test)]
 mod claims;
 #[cfg(test)]
-mod columns;
-#[cfg(test)]
-mod combining;
-#[cfg(test)]
-mod committing;
-#[cfg(test)]
-mod comparisons;
-#[cfg(test)]
-mod contexts;
-#[cfg(test)]
-mod cutting;
-#[cfg(test)]
-mod failing_tasks;
-#[cfg(test)]
-mod faults;
-#[cfg(test)]
-mod forms;
+mod failures;
 #[cfg(test)]
 mod given;
-#[cfg(test)]
-mod hashes;
-#[cfg(test)]
-mod held;
 #[cfg(test)]
 mod histories;
 #[cfg(test)]
@@ -61,79 +34,31 @@ mod job_reports;
 #[cfg(test)]
 mod job_runs;
 #[cfg(test)]
-mod job_sequences;
-#[cfg(test)]
 mod jobs;
 #[cfg(test)]
-mod kept_blocks;
-#[cfg(test)]
-mod key_columns;
-#[cfg(test)]
-mod late_reports;
+mod keys;
 #[cfg(test)]
 mod layouts;
 #[cfg(test)]
-mod limits;
-#[cfg(test)]
-mod lost_executors;
-#[cfg(test)]
-mod map_outputs;
-#[cfg(test)]
-mod mixed;
-#[cfg(test)]
-mod operations;
+mod losses;
 #[cfg(test)]
 mod outside;
 #[cfg(test)]
-mod partitions;
-#[cfg(test)]
 mod paths;
-#[cfg(test)]
-mod plan_faults;
-#[cfg(test)]
-mod planned;
 #[cfg(test)]
 mod plans;
 #[cfg(test)]
 mod raises;
 #[cfg(test)]
-mod ranges;
-#[cfg(test)]
 mod readers;
 #[cfg(test)]
-mod scripts;
-#[cfg(test)]
-mod shapes;
-#[cfg(test)]
-mod shelves;
-#[cfg(test)]
-mod shuffles;
-#[cfg(test)]
-mod statuses;
-#[cfg(test)]
-mod stores;
-#[cfg(test)]
-mod stories;
+mod sequences;
 #[cfg(test)]
 mod streams;
 #[cfg(test)]
-mod structures;
-#[cfg(test)]
-mod task_sets;
-#[cfg(test)]
-mod tracking;
-#[cfg(test)]
 mod transcripts;
 #[cfg(test)]
-mod typing;
-#[cfg(test)]
-mod values;
-#[cfg(test)]
-mod wiped_stores;
-#[cfg(test)]
 mod words;
-#[cfg(test)]
-mod worked;
 #[cfg(test)]
 mod works;
 #[cfg(test)]
@@ -142,5 +67,3 @@ mod world_lines;
 mod worlds;
 #[cfg(test)]
 mod writers;
-#[cfg(test)]
-mod writing;

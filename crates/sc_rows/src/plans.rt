@@ -3,7 +3,7 @@
 
 use crate::claims::assert_text;
 use sc_ids::{AttemptId, ExecId};
-use sc_plan::{OrderKind, Plan, parse_plan};
+use sc_plan::{OrderKind, Plan, PlanError, PlanFaultKind, parse_plan};
 use sc_value::Octets;
 use std::process::Abort;
 
@@ -201,5 +201,40 @@ fn a_plan_without_lines_says_nothing(rt: HostRuntime) {
         assert_eq!(rt; plan.due_wipes(0, 0), 0);
         assert_eq!(rt; plan.due_evicts(0, 0), 0);
         assert_eq!(rt; plan.loss(0), None);
+    }
+}
+
+// A run without a fault shows of its plan only that it has none.
+#[test]
+fn a_plan_has_as_many_lines_as_say_something(rt: HostRuntime) {
+    let rows = [
+        ("", 0),
+        ("# nothing\n\n", 0),
+        ("fail 0 0 1000000", 1),
+        ("\t drop\t 0 \t1 ", 1),
+        ("\n# more\ndrop 0 1", 1),
+        ("drop 0 1\ndrop 0 2\ndrop 1 1", 3),
+        ("drop 0 1\nlose 0 1 1\nevict 0 1", 3),
+        (
+            "fail 1 0 0\nfail 0 1 0\nfail 0 0 1\nlate 0 0 1 0\ntwice 0 0 1",
+            5,
+        ),
+    ];
+    for (text, want) in rows {
+        let plan = plan_of(&rt, text);
+        assert_eq!(rt; plan.lines().len(), want, "{text:?}");
+    }
+}
+
+// The words of a run give it an executor.
+#[test]
+fn a_plan_for_no_executor_can_name_none(rt: HostRuntime) {
+    let bytes = Octets::copy_of(rt.alloc(), b"drop 0 0").expect(&rt, "memory");
+    match parse_plan(rt.alloc(), &bytes, 0) {
+        Err(PlanError::Fault(fault)) => {
+            assert_eq!(rt; fault.line, 1);
+            assert_eq!(rt; fault.kind, PlanFaultKind::Limit);
+        }
+        _ => panic!(rt; "no fault"),
     }
 }

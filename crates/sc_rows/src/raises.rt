@@ -1,96 +1,63 @@
-//! Which raise ends a run or a partition, and where.
+//! Which raise ends a partition, and behind which rows: a run tells only that there is one.
+//!
+//! The statuses of the same scripts are in `cases/`.
 #![tactic(auto)]
 
-use crate::claims::{assert_cases, assert_rows, assert_seen, assert_streams};
+use crate::claims::assert_text;
+use crate::streams::{kind_of, last_stream};
+use crate::works::halves;
 use std::alloc::{AllocError, Global};
 use std::process::Abort;
+use std::str;
 
-/// Actions on three partitions of three rows, and how many partitions stand before the first of
-/// these.
-const RAISING: [(&str, u32); 12] = [
-    ("m = map l (/ 1 x)\ncollect m\n", 0),
-    ("m = filter l (== 1 (/ 1 x))\ncollect m\n", 0),
-    ("m = flatMap l (list (/ 1 x))\ncollect m\n", 0),
-    (
-        "p = map l (pair x x)\nm = mapValues p (/ 1 x)\ncollect m\n",
-        0,
-    ),
-    (
-        "p = map l (pair x x)\nm = flatMapValues p (list (/ 1 x))\ncollect m\n",
-        0,
-    ),
-    ("q = map l (/ 1 x)\nm = cache q\ncollect m\n", 0),
-    ("q = map l (/ 1 x)\nm = union q l\ncount m\n", 0),
-    ("q = map l (/ 1 x)\nm = union l q\ncount m\n", 3),
-    ("q = map l (/ 1 x)\nm = coalesce q 3\ncount m\n", 0),
-    ("q = map l (/ 1 x)\nm = filter q false\ncount m\n", 0),
-    ("m = map l (/ 1 x)\nreduce m b\n", 0),
-    ("reduce l (/ (/ 1 a) b)\n", 0),
-];
+/// Literals, an expression over each of them as `x`, and the rows that a map with it gives up to a
+/// raise, of this kind.
+const ROWS: &str = r#"
+7 7 | (/ x 0) | ! DivideByZero
+0 0 | (/ 7 x) | ! DivideByZero
+0 0 | (/ 7 0) | ! DivideByZero
+"7 0" "7 0" | (/ (int (nth (words x) 0)) (int (nth (words x) 1))) | ! DivideByZero
+0 0 | (/ x 0) | ! DivideByZero
+0 0 | (/ 0 x) | ! DivideByZero
+0 0 | (/ 0 0) | ! DivideByZero
+"0 0" "0 0" | (/ (int (nth (words x) 0)) (int (nth (words x) 1))) | ! DivideByZero
+-9223372036854775808 -9223372036854775808 | (/ x 0) | ! DivideByZero
+0 0 | (/ -9223372036854775808 x) | ! DivideByZero
+0 0 | (/ -9223372036854775808 0) | ! DivideByZero
+"-9223372036854775808 0" | (/ (int (nth (words x) 0)) (int (nth (words x) 1))) | ! DivideByZero
 
-/// Nine literals 1, but for a 0 at a place.
-fn literals_but(alloc: Global, place: u32) -> Result<String, AllocError> {
-    let first = " 1".repeat(alloc, place as usize)?;
-    let last = " 1".repeat(alloc, 8_u32.saturating_sub(place) as usize)?;
-    format!(in alloc; "{first} 0{last}")
-}
+7 7 | (% x 0) | ! DivideByZero
+0 0 | (% 7 x) | ! DivideByZero
+0 0 | (% 7 0) | ! DivideByZero
+"7 0" "7 0" | (% (int (nth (words x) 0)) (int (nth (words x) 1))) | ! DivideByZero
+0 0 | (% x 0) | ! DivideByZero
+0 0 | (% 0 x) | ! DivideByZero
+0 0 | (% 0 0) | ! DivideByZero
+"0 0" "0 0" | (% (int (nth (words x) 0)) (int (nth (words x) 1))) | ! DivideByZero
+-9223372036854775808 -9223372036854775808 | (% x 0) | ! DivideByZero
+0 0 | (% -9223372036854775808 x) | ! DivideByZero
+0 0 | (% -9223372036854775808 0) | ! DivideByZero
+"-9223372036854775808 0" | (% (int (nth (words x) 0)) (int (nth (words x) 1))) | ! DivideByZero
 
-/// Sees that these lines end a run by a raise in this partition of its second action.
-fn assert_raises<R: Abort + AllocGlobal>(rt: &R, place: u32, lines: &str, partition: u32) {
-    let literals = literals_but(rt.alloc(), place).expect(rt, "memory");
-    let script = format!(in rt.alloc(); "l = parallelize 3{literals}\ncount l\n{lines}collect l\n");
-    let script = script.expect(rt, "memory");
-    let want = format!(in rt.alloc(); "9\ntask limit: stage 1 attempt 0 partition {partition}\n");
-    let want = want.expect(rt, "memory");
-    assert_seen(rt, script.as_str(), "", want.as_str());
-}
+4 0 | (sum (list x (/ 4 x))) | 5 ! DivideByZero
 
-/// Sees that a 0 at a place ends each of these actions by a raise in its partition.
-fn assert_each_raises<R: Abort + AllocGlobal>(rt: &R, place: u32) {
-    for (lines, before) in &RAISING {
-        assert_raises(rt, place, *lines, before.saturating_add(place / 3));
-    }
-    let runs = "q = map l (/ 1 x)\nm = coalesce q 2\ncollect m\n";
-    assert_raises(rt, place, runs, if place < 3 { 0 } else { 1 });
-}
+1 2 0 3 | (and (< x 5) (< 1 (/ 2 x))) | true | false ! DivideByZero
+1 2 0 3 | (or (== x 1) (< 1 (/ 2 x))) | true | false ! DivideByZero
+2 1 0 | (and (< 0 (/ 2 x)) (== (nth (list 7) (- x 2)) 7)) | true ! OutOfRange
+2 0 1 | (and (< 0 (/ 2 x)) (== (nth (list 7) (- x 2)) 7)) | true ! DivideByZero
+"a" | (and (== (int x) 1) (== (/ 1 0) 1)) | ! NotANumber
+"a" | (or (== (int x) 1) (== (/ 1 0) 1)) | ! NotANumber
 
-#[test]
-fn the_partition_of_a_raise_is_told_wherever_it_stands(rt: HostRuntime) {
-    for place in 0..9 {
-        assert_each_raises(&rt, place);
-    }
-}
+0 1 2 | (if (< x 2) x (/ 1 0)) | 0 | 1 ! DivideByZero
+2 1 0 | (if (< x 1) (/ 1 x) x) | 2 | 1 ! DivideByZero
+1 2 0 | (if (== (/ 2 x) 1) (nth (list 7) x) x) | 1 ! OutOfRange
+1 0 2 | (if (== (/ 2 x) 1) (nth (list 7) x) x) | 1 ! DivideByZero
+"1" "a" "" | (if (== x "") (/ 1 0) (int x)) | 1 ! NotANumber
+"1" "" "a" | (if (== x "") (/ 1 0) (int x)) | 1 ! DivideByZero
 
-const FIRST: &str = r#"====
-l = parallelize 4 1 0 1 0
-m = map l (/ 1 x)
-collect m
-----
-task limit: stage 0 attempt 0 partition 1
-====
-l = parallelize 3 1 2 3
-n = map l (nth (list 1 2) (- 3 x))
-m = map l (/ 6 (- x 1))
-u = union n m
-v = union m n
-collect l
-count u
-count v
-----
-1
-2
-3
-task limit: stage 1 attempt 0 partition 0
-====
-"#;
+1 0 | (< (/ 1 x) (nth (list 1) x)) | ! OutOfRange
+0 1 | (< (/ 1 x) (nth (list 1) x)) | ! DivideByZero
 
-#[test]
-fn the_first_partition_that_raises_is_told(rt: HostRuntime) {
-    assert_cases(&rt, "", FIRST);
-}
-
-/// Where `x` is 0 the first argument divides by zero, and where it is 9 the second is out of range.
-const ARGUMENTS: &str = r#"
 1 9 0 | (+ (/ 9 x) (nth (list 1 2) x)) | 11 ! OutOfRange
 1 0 9 | (+ (/ 9 x) (nth (list 1 2) x)) | 11 ! DivideByZero
 1 9 0 | (- (/ 9 x) (nth (list 1 2) x)) | 7 ! OutOfRange
@@ -124,13 +91,69 @@ const ARGUMENTS: &str = r#"
 1 | (/ (int "a") 0) | ! NotANumber
 1 | (if (== (/ x 0) 1) (int "a") (int "b")) | ! DivideByZero
 1 2 | (+ (if (== x 2) (/ 1 0) 1) (int "a")) | ! NotANumber
+
+4 0 | (fst (pair x (/ 4 x))) | 4 ! DivideByZero
+1 0 | (pair (/ 1 x) (nth (list 1) x)) | ! OutOfRange
+0 1 | (pair (/ 1 x) (nth (list 1) x)) | ! DivideByZero
+
+2 1 | (list (/ 2 x) (nth (list 7) (- x 2))) | CompactBuffer(1, 7) ! OutOfRange
+2 0 | (list (/ 2 x) (nth (list 7) (- x 2))) | CompactBuffer(1, 7) ! DivideByZero
+"x" | (list (int x) (/ 1 0)) | ! NotANumber
+"x" | (list (/ 1 0) (int x)) | ! DivideByZero
+
+1 0 | (len (list (/ 1 x))) | 1 ! DivideByZero
+
+2 3 | (nth (list 5 6 7) x) | 7 ! OutOfRange
+0 -1 | (nth (list 5 6 7) x) | 5 ! OutOfRange
+0 9223372036854775807 | (nth (list 5) x) | 5 ! OutOfRange
+0 -9223372036854775808 | (nth (list 5) x) | 5 ! OutOfRange
+0 4294967296 | (nth (list 5 6) x) | 5 ! OutOfRange
+"a b" "c" | (nth (words x) 1) | b ! OutOfRange
+"a" "" | (nth (words x) 0) | a ! OutOfRange
+"a" "b" | (nth (words x) -1) | ! OutOfRange
+"a,b" "c" | (nth (cut x ",") 1) | b ! OutOfRange
+"a🦀b" "c" | (nth (cut x "🦀") 1) | b ! OutOfRange
+"1 x" "x 1" | (nth (list 7) (int (nth (words x) 0))) | ! OutOfRange
+"x 1" "1 x" | (nth (list 7) (int (nth (words x) 0))) | ! NotANumber
+"0 1" "x" | (int (nth (words x) 0)) | 0 ! NotANumber
+"5" "" "x" | (int (nth (words x) 0)) | 5 ! OutOfRange
+"5" "x" "" | (int (nth (words x) 0)) | 5 ! NotANumber
+"5 6" "7 99999999999999999999" | (int (nth (words x) 1)) | 6 ! OutOfRange
+"5" "x y" | (len (list (nth (words x) 0) (nth (words x) 1))) | ! OutOfRange
+
+"0" "9223372036854775808" | (int x) | 0 ! OutOfRange
+"0" "-9223372036854775809" | (int x) | 0 ! OutOfRange
+"0" "18446744073709551616" | (int x) | 0 ! OutOfRange
+"0" "100000000000000000000000000000000000000000" | (int x) | 0 ! OutOfRange
+"0" "-100000000000000000000000000000000000000000" | (int x) | 0 ! OutOfRange
+"0" "99999999999999999999x" | (int x) | 0 ! NotANumber
+"0" "" | (int x) | 0 ! NotANumber
+"0" "-" | (int x) | 0 ! NotANumber
+"0" "+1" | (int x) | 0 ! NotANumber
+"0" "--1" | (int x) | 0 ! NotANumber
+"0" "1-" | (int x) | 0 ! NotANumber
+"0" " 1" | (int x) | 0 ! NotANumber
+"0" "1 " | (int x) | 0 ! NotANumber
+"0" "1\t" | (int x) | 0 ! NotANumber
+"0" "1.0" | (int x) | 0 ! NotANumber
+"0" "1e3" | (int x) | 0 ! NotANumber
+"0" "0x1" | (int x) | 0 ! NotANumber
+"0" "1_000" | (int x) | 0 ! NotANumber
+"0" "-é" | (int x) | 0 ! NotANumber
+"0" "１" | (int x) | 0 ! NotANumber
+"0" "٣" | (int x) | 0 ! NotANumber
+0 1 | (int "a") | ! NotANumber
+
+4 0 | (text (/ 4 x)) | 1 ! DivideByZero
+
+"1" "x" | (concat (text (int x)) (nth (words x) 1)) | ! OutOfRange
+"x" "1" | (concat (text (int x)) (nth (words x) 1)) | ! NotANumber
+"1" "x" | (concat (nth (words x) 1) (text (int x))) | ! OutOfRange
+"x" "1" | (concat (nth (words x) 1) (text (int x))) | ! OutOfRange
 "#;
 
-#[test]
-fn the_first_row_raises_and_in_it_the_first_argument(rt: HostRuntime) {
-    assert_rows(&rt, ARGUMENTS);
-}
-
+/// Scripts of which each node reads the one before, a line `----`, the rows of the last node, and a
+/// line with the raise that ends them.
 const CHAINS: &str = r#"====
 l = parallelize 1 1 0
 m = map l (/ 10 x)
@@ -204,7 +227,132 @@ p = coalesce o 1
 ====
 "#;
 
+/// Sees that each row of a table of literals and one of scripts holds.
+fn assert_raises<R: Abort + AllocGlobal>(rt: &R, rows: &str, chains: &str) {
+    for line in rows.lines() {
+        if !line.is_empty() {
+            assert_row(rt, line);
+        }
+    }
+    for case in chains.split("====\n") {
+        if !case.is_empty() {
+            let (script, want) = halves(case, "----\n");
+            assert_stream(rt, script, want);
+        }
+    }
+}
+
+/// Sees that a map of literals gives the rows of a line, and then raises.
+fn assert_row<R: Abort + AllocGlobal>(rt: &R, line: &str) {
+    let (literals, rest) = halves(line, " | ");
+    let (expr, want) = halves(rest, " | ");
+    let script = format!(in rt.alloc(); "l = parallelize 1 {literals}\nm = map l {expr}\n");
+    let script = script.expect(rt, "memory");
+    let want = want.replace(rt.alloc(), " | ", "\n").expect(rt, "memory");
+    let want = want.replace(rt.alloc(), " ! ", "\n! ").expect(rt, "memory");
+    assert_stream(rt, script.as_str(), want.as_str());
+}
+
+/// Sees that the last node of a script, of which each reads the one before, gives these rows and
+/// then this raise.
+fn assert_stream<R: Abort + AllocGlobal>(rt: &R, script: &str, want: &str) {
+    let (rows, raise) = halves(want, "! ");
+    let stream = last_stream(rt, script, "");
+    let mut out = Vec::new(rt.alloc());
+    stream.rows.print_lines(&mut out).expect(rt, "memory");
+    let printed = str::from_utf8(&out).unwrap_or("(no text)");
+    assert_text(rt, printed, rows, script);
+    assert_text(rt, kind_of(stream.raise), raise.trim_end(), script);
+}
+
 #[test]
 fn a_raise_comes_behind_the_rows_before_it(rt: HostRuntime) {
-    assert_streams(&rt, CHAINS);
+    assert_raises(&rt, ROWS, CHAINS);
+}
+
+/// The nodes over lines of 1, the line for which they raise, and the raise.
+const STOPPING: [(&str, &str, &str); 13] = [
+    ("m = map l (int x)", "x", "NotANumber"),
+    ("m = map l (int x)", "9223372036854775808", "OutOfRange"),
+    ("m = map l (/ 6 (int x))", "0", "DivideByZero"),
+    ("m = map l (% 6 (int x))", "0", "DivideByZero"),
+    ("m = map l (nth (list 7) (- (int x) 1))", "2", "OutOfRange"),
+    ("m = map l (nth (words x) 0)", "", "OutOfRange"),
+    ("m = map l (int (nth (words x) 0))", " x", "NotANumber"),
+    (
+        "m = map l (if (== x \"1\") (int x) (/ 1 0))",
+        "2",
+        "DivideByZero",
+    ),
+    ("m = map l (pair x (list (int x)))", "x", "NotANumber"),
+    ("m = filter l (== (int x) 1)", "x", "NotANumber"),
+    ("m = flatMap l (list (int x))", "x", "NotANumber"),
+    (
+        "k = map l (pair x x)\nm = mapValues k (int x)",
+        "x",
+        "NotANumber",
+    ),
+    (
+        "k = map l (pair x x)\nm = flatMapValues k (list (int x))",
+        "x",
+        "NotANumber",
+    ),
+];
+
+/// How many lines stand before the odd one, and how many behind it: their numbers lie about those
+/// of one and of two batches.
+const PLACES: [(usize, usize); 11] = [
+    (0, 4094),
+    (4094, 0),
+    (0, 4095),
+    (2048, 2047),
+    (4095, 0),
+    (4094, 2),
+    (4095, 1),
+    (4096, 0),
+    (4097, 4095),
+    (8191, 1),
+    (8192, 0),
+];
+
+/// Lines of 1, so many before an odd one and so many behind it.
+fn ones_but(
+    alloc: Global,
+    odd: &str,
+    (before, behind): (usize, usize),
+) -> Result<String, AllocError> {
+    let first = "1\n".repeat(alloc, before)?;
+    let last = "1\n".repeat(alloc, behind)?;
+    format!(in alloc; "{first}{odd}\n{last}")
+}
+
+/// Sees that over lines of 1, so many before an odd one and so many behind it, these nodes stop
+/// before the odd one, by this raise.
+fn assert_stops<R: Abort + AllocGlobal>(
+    rt: &R,
+    nodes: &str,
+    odd: &str,
+    kind: &str,
+    place: (usize, usize),
+) {
+    let lines = ones_but(rt.alloc(), odd, place).expect(rt, "memory");
+    let script = format!(in rt.alloc(); "l = text \"in.txt\" 1\n{nodes}\n");
+    let script = script.expect(rt, "memory");
+    let stream = last_stream(rt, script.as_str(), lines.as_str());
+    assert!(rt; stream.rows.len() == place.0, "{nodes}");
+    assert_text(rt, kind_of(stream.raise), kind, nodes);
+}
+
+/// Sees that these nodes stop before the odd line, whatever its place.
+fn assert_stops_anywhere<R: Abort + AllocGlobal>(rt: &R, nodes: &str, odd: &str, kind: &str) {
+    for place in &PLACES {
+        assert_stops(rt, nodes, odd, kind, *place);
+    }
+}
+
+#[test]
+fn rows_end_before_the_first_that_raises_whatever_its_place(rt: HostRuntime) {
+    for (nodes, odd, kind) in &STOPPING {
+        assert_stops_anywhere(&rt, *nodes, *odd, *kind);
+    }
 }

@@ -2,22 +2,66 @@
 //!
 //! A line `told 3` stands for how many reports were told by then. An event that isn't enabled makes
 //! no entry; it is written as one, with `not enabled` for an answer.
+//!
+//! A case of a table is a line `====` with what it claims, a line with the kind of job and its
+//! limits, a fault plan, a line `----`, and a transcript.
 #![tactic(auto)]
 
 ghost use Rattle.std.specs.Prelude.{◌≡◌};
 ghost use Rattle.sc_rows.specs.Jobs.{room_of};
 
+use crate::jobs::{counting_under, results};
+use crate::works::halves;
 use sc_base::OrMemory;
-use sc_core::{Event, Journal, NotEnabled, Outcome};
-use sc_ids::{AttemptId, Counts, ExecId, FailureCause, Fault, Loc, Mark};
+use sc_core::{Event, Journal, NotEnabled, Outcome, SideEvent};
+use sc_ids::{AttemptId, Counts, ExecId, FailureCause, Fault, Limits, Loc, Mark};
 use std::process::Abort;
 
+/// Sees that each case of a table holds.
+pub fn assert_jobs<R: Abort + AllocGlobal>(rt: &R, table: &str) {
+    for case in table.split("==== ") {
+        if !case.is_empty() {
+            assert_job(rt, case);
+        }
+    }
+}
+
+/// Sees that a case holds.
+fn assert_job<R: Abort + AllocGlobal>(rt: &R, case: &str) {
+    let (label, rest) = halves(case, "\n");
+    let (head, rest) = halves(rest, "\n");
+    let (plan, want) = halves(rest, "----\n");
+    let limits = limits_of(rt, head);
+    let mut journal = if head.starts_with("counts") {
+        counting_under(rt, limits, plan)
+    } else {
+        results(rt, limits)
+    };
+    assert_transcript(rt, &mut journal, want, label);
+}
+
+/// The limits of a job that the line of its kind says.
+fn limits_of<R: Abort + AllocGlobal>(rt: &R, head: &str) -> Limits {
+    let numbers = numbers_of(rt, head);
+    Limits {
+        task_failures: at(&numbers, 0),
+        stage_attempts: at(&numbers, 1),
+        hand_outs: at(&numbers, 2),
+        ..Limits::default()
+    }
+}
+
 /// Sees that the events of a transcript, one after the other, are answered as it says.
-pub fn assert_transcript<R: Abort + AllocGlobal>(rt: &R, journal: &mut Journal, want: &str)
+pub fn assert_transcript<R: Abort + AllocGlobal>(
+    rt: &R,
+    journal: &mut Journal,
+    want: &str,
+    label: &str,
+)
     ensures { room_of journal.new.core ≡ room_of journal.old.core }
 {
     let seen = replayed(rt, journal, want);
-    assert_eq!(rt; seen.as_str(), want);
+    assert_eq!(rt; seen.as_str(), want, "{label}");
 }
 
 /// Lets the events of a transcript happen: what they are answered, as a transcript.
@@ -91,6 +135,11 @@ fn event_of(line: &str, numbers: &[u32]) -> Event {
         return Event::Release {
             key: at(numbers, 1),
         };
+    }
+    if line.contains(" leave ") {
+        return Event::Side(SideEvent::Leave {
+            exec: at(numbers, 1),
+        });
     }
     if line.contains(" lost ") {
         return Event::TellLost {

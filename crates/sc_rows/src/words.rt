@@ -1,4 +1,4 @@
-//! Words of the command line, and what they ask for.
+//! What words of the command line ask for; which ones are refused is in `cases/words.txt`.
 #![tactic(auto)]
 
 use crate::claims::assert_text;
@@ -140,63 +140,9 @@ const COMMANDS: [(&[&str], &str); 27] = [
     ),
 ];
 
-/// Words that are no command.
-const REFUSED: [&[&str]; 43] = [
-    &[],
-    &["run"],
-    &["run", "--executors", "3"],
-    &["run", "--help"],
-    &["run", "a.spark", "-h"],
-    &["--help"],
-    &["-h"],
-    &["help"],
-    &["help", "run"],
-    &["walk", "a.spark"],
-    &["Run", "a.spark"],
-    &["a.spark"],
-    &["a.spark", "run"],
-    &["--executors", "3", "run", "a.spark"],
-    &["--", "run", "a.spark"],
-    &["run", "a.spark", "b.spark"],
-    &["run", "--", "a.spark", "--executors=3"],
-    &["run", "-a.spark"],
-    &["run", "a.spark", "--executors"],
-    &["run", "a.spark", "--executors="],
-    &["run", "a.spark", "--executors", "0"],
-    &["run", "a.spark", "--executors", "65"],
-    &["run", "a.spark", "--executors", "x"],
-    &["run", "a.spark", "--executors", "-1"],
-    &["run", "a.spark", "--executors=-1"],
-    &["run", "a.spark", "--executors=99999999999999999999"],
-    &["run", "a.spark", "--executors", "3", "--executors", "3"],
-    &["run", "a.spark", "--executor", "3"],
-    &["run", "a.spark", "-e", "3"],
-    &["run", "a.spark", "--task-failures", "0"],
-    &["run", "a.spark", "--task-failures", "17"],
-    &["run", "a.spark", "--stage-attempts", "17"],
-    &["run", "a.spark", "--stage-attempts", "0"],
-    &["run", "a.spark", "--cache", "0"],
-    &["run", "a.spark", "--cache", "4097"],
-    &["run", "a.spark", "--cache"],
-    &["run", "a.spark", "--cache=7", "--cache=7"],
-    &["run", "a.spark", "--plan"],
-    &["run", "a.spark", "--plan", "--cache=7"],
-    &["run", "a.spark", "--plan", "p.txt", "--plan", "p.txt"],
-    &["run", "a.spark", "--plan", "p.txt", "q.txt"],
-    &["run", "--plan", "p.txt"],
-    &["run", "a.spark", "--speculation"],
-];
-
 #[test]
 fn words_ask_for_a_script_under_limits(rt: HostRuntime) {
     for (words, want) in &COMMANDS {
         assert_text(&rt, asked(&rt, *words).as_str(), *want, "");
-    }
-}
-
-#[test]
-fn other_words_are_no_command(rt: HostRuntime) {
-    for words in &REFUSED {
-        assert_text(&rt, asked(&rt, *words).as_str(), "usage", "");
     }
 }

@@ -1,25 +1,71 @@
-//! Works, read from words and files as a run reads them.
+//! Runs to be: the words and the files that a table has, and the work that they are read as.
 #![tactic(auto)]
 
-use crate::given::{PLAN, SCRIPT, words_of};
-use crate::streams::add;
 use sc_input::MemSource;
 use sc_lineage::Work;
 use sc_read::{read_plan, read_script, read_work};
+use sc_value::{Name, Octets};
 use sc_words::read_words;
 use std::process::Abort;
 
-/// The work of a script over two lines, under a plan and with one more word.
-pub fn planned_work<R: Abort + AllocGlobal>(rt: &R, script: &str, plan: &str, word: &str) -> Work {
+/// The text of `in.txt` where a table has none.
+pub const INPUT: &str = "b a\nb\n";
+
+/// What stands before and behind the first such mark of a case. Where there is none, what stands
+/// behind it is nothing that anything answers.
+pub fn halves<'a>(case: &'a str, mark: &str) -> (&'a str, &'a str) {
+    case.split_once(mark)
+        .unwrap_or((case, "(a case without its mark)"))
+}
+
+/// Adds a file.
+fn add<R: Abort + AllocGlobal>(rt: &R, source: &mut MemSource, name: &str, bytes: &[u8]) {
+    let name = Name::new(rt.alloc(), name).expect(rt, "memory");
+    let bytes = Octets::copy_of(rt.alloc(), bytes).expect(rt, "memory");
+    source.add(name, bytes).expect(rt, "memory");
+}
+
+/// The files of a run: its script, its plan, a text, one without lines and one that is no text.
+pub fn source_of<R: Abort + AllocGlobal>(
+    rt: &R,
+    script: &str,
+    plan: &str,
+    input: &str,
+) -> MemSource {
+    let mut source = MemSource::new(rt.alloc());
+    add(rt, &mut source, "job.spark", script.as_bytes());
+    add(rt, &mut source, "plan.txt", plan.as_bytes());
+    add(rt, &mut source, "in.txt", input.as_bytes());
+    add(rt, &mut source, "empty.txt", b"");
+    add(rt, &mut source, "no_text.txt", b"a\xFF\n");
+    source
+}
+
+/// The words of a run under the plan, with more words behind them.
+pub fn words_of<R: Abort + AllocGlobal>(rt: &R, more: &str) -> Vec<String> {
+    let line = format!(in rt.alloc(); "run job.spark --plan plan.txt {more}").expect(rt, "memory");
+    let mut words = Vec::new(rt.alloc());
+    for word in line.as_str().split_whitespace() {
+        let word = String::from_str(rt.alloc(), word).expect(rt, "memory");
+        words.push(word).expect(rt, "memory");
+    }
+    words
+}
+
+/// The work of a script over this text of `in.txt`, under a plan and with more words.
+pub fn work_of<R: Abort + AllocGlobal>(
+    rt: &R,
+    script: &str,
+    plan: &str,
+    more: &str,
+    input: &str,
+) -> Work {
     let alloc = rt.alloc();
-    let words = words_of(alloc, &["run", SCRIPT, "--plan", PLAN, word]).expect(rt, "memory");
+    let words = words_of(rt, more);
     let Ok(command) = read_words(alloc, &words) else {
         panic!(rt; "no command")
     };
-    let mut source = MemSource::new(alloc);
-    add(rt, alloc, &mut source, SCRIPT, script);
-    add(rt, alloc, &mut source, PLAN, plan);
-    add(rt, alloc, &mut source, "in.txt", "b a\nb\n");
+    let mut source = source_of(rt, script, plan, input);
     let mut reads = Vec::new(alloc);
     let script = read_script(alloc, &mut source, &command.script, &mut reads);
     let script = script.ok().expect(rt, "a script");

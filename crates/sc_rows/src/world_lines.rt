@@ -14,20 +14,28 @@ ghost use Rattle.sc_lineage.specs.Views.{action_data_of};
 ghost use Rattle.sc_rows.specs.Worlds.{IsFirstDesk};
 ghost use Rattle.sc_stagecut.specs.Carrying.{HasBounds};
 
-use crate::claims::{assert_text, halves};
-use crate::histories::WORD_COUNT;
 use crate::transcripts::{at, numbers_of};
-use crate::works::planned_work;
+use crate::works::{INPUT, halves, work_of};
 use sc_desk::{Desk, Passed};
 use sc_jobs::Goal;
 use sc_lineage::{Action, NodeId, Work};
 use sc_plan::{Order, OrderKind};
 use sc_stagecut::{Carried, unbounded_sort};
-use sc_store::{Store, WipeAnswer};
+use sc_store::Store;
 use sc_work::{Naming, SharedWork};
 use sc_world::{Applied, Step, World};
 use std::marker::Brand;
 use std::process::Abort;
+
+/// A count of words in two partitions: stage 0 makes two map outputs, and stage 1 reads them for
+/// two results.
+const WORD_COUNT: &str = r#"
+l = text "in.txt" 2
+w = flatMap l (words x)
+p = map w (pair x 1)
+c = reduceByKey p 2 (+ a b)
+collect c
+"#;
 
 /// The world of the first action of a work, which reads no sort.
 fn world_of<W: Naming, R: Abort + AllocGlobal>(rt: &R, work: Work) -> World<W>
@@ -140,23 +148,12 @@ fn told_of<W: Naming, R: Abort + AllocGlobal>(
             let (exec, generation) = (loc.exec, loc.generation);
             format!(in alloc; "at {exec}@{generation}")
         }
-        Applied::Wipe(answer) => {
-            let generation = generation_of(*answer);
-            format!(in alloc; "generation {generation}")
-        }
+        Applied::Wipe(answer) => format!(in alloc; "{answer:?}"),
         Applied::Ordered(_) => String::from_str(alloc, "ordered"),
         Applied::Done => String::from_str(alloc, "done"),
         Applied::NotEnabled => String::from_str(alloc, "not enabled"),
     };
     told.expect(rt, "memory")
-}
-
-/// The generation that a store has behind an order.
-fn generation_of(answer: WipeAnswer) -> u32 {
-    match answer {
-        WipeAnswer::Wiped { generation } => generation,
-        WipeAnswer::Stale { generation } => generation,
-    }
 }
 
 /// What the line of these words is answered.
@@ -176,12 +173,12 @@ fn answer_of<W: Naming, R: Abort + AllocGlobal>(
 }
 
 /// The lines as they are answered, one after the other, and behind them the results that are there.
-fn answers_of<W: Naming, R: Abort + AllocGlobal>(rt: &R, work: Work, lines: String) -> String
+fn answers_of<W: Naming, R: Abort + AllocGlobal>(rt: &R, work: Work, lines: &str) -> String
     requires { work ≡ W.work }
 {
     let mut world = world_of::<W, R>(rt, work);
     let mut told = String::new(rt.alloc());
-    for line in lines.as_str().lines() {
+    for line in lines.lines() {
         let (words, _) = halves(line, ": ");
         let answer = answer_of(rt, &mut world, words);
         writeln!(told, "{words}: {answer}").expect(rt, "memory");
@@ -202,19 +199,14 @@ fn results_of<W: Naming, R: Abort + AllocGlobal>(rt: &R, world: &World<W>) -> St
     String::from_utf8(out).ok().expect(rt, "a text")
 }
 
-/// Sees that the world of a word count over two lines, under a plan and with one more word, answers
-/// the lines so, and ends with these results.
-pub fn assert_world<R: Abort + AllocGlobal>(
-    rt: &R,
-    plan: &str,
-    word: &str,
-    lines: &[&str],
-    results: &str,
-) {
-    let work = planned_work(rt, WORD_COUNT, plan, word);
-    let mut want = lines.concat(rt.alloc()).expect(rt, "memory");
-    let steps = String::from_str(rt.alloc(), want.as_str()).expect(rt, "memory");
-    let seen = answers_of::<Brand, R>(rt, work, steps);
-    want.push_str(results).expect(rt, "memory");
-    assert_text(rt, seen.as_str(), want.as_str(), WORD_COUNT);
+/// Sees that a case holds of the world of a word count over two lines.
+pub fn assert_world<R: Abort + AllocGlobal>(rt: &R, case: &str) {
+    let (label, rest) = halves(case, "\n");
+    let (word, rest) = halves(rest, "\n");
+    let (plan, rest) = halves(rest, "----\n");
+    let (lines, results) = halves(rest, "----\n");
+    let work = work_of(rt, WORD_COUNT, plan, word, INPUT);
+    let seen = answers_of::<Brand, R>(rt, work, lines);
+    let want = format!(in rt.alloc(); "{lines}{results}").expect(rt, "memory");
+    assert_eq!(rt; seen.as_str(), want.as_str(), "{label}");
 }

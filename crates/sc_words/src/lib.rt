@@ -2,7 +2,8 @@
 //!
 //! [`read_words`] gives the [`Command`] that the words ask for, or [`Usage`] exactly where `clap`
 //! refuses them, a call for help included. `specs/Program.antt` has the command line as what `clap`
-//! reads of it. What stands on this crate sees a command and knows nothing of `clap`.
+//! reads of it. `sc_app`, which stands on this crate, sees a command and knows nothing of `clap`.
+//! The limits that a command may set come from `sc_ids`.
 #![tactic(auto)]
 
 mod commands;

@@ -9,5 +9,5 @@ invariant_of-self-2 c =
     let i = c.self.inside in
     let e : Entry = entry c.args.by c.args.event c.in_ok-answer.field-0.answer in
     replays_entry i.opening i.entries.items c.push_reserved.new.self.items e i.core
-    c.step.new.self c.self.invariant c.in_ok-answer.ensures.ok
+    c.step.new.self c.self.invariant c.in_ok-answer.ensures.answered
     (c.push_reserved.ensures.items ∙ ap (λ es. es ++ e ∷ []) c.reserve.ensures.items)

@@ -12,8 +12,8 @@ post_running-requires c =
     (rw (← c.self.view_is) at c.requires)
     (sym c.in-Some.is ∙ (rw c.deref.ensures.value at c.place_of.ensures)))
 
-pub returns-in-None-clause-ok : goal.returns-in-None-clause-ok
-returns-in-None-clause-ok c =
+pub returns-in-None-clause-answered : goal.returns-in-None-clause-answered
+returns-in-None-clause-answered c =
     let now = c.args.self.now.0 in
     let none : running_of now c.args.attempt ≡ None =
     rw (← c.self.view_is)

@@ -9,7 +9,7 @@ pub tell_at-requires-clause-runs : goal.tell_at-requires-clause-runs
 tell_at-requires-clause-runs c =
     let a = c.args in
     subst (λ (x : CoreData). IsRunningAt x.running a.attempt a.place)
-    (sym (c.in_ok-shelve_copy.ensures.ok
+    (sym (c.in_ok-shelve_copy.ensures.answered
     ∙ ap (λ (x : CoreData). shelved_if (comes_twice x a.attempt) x a.attempt a.outcome 0)
     c.in_ok-make_room.ensures.same))
     (running_if (comes_twice a.self.now.0 a.attempt) a.self.now.0 a.attempt a.outcome a.place

@@ -131,6 +131,6 @@ returns-in-Err-Fault-clause-posted g c =
           (misfit_strange d c.args.report off),
       refl,
       ap₂ (λ j ss. desk_data c.self.inside.job c.self.inside.carried j
-          c.self.inside.results.items ss c.self.inside.ordered) c.in-Err-Fault.ensures.err
+          c.self.inside.results.items ss c.self.inside.ordered) c.in-Err-Fault.ensures.unchanged
           c.reserve.ensures.items ∙ c.self.view_is,
     )
