@@ -3,6 +3,7 @@ pub mod Outputs
 pub mod Submission
 pub mod Offers
 pub mod Reports
+pub mod Changes
 pub mod Losses
 pub mod Openings
 pub mod Births

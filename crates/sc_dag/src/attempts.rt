@@ -5,14 +5,45 @@ ghost use Rattle.std.specs.Prelude.{◌≡◌, ◌↔◌, ◌-◌, OnOk, OnErr, 
 ghost use Rattle.std.specs.Option.{option_map};
 ghost use Rattle.sc_ids.specs.Changes.{change_at};
 ghost use Rattle.sc_taskset.specs.Offers.{handed};
-ghost use Rattle.sc_taskset.specs.Reports.{after_end, after_failure, after_held, after_loss, after_success, as_zombie};
+ghost use Rattle.sc_taskset.specs.Reports.{after_failure};
+ghost use Rattle.sc_dag.specs.Changes.{attempt_by};
 ghost use Rattle.sc_dag.specs.DagData.{set_in, with_set};
 ghost use Rattle.sc_dag.specs.Offers.{may_be_given_in};
-ghost use Rattle.sc_dag.specs.Reports.{failed_attempt, forgiven, reaches_limit_in};
+ghost use Rattle.sc_dag.specs.Reports.{reaches_limit_in};
 
 use sc_ids::{AttemptId, ExecId, FailureCause};
 use sc_taskset::{TaskSet, Verdict};
 use std::alloc::AllocError;
+
+/// What becomes of an attempt of a stage.
+#[derive(Clone, Copy)]
+pub(crate) enum AttemptChange {
+    /// A partition succeeded: its attempt of this number did, or with none one of an older attempt
+    /// of the stage.
+    Success {
+        partition: u32,
+        nth: Option<u32>,
+        now: u64,
+    },
+    /// An attempt of a partition ended, and that changes nothing else.
+    End {
+        partition: u32,
+        nth: u32,
+    },
+    /// Whether a held grant has denied an attempt of a partition.
+    Held {
+        partition: u32,
+        denied: bool,
+    },
+    /// It starts nothing more.
+    Zombie,
+    /// It failed, and starts nothing more.
+    Failed,
+    /// Its stage is complete: that it failed is forgotten.
+    Forgiven,
+    /// An executor is lost.
+    Lost(ExecId),
+}
 
 /// An attempt of a stage.
 #[derive(Drop)]
@@ -24,26 +55,28 @@ pub struct StageAttempt {
 }
 
 impl StageAttempt {
-    /// It failed, and starts nothing more.
-    fn fail(&mut self)
-        ensures { self.new ≡ failed_attempt self.old }
+    /// It changes.
+    fn change(&mut self, change: AttemptChange)
+        ensures { self.new ≡ attempt_by change self.old }
     {
-        self.set.zombie();
-        self.has_failed = true;
-    }
-
-    /// Its stage is complete: that it failed is forgotten.
-    fn forgive(&mut self)
-        ensures { self.new ≡ forgiven self.old }
-    {
-        self.has_failed = false;
-    }
-
-    /// An executor is lost.
-    fn lose(&mut self, exec: ExecId)
-        ensures { self.new ≡ with_set (λ set. after_loss set exec) self.old }
-    {
-        self.set.executor_lost(exec);
+        match change {
+            AttemptChange::Success {
+                partition,
+                nth,
+                now,
+            } => {
+                let _ = self.set.succeeded(partition, nth, now);
+            }
+            AttemptChange::End { partition, nth } => self.set.ended(partition, nth),
+            AttemptChange::Held { partition, denied } => self.set.held(partition, denied),
+            AttemptChange::Zombie => self.set.zombie(),
+            AttemptChange::Failed => {
+                self.set.zombie();
+                self.has_failed = true;
+            }
+            AttemptChange::Forgiven => self.has_failed = false,
+            AttemptChange::Lost(exec) => self.set.executor_lost(exec),
+        }
     }
 }
 
@@ -70,33 +103,15 @@ pub(crate) fn give_in(
     }
 }
 
-/// A success told to the task set of an attempt.
-pub(crate) fn succeed_in(
-    attempts: &mut Vec<StageAttempt>,
-    place: usize,
-    partition: u32,
-    nth: Option<u32>,
-    now: u64,
-)
-    ensures items { attempts.new.items ≡ change_at attempts.old.items place
-        (with_set (λ set. after_success set partition nth now)) }
+/// Changes an attempt.
+pub(crate) fn change_in(attempts: &mut Vec<StageAttempt>, place: usize, change: AttemptChange)
+    ensures items { attempts.new.items
+        ≡ change_at attempts.old.items place (attempt_by change) }
     ensures len { vec_len attempts.new ≡ vec_len attempts.old }
     ensures capacity { vec_capacity attempts.new ≡ vec_capacity attempts.old }
 {
     if place < attempts.len() {
-        let _ = attempts[place].set.succeeded(partition, nth, now);
-    }
-}
-
-/// An end that changes nothing else told to the task set of an attempt.
-pub(crate) fn end_in(attempts: &mut Vec<StageAttempt>, place: usize, partition: u32, nth: u32)
-    ensures items { attempts.new.items ≡ change_at attempts.old.items place
-        (with_set (λ set. after_end set partition nth)) }
-    ensures len { vec_len attempts.new ≡ vec_len attempts.old }
-    ensures capacity { vec_capacity attempts.new ≡ vec_capacity attempts.old }
-{
-    if place < attempts.len() {
-        attempts[place].set.ended(partition, nth);
+        attempts[place].change(change);
     }
 }
 
@@ -121,73 +136,20 @@ pub(crate) fn fail_in(
     }
 }
 
-/// Whether a held grant has denied an attempt of a partition, told to the task set of an attempt.
-pub(crate) fn hold_in(attempts: &mut Vec<StageAttempt>, place: usize, partition: u32, denied: bool)
-    ensures items { attempts.new.items ≡ change_at attempts.old.items place
-        (with_set (λ set. after_held set partition denied)) }
+/// Changes all attempts.
+pub(crate) fn change_all(attempts: &mut Vec<StageAttempt>, change: AttemptChange)
+    ensures items { attempts.new.items ≡ map (attempt_by change) attempts.old.items }
     ensures len { vec_len attempts.new ≡ vec_len attempts.old }
     ensures capacity { vec_capacity attempts.new ≡ vec_capacity attempts.old }
 {
-    if place < attempts.len() {
-        attempts[place].set.held(partition, denied);
-    }
+    change_each(attempts.as_mut_slice(), change);
 }
 
-/// The task set of an attempt starts nothing more.
-pub(crate) fn zombie_in(attempts: &mut Vec<StageAttempt>, place: usize)
-    ensures items { attempts.new.items ≡ change_at attempts.old.items place
-        (with_set as_zombie) }
-    ensures len { vec_len attempts.new ≡ vec_len attempts.old }
-    ensures capacity { vec_capacity attempts.new ≡ vec_capacity attempts.old }
-{
-    if place < attempts.len() {
-        attempts[place].set.zombie();
-    }
-}
-
-/// An attempt failed.
-pub(crate) fn fail_attempt(attempts: &mut Vec<StageAttempt>, place: usize)
-    ensures items { attempts.new.items ≡ change_at attempts.old.items place failed_attempt }
-    ensures len { vec_len attempts.new ≡ vec_len attempts.old }
-    ensures capacity { vec_capacity attempts.new ≡ vec_capacity attempts.old }
-{
-    if place < attempts.len() {
-        attempts[place].fail();
-    }
-}
-
-/// The stage is complete: that attempts failed is forgotten.
-pub(crate) fn forgive_all(attempts: &mut Vec<StageAttempt>)
-    ensures items { attempts.new.items ≡ map forgiven attempts.old.items }
-    ensures len { vec_len attempts.new ≡ vec_len attempts.old }
-    ensures capacity { vec_capacity attempts.new ≡ vec_capacity attempts.old }
-{
-    forgive_each(attempts.as_mut_slice());
-}
-
-fn forgive_each(attempts: &mut [StageAttempt])
-    ensures { attempts.new ≡ map forgiven attempts.old }
+fn change_each(attempts: &mut [StageAttempt], change: AttemptChange)
+    ensures { attempts.new ≡ map (attempt_by change) attempts.old }
 {
     for attempt in attempts.iter_mut() {
-        attempt.forgive();
-    }
-}
-
-/// An executor is lost.
-pub(crate) fn lose_in(attempts: &mut Vec<StageAttempt>, exec: ExecId)
-    ensures items { attempts.new.items
-        ≡ map (with_set (λ set. after_loss set exec)) attempts.old.items }
-    ensures len { vec_len attempts.new ≡ vec_len attempts.old }
-    ensures capacity { vec_capacity attempts.new ≡ vec_capacity attempts.old }
-{
-    lose_each(attempts.as_mut_slice(), exec);
-}
-
-fn lose_each(attempts: &mut [StageAttempt], exec: ExecId)
-    ensures { attempts.new ≡ map (with_set (λ set. after_loss set exec)) attempts.old }
-{
-    for attempt in attempts.iter_mut() {
-        attempt.lose(exec);
+        attempt.change(change);
     }
 }
 

@@ -1,27 +1,41 @@
 //! What becomes of one stage of a job.
 #![tactic(auto)]
 
-ghost use Rattle.std.specs.Prelude.{◌≡◌, ◌↔◌, ◌+◌, OnOk, OnErr, count_by, false, if◌then◌else◌, None, Some, true};
+ghost use Rattle.std.specs.Prelude.{◌≡◌, ◌↔◌, ◌+◌, OnOk, OnErr, count_by, false, if◌then◌else◌, true};
 ghost use Rattle.sc_ids.specs.Changes.{change_at};
 ghost use Rattle.sc_taskset.specs.Offers.{handed};
-ghost use Rattle.sc_taskset.specs.Reports.{after_end, after_failure, after_held, after_success};
+ghost use Rattle.sc_taskset.specs.Reports.{after_failure};
+ghost use Rattle.sc_dag.specs.Changes.{state_by};
 ghost use Rattle.sc_dag.specs.DagData.{attempt_in, changed_newest, changed_set, newest_set, set_in};
-ghost use Rattle.sc_dag.specs.Losses.{without_executor};
 ghost use Rattle.sc_dag.specs.Offers.{may_be_given_in};
 ghost use Rattle.sc_dag.specs.Outputs.{is_complete_by};
-ghost use Rattle.sc_dag.specs.Reports.{completed, reaches_limit_in, with_failed, with_result};
-ghost use Rattle.sc_dag.specs.Submission.{as_waiting, started};
+ghost use Rattle.sc_dag.specs.Reports.{reaches_limit_in};
+ghost use Rattle.sc_dag.specs.Submission.{started};
 
-use crate::attempts::{
-    StageAttempt, end_in, fail_attempt, fail_in, forgive_all, give_in, hold_in, lose_in,
-    succeed_in, zombie_in,
-};
+use crate::attempts::{AttemptChange, StageAttempt, change_all, change_in, fail_in, give_in};
 use crate::outputs::missing_set;
 use crate::rows::StageRow;
 use sc_ids::{AttemptId, ExecId, FailureCause, Limits};
 use sc_taskset::Verdict;
 use sc_tracker::Tracker;
 use std::alloc::AllocError;
+
+/// What becomes of a stage.
+#[derive(Clone, Copy)]
+pub(crate) enum RowChange {
+    /// Its attempt of this number changes.
+    Own(u64, AttemptChange),
+    /// Its newest attempt changes.
+    Newest(AttemptChange),
+    /// All its attempts change.
+    All(AttemptChange),
+    /// A partition has a result.
+    HasResult(u32),
+    /// It waits for its parents.
+    Waits,
+    /// All its partitions are done.
+    Complete,
+}
 
 impl StageRow {
     /// Hands out a task of its newest attempt.
@@ -37,39 +51,33 @@ impl StageRow {
         give_in(&mut self.attempts, place, partition, exec, now)
     }
 
-    /// A success of a task of the attempt of a number.
-    pub fn succeed(&mut self, number: u64, partition: u32, nth: u32, now: u64)
-        ensures state { self.new.state
-            ≡ changed_set number (λ set. after_success set partition (Some nth) now)
-            self.old.state }
+    /// It changes.
+    pub fn change(&mut self, change: RowChange)
+        ensures state { self.new.state ≡ state_by change self.old.state }
         ensures stage { self.new.stage ≡ self.old.stage }
         ensures ready { self.new.is_ready ≡ self.old.is_ready }
     {
-        let place = self.place(number);
-        succeed_in(&mut self.attempts, place, partition, Some(nth), now);
-    }
-
-    /// A success of a task of an older attempt, told to the newest one.
-    pub fn succeed_newest(&mut self, partition: u32, now: u64)
-        ensures state { self.new.state
-            ≡ changed_newest (λ set. after_success set partition None now)
-            self.old.state }
-        ensures stage { self.new.stage ≡ self.old.stage }
-        ensures ready { self.new.is_ready ≡ self.old.is_ready }
-    {
-        let place = self.last();
-        succeed_in(&mut self.attempts, place, partition, None, now);
-    }
-
-    /// A task of the attempt of a number ended, and that changes nothing else.
-    pub fn end(&mut self, number: u64, partition: u32, nth: u32)
-        ensures state { self.new.state
-            ≡ changed_set number (λ set. after_end set partition nth) self.old.state }
-        ensures stage { self.new.stage ≡ self.old.stage }
-        ensures ready { self.new.is_ready ≡ self.old.is_ready }
-    {
-        let place = self.place(number);
-        end_in(&mut self.attempts, place, partition, nth);
+        match change {
+            RowChange::Own(number, change) => {
+                let place = self.place(number);
+                change_in(&mut self.attempts, place, change);
+            }
+            RowChange::Newest(change) => {
+                let place = self.last();
+                change_in(&mut self.attempts, place, change);
+            }
+            RowChange::All(change) => change_all(&mut self.attempts, change),
+            RowChange::HasResult(partition) => {
+                if put_result_in(&mut self.results, partition) {
+                    self.done += 1;
+                }
+            }
+            RowChange::Waits => self.waits = true,
+            RowChange::Complete => {
+                self.waits = false;
+                change_all(&mut self.attempts, AttemptChange::Forgiven);
+            }
+        }
     }
 
     /// An attempt of a task failed.
@@ -86,66 +94,6 @@ impl StageRow {
         fail_in(&mut self.attempts, place, a, cause)
     }
 
-    /// Its newest attempt is told whether a held grant has denied an attempt of a partition.
-    pub fn hold(&mut self, partition: u32, denied: bool)
-        ensures state { self.new.state
-            ≡ changed_newest (λ set. after_held set partition denied) self.old.state }
-        ensures stage { self.new.stage ≡ self.old.stage }
-        ensures ready { self.new.is_ready ≡ self.old.is_ready }
-    {
-        let place = self.last();
-        hold_in(&mut self.attempts, place, partition, denied);
-    }
-
-    /// A partition has a result.
-    pub fn put_result(&mut self, partition: u32)
-        ensures state { self.new.state ≡ with_result partition self.old.state }
-        ensures stage { self.new.stage ≡ self.old.stage }
-        ensures ready { self.new.is_ready ≡ self.old.is_ready }
-    {
-        if put_result_in(&mut self.results, partition) {
-            self.done += 1;
-        }
-    }
-
-    /// All its partitions are done.
-    pub fn complete(&mut self)
-        ensures state { self.new.state ≡ completed self.old.state }
-        ensures stage { self.new.stage ≡ self.old.stage }
-        ensures ready { self.new.is_ready ≡ self.old.is_ready }
-    {
-        self.waits = false;
-        forgive_all(&mut self.attempts);
-    }
-
-    /// The attempt of a number failed.
-    pub fn fail_attempt(&mut self, number: u64)
-        ensures state { self.new.state ≡ with_failed number self.old.state }
-        ensures stage { self.new.stage ≡ self.old.stage }
-        ensures ready { self.new.is_ready ≡ self.old.is_ready }
-    {
-        let place = self.place(number);
-        fail_attempt(&mut self.attempts, place);
-    }
-
-    /// An executor is lost.
-    pub fn lose(&mut self, exec: ExecId)
-        ensures state { self.new.state ≡ without_executor exec self.old.state }
-        ensures stage { self.new.stage ≡ self.old.stage }
-        ensures ready { self.new.is_ready ≡ self.old.is_ready }
-    {
-        lose_in(&mut self.attempts, exec);
-    }
-
-    /// It waits for its parents.
-    pub fn wait(&mut self)
-        ensures state { self.new.state ≡ as_waiting self.old.state }
-        ensures stage { self.new.stage ≡ self.old.stage }
-        ensures ready { self.new.is_ready ≡ self.old.is_ready }
-    {
-        self.waits = true;
-    }
-
     /// A new attempt for the partitions that aren't done, in the room that was made. It takes no
     /// memory.
     pub fn start(&mut self, tracker: &Tracker, limits: Limits)
@@ -160,7 +108,7 @@ impl StageRow {
             Some(room) => {
                 let set = missing_set(room, &self.stage, tracker, &self.results, limits);
                 let place = self.attempts.len().saturating_sub(1);
-                zombie_in(&mut self.attempts, place);
+                change_in(&mut self.attempts, place, AttemptChange::Zombie);
                 self.waits = false;
                 self.attempts.push_reserved(StageAttempt {
                     set,

@@ -3,15 +3,17 @@
 
 ghost use Rattle.std.specs.Prelude.{◌≡◌, OnOk, OnErr, slice_get, true};
 ghost use Rattle.std.specs.Option.{option_map};
-ghost use Rattle.sc_dag.specs.DagData.{is_live_set, newest_at, stage_at};
+ghost use Rattle.sc_dag.specs.Changes.{state_by};
+ghost use Rattle.sc_dag.specs.DagData.{is_live_set, newest_at, stage_at, with_state};
 ghost use Rattle.sc_dag.specs.Offers.{IsNextTask, OffersIn, handed_out, may_be_given_in, newest_number};
 ghost use Rattle.sc_dag.specs.Outputs.{is_complete};
 ghost use Rattle.sc_dag.specs.Reports.{is_finished_short, is_of_newest, wants_in};
 ghost use Rattle.sc_dag.specs.Submission.{waiting_stages};
 
+use crate::changes::RowChange;
 use crate::fates::Fate;
 use crate::rows::StageRow;
-use crate::stages::{give_at, is_complete_at, prepare_all};
+use crate::stages::{change_row, give_at, is_complete_at, prepare_all};
 use sc_ids::{AttemptId, Epoch, ExecId, Limits, Stage, StageId};
 use sc_taskset::GivenTask;
 use sc_tracker::Tracker;
@@ -38,7 +40,8 @@ impl Model for Dag {
     ghost view = { λ d. (dag_of d.rows.items d.tracker d.limits, are_ready d.rows.items) };
 
     ghost invariant = { λ d. AreOlder (stages_of d.rows.items)
-        × (length d.fates.items ≡ length d.rows.items) × (length d.rows.items ≤ 2 ^ 32) };
+        × (length d.fates.items ≡ length (stages_of d.rows.items))
+        × (length (stages_of d.rows.items) ≤ 2 ^ 32) };
 }
 
 impl Dag {
@@ -88,6 +91,14 @@ impl Dag {
         ensures ready { self.new.1 ≡ self.old.1 }
     {
         give_at(&mut self.rows, attempt, exec, now)
+    }
+
+    /// Changes a stage, where its number is one of the job.
+    pub(crate) fn change(&mut self, stage: StageId, change: RowChange)
+        ensures state { self.new.0 ≡ with_state self.old.0 stage (state_by change) }
+        ensures ready { self.new.1 ≡ self.old.1 }
+    {
+        change_row(&mut self.rows, stage, change);
     }
 
     /// What never changes of a stage, where its number is one of the job.

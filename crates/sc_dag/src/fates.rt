@@ -9,8 +9,9 @@ ghost use Rattle.sc_dag.specs.DagData.{no_stage};
 ghost use Rattle.sc_dag.specs.Rows.{AreFates, AreOlder, SuitFates, are_ready, dag_of, fate_at, fate_for, fated, is_complete_in, is_looked_at, is_submitted, is_submitted_in, is_to_look_at, moves, outlook, ready_of, stages_of, states_of};
 ghost use Rattle.sc_dag.specs.Submission.{IsSubmitted, by_number, is_idle_in, moved_if, waits_in};
 
+use crate::changes::RowChange;
 use crate::rows::StageRow;
-use crate::stages::is_complete_at;
+use crate::stages::{is_complete_at, parents_at};
 use sc_ids::{Limits, StageId};
 use sc_tracker::Tracker;
 
@@ -57,13 +58,12 @@ pub(crate) fn submit(
 )
     requires older { AreOlder (stages_of rows.old.items) }
     requires ready { are_ready rows.old.items ≡ true }
-    requires fates { length fates.old.items ≡ length rows.old.items }
-    requires few { length rows.old.items ≤ 2 ^ 32 }
+    requires fates { length fates.old.items ≡ length (stages_of rows.old.items) }
+    requires few { length (stages_of rows.old.items) ≤ 2 ^ 32 }
     ensures submitted { IsSubmitted (dag_of rows.old.items tracker.now limits)
         (is_submitted submitted (dag_of rows.old.items tracker.now limits))
         (dag_of rows.new.items tracker.now limits) }
     ensures stages { stages_of rows.new.items ≡ stages_of rows.old.items }
-    ensures len { length rows.new.items ≡ length rows.old.items }
     ensures fates { length fates.new.items ≡ length fates.old.items }
 {
     note_fates(rows, tracker, submitted, fates);
@@ -181,16 +181,6 @@ fn has_inputs_at(rows: &[StageRow], tracker: &Tracker, stage: StageId) -> bool
         .all(|parent| is_complete_at(rows, tracker, *parent))
 }
 
-/// The stages whose outputs a stage reads.
-fn parents_at(rows: &[StageRow], stage: usize) -> &[StageId]
-    ensures { result.now ≡ (at_or (stages_of rows.now) stage no_stage).parents }
-{
-    match rows.get(stage) {
-        Some(row) => row.stage().parents(),
-        None => &[],
-    }
-}
-
 /// What a submission makes of a stage: of one that isn't there, nothing.
 fn fate_at(fates: &[Fate], stage: usize) -> Fate
     ensures { result ≡ fate_at fates.now stage }
@@ -209,7 +199,6 @@ fn carry_out(rows: &mut Vec<StageRow>, fates: &[Fate], tracker: &Tracker, limits
         ≡ by_number (moved_if (dag_of rows.old.items tracker.now limits) (is_looked_at fates.now))
         0 (states_of rows.old.items) }
     ensures stages { stages_of rows.new.items ≡ stages_of rows.old.items }
-    ensures len { length rows.new.items ≡ length rows.old.items }
 {
     for k in 0..rows.len() {
         move_at(rows, k, fate_at(fates, k), tracker, limits);
@@ -230,7 +219,7 @@ fn move_at(rows: &mut Vec<StageRow>, k: usize, fate: Fate, tracker: &Tracker, li
 {
     match fate {
         Fate::Stays => {}
-        Fate::Waits => rows[k].wait(),
+        Fate::Waits => rows[k].change(RowChange::Waits),
         Fate::Starts => rows[k].start(tracker, limits),
     }
 }

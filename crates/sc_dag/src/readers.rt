@@ -9,7 +9,7 @@ ghost use Rattle.sc_dag.specs.Rows.{stages_of};
 
 use crate::dags::Dag;
 use crate::rows::StageRow;
-use crate::stages::target_at;
+use crate::stages::{parents_at, target_at};
 use sc_ids::{AttemptId, Limits, StageId, Target};
 
 impl Dag {
@@ -45,7 +45,7 @@ impl Dag {
     pub fn parents(&self, stage: StageId) -> &[StageId]
         ensures { result.now ≡ (stage_at self.now.0 stage).parents }
     {
-        parents_at(&self.rows, stage)
+        parents_at(&self.rows, stage as usize)
     }
 
     /// Whether the stage's attempt that an attempt is of hands out tasks.
@@ -66,15 +66,5 @@ fn tasks_at(rows: &[StageRow], stage: StageId) -> u32
     match rows.get(stage as usize) {
         Some(row) => row.stage().tasks(),
         None => 0,
-    }
-}
-
-/// The stages whose outputs a stage reads.
-fn parents_at(rows: &[StageRow], stage: StageId) -> &[StageId]
-    ensures { result.now ≡ (at_or (stages_of rows.now) stage no_stage).parents }
-{
-    match rows.get(stage as usize) {
-        Some(row) => row.stage().parents(),
-        None => &[],
     }
 }

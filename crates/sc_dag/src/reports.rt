@@ -3,14 +3,13 @@
 
 ghost use Rattle.std.specs.Prelude.{◌≡◌, ◌↔◌, false, true};
 ghost use Rattle.sc_tracker.specs.Tracking.{is_bogus};
-ghost use Rattle.sc_dag.specs.DagData.{with_state};
-ghost use Rattle.sc_dag.specs.Reports.{after_failed, after_hold, after_map_success, after_result_success, completed_if, ended_in_own, map_success_of, reaches_limit_in, result_success_of, set_of, succeeded_in_both, succeeded_in_own, with_output, with_result};
+ghost use Rattle.sc_dag.specs.Reports.{after_failed, after_hold, after_map_success, after_result_success, completed_if, ended_in_own, map_success_of, reaches_limit_in, result_success_of, set_of, succeeded_in_both, succeeded_in_own, with_output};
 
+use crate::attempts::AttemptChange;
+use crate::changes::RowChange;
 use crate::dags::Dag;
 use crate::outputs::is_bogus;
-use crate::stages::{
-    end_at, fail_at, hold_at, put_result_at, succeed_at, succeed_newest_at, target_at,
-};
+use crate::stages::{fail_at, target_at};
 use sc_ids::{AttemptId, BlockId, Epoch, FailureCause, Loc, StageId, Target};
 use sc_taskset::Verdict;
 
@@ -58,7 +57,7 @@ impl Dag {
             return Success::Repeated;
         }
         self.succeed_both(attempt, now);
-        self.put_result(attempt.stage, attempt.partition);
+        self.change(attempt.stage, RowChange::HasResult(attempt.partition));
         self.complete_if_done(attempt.stage);
         Success::Finished
     }
@@ -68,7 +67,11 @@ impl Dag {
         ensures state { self.new.0 ≡ ended_in_own self.old.0 attempt }
         ensures ready { self.new.1 ≡ self.old.1 }
     {
-        end_at(&mut self.rows, attempt);
+        let end = AttemptChange::End {
+            partition: attempt.partition,
+            nth: attempt.nth,
+        };
+        self.change(attempt.stage, RowChange::Own(attempt.stage_attempt, end));
     }
 
     /// An attempt failed. Answers whether its partition failed as often as is allowed.
@@ -87,7 +90,8 @@ impl Dag {
         ensures state { self.new.0 ≡ after_hold self.old.0 stage partition denied }
         ensures ready { self.new.1 ≡ self.old.1 }
     {
-        hold_at(&mut self.rows, stage, partition, denied);
+        let held = AttemptChange::Held { partition, denied };
+        self.change(stage, RowChange::Newest(held));
     }
 
     /// Registers the output of a map task, which isn't bogus.
@@ -107,7 +111,15 @@ impl Dag {
         ensures state { self.new.0 ≡ succeeded_in_own self.old.0 attempt now }
         ensures ready { self.new.1 ≡ self.old.1 }
     {
-        succeed_at(&mut self.rows, attempt, now);
+        let success = AttemptChange::Success {
+            partition: attempt.partition,
+            nth: Some(attempt.nth),
+            now,
+        };
+        self.change(
+            attempt.stage,
+            RowChange::Own(attempt.stage_attempt, success),
+        );
     }
 
     /// A success told to its own task set, and to the newest one of its stage.
@@ -118,16 +130,13 @@ impl Dag {
         let is_newest = self.is_of_newest(attempt);
         self.succeed_own(attempt, now);
         if !is_newest {
-            succeed_newest_at(&mut self.rows, attempt, now);
+            let success = AttemptChange::Success {
+                partition: attempt.partition,
+                nth: None,
+                now,
+            };
+            self.change(attempt.stage, RowChange::Newest(success));
         }
-    }
-
-    /// A partition of a stage has a result.
-    fn put_result(&mut self, stage: StageId, partition: u32)
-        ensures state { self.new.0 ≡ with_state self.old.0 stage (with_result partition) }
-        ensures ready { self.new.1 ≡ self.old.1 }
-    {
-        put_result_at(&mut self.rows, stage, partition);
     }
 
     /// A stage is complete where all its partitions are done.
@@ -136,7 +145,7 @@ impl Dag {
         ensures ready { self.new.1 ≡ self.old.1 }
     {
         if self.is_complete(stage) {
-            self.complete(stage);
+            self.change(stage, RowChange::Complete);
         }
     }
 }

@@ -1,19 +1,22 @@
 //! The stages of a job, each told what becomes of it.
 #![tactic(auto)]
 
-ghost use Rattle.std.specs.Prelude.{◌≡◌, ◌↔◌, OnOk, OnErr, length, map, None, slice_get, Some, true};
+ghost use Rattle.std.specs.Prelude.{◌≡◌, ◌↔◌, OnOk, OnErr, map, slice_get, true};
 ghost use Rattle.sc_base.specs.Lists.{at_or};
 ghost use Rattle.sc_ids.specs.Changes.{change_at};
 ghost use Rattle.sc_taskset.specs.Offers.{handed};
-ghost use Rattle.sc_taskset.specs.Reports.{after_end, after_failure, after_held, after_success};
+ghost use Rattle.sc_taskset.specs.Reports.{after_failure};
+ghost use Rattle.sc_dag.specs.Changes.{state_by};
 ghost use Rattle.sc_dag.specs.DagData.{changed_newest, changed_set, newest_at, no_stage};
 ghost use Rattle.sc_dag.specs.Losses.{without_executor};
 ghost use Rattle.sc_dag.specs.Offers.{may_be_given_in};
-ghost use Rattle.sc_dag.specs.Reports.{completed, failed_count, reaches_limit_in, set_of, with_failed, with_result};
+ghost use Rattle.sc_dag.specs.Reports.{failed_count, reaches_limit_in, set_of};
 ghost use Rattle.sc_dag.specs.Rows.{are_ready, dag_of, is_complete_in, ready_of, row_without_executor, stages_of, states_of};
 ghost use Rattle.sc_tracker.specs.TrackerData.{TrackerData};
 ghost use Rattle.sc_ids.specs.declared.limits.Limits.{Limits};
 
+use crate::attempts::AttemptChange;
+use crate::changes::RowChange;
 use crate::rows::StageRow;
 use sc_ids::{AttemptId, ExecId, FailureCause, StageId, Target};
 use sc_taskset::Verdict;
@@ -50,12 +53,21 @@ pub(crate) fn target_at(rows: &[StageRow], stage: StageId) -> Target
     }
 }
 
+/// The stages whose outputs a stage reads: of one that isn't there, none.
+pub(crate) fn parents_at(rows: &[StageRow], stage: usize) -> &[StageId]
+    ensures { result.now ≡ (at_or (stages_of rows.now) stage no_stage).parents }
+{
+    match rows.get(stage) {
+        Some(row) => row.stage().parents(),
+        None => &[],
+    }
+}
+
 /// Makes room for one more attempt of each stage. Nothing that is seen of the stages changes.
 pub(crate) fn prepare_all(rows: &mut Vec<StageRow>, alloc: Global) -> Result<(), AllocError>
     ensures states { states_of rows.new.items ≡ states_of rows.old.items }
     ensures stages { stages_of rows.new.items ≡ stages_of rows.old.items }
     ensures ready { OnOk result (are_ready rows.new.items ≡ true) }
-    ensures len { length rows.new.items ≡ length rows.old.items }
 {
     for k in 0..rows.len() {
         rows[k].prepare(alloc)?;
@@ -78,7 +90,6 @@ pub(crate) fn give_at(
     ensures err { OnErr result (states_of rows.new.items ≡ states_of rows.old.items) }
     ensures stages { stages_of rows.new.items ≡ stages_of rows.old.items }
     ensures ready { ready_of rows.new.items ≡ ready_of rows.old.items }
-    ensures len { length rows.new.items ≡ length rows.old.items }
 {
     let stage = a.stage;
     if (stage as usize) < rows.len() {
@@ -88,45 +99,15 @@ pub(crate) fn give_at(
     }
 }
 
-/// A success told to the attempt's own task set.
-pub(crate) fn succeed_at(rows: &mut Vec<StageRow>, a: AttemptId, now: u64)
-    ensures states { states_of rows.new.items ≡ change_at (states_of rows.old.items) a.stage
-        (changed_set a.stage_attempt (λ set. after_success set a.partition (Some a.nth) now)) }
+/// Changes a stage.
+pub(crate) fn change_row(rows: &mut Vec<StageRow>, stage: StageId, change: RowChange)
+    ensures states { states_of rows.new.items ≡ change_at (states_of rows.old.items) stage
+        (state_by change) }
     ensures stages { stages_of rows.new.items ≡ stages_of rows.old.items }
     ensures ready { ready_of rows.new.items ≡ ready_of rows.old.items }
-    ensures len { length rows.new.items ≡ length rows.old.items }
 {
-    let stage = a.stage;
     if (stage as usize) < rows.len() {
-        rows[stage as usize].succeed(a.stage_attempt, a.partition, a.nth, now);
-    }
-}
-
-/// A success of an older attempt told to the newest task set of its stage.
-pub(crate) fn succeed_newest_at(rows: &mut Vec<StageRow>, a: AttemptId, now: u64)
-    ensures states { states_of rows.new.items ≡ change_at (states_of rows.old.items) a.stage
-        (changed_newest (λ set. after_success set a.partition None now)) }
-    ensures stages { stages_of rows.new.items ≡ stages_of rows.old.items }
-    ensures ready { ready_of rows.new.items ≡ ready_of rows.old.items }
-    ensures len { length rows.new.items ≡ length rows.old.items }
-{
-    let stage = a.stage;
-    if (stage as usize) < rows.len() {
-        rows[stage as usize].succeed_newest(a.partition, now);
-    }
-}
-
-/// An attempt ended, and that changes nothing else.
-pub(crate) fn end_at(rows: &mut Vec<StageRow>, a: AttemptId)
-    ensures states { states_of rows.new.items ≡ change_at (states_of rows.old.items) a.stage
-        (changed_set a.stage_attempt (λ set. after_end set a.partition a.nth)) }
-    ensures stages { stages_of rows.new.items ≡ stages_of rows.old.items }
-    ensures ready { ready_of rows.new.items ≡ ready_of rows.old.items }
-    ensures len { length rows.new.items ≡ length rows.old.items }
-{
-    let stage = a.stage;
-    if (stage as usize) < rows.len() {
-        rows[stage as usize].end(a.stage_attempt, a.partition, a.nth);
+        rows[stage as usize].change(change);
     }
 }
 
@@ -138,7 +119,6 @@ pub(crate) fn fail_at(rows: &mut Vec<StageRow>, a: AttemptId, cause: FailureCaus
         (changed_set a.stage_attempt (λ set. after_failure set a.partition a.nth cause)) }
     ensures stages { stages_of rows.new.items ≡ stages_of rows.old.items }
     ensures ready { ready_of rows.new.items ≡ ready_of rows.old.items }
-    ensures len { length rows.new.items ≡ length rows.old.items }
 {
     let stage = a.stage;
     if (stage as usize) < rows.len() {
@@ -148,65 +128,12 @@ pub(crate) fn fail_at(rows: &mut Vec<StageRow>, a: AttemptId, cause: FailureCaus
     }
 }
 
-/// A stage's newest task set is told whether a held grant has denied an attempt of a partition.
-pub(crate) fn hold_at(rows: &mut Vec<StageRow>, stage: StageId, partition: u32, denied: bool)
-    ensures states { states_of rows.new.items ≡ change_at (states_of rows.old.items) stage
-        (changed_newest (λ set. after_held set partition denied)) }
-    ensures stages { stages_of rows.new.items ≡ stages_of rows.old.items }
-    ensures ready { ready_of rows.new.items ≡ ready_of rows.old.items }
-    ensures len { length rows.new.items ≡ length rows.old.items }
-{
-    if (stage as usize) < rows.len() {
-        rows[stage as usize].hold(partition, denied);
-    }
-}
-
-/// A partition of a stage has a result.
-pub(crate) fn put_result_at(rows: &mut Vec<StageRow>, stage: StageId, partition: u32)
-    ensures states { states_of rows.new.items ≡ change_at (states_of rows.old.items) stage
-        (with_result partition) }
-    ensures stages { stages_of rows.new.items ≡ stages_of rows.old.items }
-    ensures ready { ready_of rows.new.items ≡ ready_of rows.old.items }
-    ensures len { length rows.new.items ≡ length rows.old.items }
-{
-    if (stage as usize) < rows.len() {
-        rows[stage as usize].put_result(partition);
-    }
-}
-
-/// All partitions of a stage are done.
-pub(crate) fn complete_at(rows: &mut Vec<StageRow>, stage: StageId)
-    ensures states { states_of rows.new.items ≡ change_at (states_of rows.old.items) stage
-        completed }
-    ensures stages { stages_of rows.new.items ≡ stages_of rows.old.items }
-    ensures ready { ready_of rows.new.items ≡ ready_of rows.old.items }
-    ensures len { length rows.new.items ≡ length rows.old.items }
-{
-    if (stage as usize) < rows.len() {
-        rows[stage as usize].complete();
-    }
-}
-
-/// An attempt of a stage failed.
-pub(crate) fn fail_attempt_at(rows: &mut Vec<StageRow>, stage: StageId, number: u64)
-    ensures states { states_of rows.new.items ≡ change_at (states_of rows.old.items) stage
-        (with_failed number) }
-    ensures stages { stages_of rows.new.items ≡ stages_of rows.old.items }
-    ensures ready { ready_of rows.new.items ≡ ready_of rows.old.items }
-    ensures len { length rows.new.items ≡ length rows.old.items }
-{
-    if (stage as usize) < rows.len() {
-        rows[stage as usize].fail_attempt(number);
-    }
-}
-
 /// An executor is lost.
 pub(crate) fn lose_all(rows: &mut Vec<StageRow>, exec: ExecId)
     ensures states { states_of rows.new.items
         ≡ map (without_executor exec) (states_of rows.old.items) }
     ensures stages { stages_of rows.new.items ≡ stages_of rows.old.items }
     ensures ready { ready_of rows.new.items ≡ ready_of rows.old.items }
-    ensures len { length rows.new.items ≡ length rows.old.items }
 {
     lose_each(rows.as_mut_slice(), exec);
 }
@@ -215,6 +142,6 @@ fn lose_each(rows: &mut [StageRow], exec: ExecId)
     ensures { rows.new ≡ map (row_without_executor exec) rows.old }
 {
     for row in rows.iter_mut() {
-        row.lose(exec);
+        row.change(RowChange::All(AttemptChange::Lost(exec)));
     }
 }

@@ -2,15 +2,16 @@
 #![tactic(auto)]
 
 ghost use Rattle.std.specs.Prelude.{◌≡◌, true};
-ghost use Rattle.sc_dag.specs.DagData.{with_state};
 ghost use Rattle.sc_dag.specs.Losses.{after_lost, after_seen};
-ghost use Rattle.sc_dag.specs.Reports.{CompletesMap, FailsStage, completed, has_failed_often, with_failed};
+ghost use Rattle.sc_dag.specs.Reports.{CompletesMap, FailsStage, has_failed_often};
 ghost use Rattle.sc_dag.specs.Rows.{is_submitted};
 ghost use Rattle.sc_dag.specs.Submission.{IsSubmitted, this_stage};
 
+use crate::attempts::AttemptChange;
+use crate::changes::RowChange;
 use crate::dags::Dag;
 use crate::fates::{Submitted, submit};
-use crate::stages::{complete_at, fail_attempt_at, failed_count_at, lose_all};
+use crate::stages::{failed_count_at, lose_all};
 use sc_ids::{ExecId, Generation, StageId};
 use sc_taskset::Verdict;
 
@@ -30,7 +31,7 @@ impl Dag {
         requires { self.old.1 ≡ true }
         ensures { CompletesMap self.old.0 stage self.new.0 }
     {
-        self.complete(stage);
+        self.change(stage, RowChange::Complete);
         self.submit_all(Submitted::Waiting);
     }
 
@@ -41,7 +42,7 @@ impl Dag {
         requires { self.old.1 ≡ true }
         ensures { FailsStage self.old.0 stage number result self.new.0 }
     {
-        self.fail_attempt(stage, number);
+        self.change(stage, RowChange::Own(number, AttemptChange::Failed));
         if self.has_failed_often(stage) {
             return Verdict::Limit;
         }
@@ -68,22 +69,6 @@ impl Dag {
             self.limits,
             submitted,
         );
-    }
-
-    /// A stage is complete.
-    pub(crate) fn complete(&mut self, stage: StageId)
-        ensures state { self.new.0 ≡ with_state self.old.0 stage completed }
-        ensures ready { self.new.1 ≡ self.old.1 }
-    {
-        complete_at(&mut self.rows, stage);
-    }
-
-    /// An attempt of a stage failed.
-    fn fail_attempt(&mut self, stage: StageId, number: u64)
-        ensures state { self.new.0 ≡ with_state self.old.0 stage (with_failed number) }
-        ensures ready { self.new.1 ≡ self.old.1 }
-    {
-        fail_attempt_at(&mut self.rows, stage, number);
     }
 
     /// A fetch has shown this generation of an executor's store: where it is a newer one, the

@@ -24,6 +24,7 @@ use Rattle.sc_core.proofs.LeftLemmas.{Left, left_same, left_then, released_left,
 use Rattle.sc_core.proofs.PlannedLemmas.{counted_more}
 use Rattle.sc_desk.proofs.TrackLemmas.{Sees, ShowsWithin, StaysOrDrops, Tracks, all_released_trust, lost_sees, sees_same, sees_then, tells_track}
 use Rattle.sc_core.proofs.TakeCases.{TakesSo, takes_so}
+use Rattle.sc_dag.specs.DagData.{DagData}
 use Rattle.sc_core.specs.Sides.{IsAside}
 
 -- the shelf of a job that has ended is empty

@@ -21,16 +21,16 @@ returns-in-Waits-clause-states c =
     let rows = c.args.rows.now.items in
     let old = c.index_mut.result.now in
     let stage = at_or (stages_of rows) c.args.k no_stage in
-    view_changed (λ r. r.state) rows c.args.k old c.wait.new.self
+    view_changed (λ r. r.state) rows c.args.k old c.change.new.self
     (fated c.args.fate c.args.tracker.now c.args.limits stage)
     c.requires.there c.index_mut.ensures.value
-    (c.wait.ensures.state
+    (c.change.ensures.state
     ∙ ap (λ f. fated f c.args.tracker.now c.args.limits stage old.state) (sym c.in-Waits.is))
 
 pub returns-in-Waits-clause-stages : goal.returns-in-Waits-clause-stages
 returns-in-Waits-clause-stages c =
     view_kept (λ r. r.stage) c.args.rows.now.items c.args.k c.index_mut.result.now
-    c.wait.new.self c.requires.there c.index_mut.ensures.value c.wait.ensures.stage
+    c.change.new.self c.requires.there c.index_mut.ensures.value c.change.ensures.stage
 
 pub returns-in-Starts-clause-states : goal.returns-in-Starts-clause-states
 returns-in-Starts-clause-states c =

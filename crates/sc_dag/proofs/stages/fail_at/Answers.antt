@@ -9,11 +9,11 @@ use Rattle.sc_dag.proofs.stages.fail_at.Goals as goal
 
 pub returns-then-stage-len-clause-states : goal.returns-then-stage-len-clause-states
 returns-then-stage-len-clause-states c =
-    let v = c.args.rows.now in
-    view_changed (λ r. r.state) v.items c.args.a.stage c.index_mut.result.now c.fail.new.self
-    (changed_set c.args.a.stage_attempt
-    (λ set. after_failure set c.args.a.partition c.args.a.nth c.args.cause))
-    (omega (arith, v.ok.0)) c.index_mut.ensures.value c.fail.ensures.state
+    let a = c.args.a in
+    view_changed (λ r. r.state) c.args.rows.now.items a.stage c.index_mut.result.now
+    c.fail.new.self
+    (changed_set a.stage_attempt (λ set. after_failure set a.partition a.nth c.args.cause))
+    (omega (arith, c.args.rows.now.ok.0)) c.index_mut.ensures.value c.fail.ensures.state
 
 pub returns-then-stage-len-clause-stages : goal.returns-then-stage-len-clause-stages
 returns-then-stage-len-clause-stages c =
@@ -29,11 +29,10 @@ returns-then-stage-len-clause-ready c =
 
 pub returns-else-stage-len-clause-states : goal.returns-else-stage-len-clause-states
 returns-else-stage-len-clause-states c =
-    let v = c.args.rows.now in
-    view_past (λ r. r.state) v.items c.args.a.stage
-    (changed_set c.args.a.stage_attempt
-    (λ set. after_failure set c.args.a.partition c.args.a.nth c.args.cause))
-    (omega (arith, v.ok.0))
+    let a = c.args.a in
+    view_past (λ r. r.state) c.args.rows.now.items a.stage
+    (changed_set a.stage_attempt (λ set. after_failure set a.partition a.nth c.args.cause))
+    (omega (arith, c.args.rows.now.ok.0))
 
 pub returns-else-stage-len-clause-limit : goal.returns-else-stage-len-clause-limit
 returns-else-stage-len-clause-limit c = λ t limits.

@@ -1,4 +1,4 @@
-use Rattle.std.proofs.Common.{arith, [], ap, sym, ◌∙◌}
+use Rattle.std.proofs.Common.{arith, ◌<◌, [], ap, length, sym, ◌∙◌}
 use Rattle.std.proofs.lemmas.Result.{on_err_weaker, on_ok_weaker}
 use Rattle.sc_ids.proofs.ChangeLemmas.{view_changed, view_kept, view_past}
 use Rattle.sc_ids.specs.LimitDefaults.{default_limits}
@@ -20,39 +20,29 @@ give-requires c =
     ap (λ s. may_be_given_in s c.args.exec c.args.a.partition) (sym is)
     ∙ c.requires (tracker_data [] [] 0) default_limits
 
-pub returns-then-stage-len-clause-ok : goal.returns-then-stage-len-clause-ok
-returns-then-stage-len-clause-ok c =
-    let v = c.args.rows.now in
-    on_ok_weaker c.give.result
-    (λ e. view_changed (λ r. r.state) v.items c.args.a.stage c.index_mut.result.now
-    c.give.new.self
-    (changed_newest (λ set. handed set c.args.a.partition c.args.exec c.args.now))
-    (omega (arith, v.ok.0)) c.index_mut.ensures.value e)
-    c.give.ensures.ok
-
-pub returns-then-stage-len-clause-err : goal.returns-then-stage-len-clause-err
-returns-then-stage-len-clause-err c =
-    let v = c.args.rows.now in
-    on_err_weaker c.give.result
-    (λ e. view_kept (λ r. r.state) v.items c.args.a.stage c.index_mut.result.now
-    c.give.new.self (omega (arith, v.ok.0)) c.index_mut.ensures.value e)
-    c.give.ensures.err
-
-pub returns-then-stage-len-clause-stages : goal.returns-then-stage-len-clause-stages
-returns-then-stage-len-clause-stages c =
-    let v = c.args.rows.now in
-    view_kept (λ r. r.stage) v.items c.args.a.stage c.index_mut.result.now c.give.new.self
-    (omega (arith, v.ok.0)) c.index_mut.ensures.value c.give.ensures.stage
-
-pub returns-then-stage-len-clause-ready : goal.returns-then-stage-len-clause-ready
-returns-then-stage-len-clause-ready c =
-    let v = c.args.rows.now in
-    view_kept (λ r. r.is_ready) v.items c.args.a.stage c.index_mut.result.now c.give.new.self
-    (omega (arith, v.ok.0)) c.index_mut.ensures.value c.give.ensures.ready
+pub returns-then-stage-len : goal.returns-then-stage-len
+returns-then-stage-len c =
+    let rows = c.args.rows.now.items in
+    let a = c.args.a in
+    let old = c.index_mut.result.now in
+    let new = c.give.new.self in
+    let there : a.stage < length rows = omega (arith, c.args.rows.now.ok.0) in
+    let at = c.index_mut.ensures.value in
+    let is = c.give.ensures in
+    record {
+      ok = on_ok_weaker c.give.result
+          (λ e. view_changed (λ r. r.state) rows a.stage old new
+          (changed_newest (λ set. handed set a.partition c.args.exec c.args.now)) there at e)
+          is.ok;
+      err = on_err_weaker c.give.result
+          (λ e. view_kept (λ r. r.state) rows a.stage old new there at e) is.err;
+      stages = view_kept (λ r. r.stage) rows a.stage old new there at is.stage;
+      ready = view_kept (λ r. r.is_ready) rows a.stage old new there at is.ready;
+    }
 
 pub returns-else-stage-len-clause-ok : goal.returns-else-stage-len-clause-ok
 returns-else-stage-len-clause-ok c =
-    let v = c.args.rows.now in
-    view_past (λ r. r.state) v.items c.args.a.stage
-    (changed_newest (λ set. handed set c.args.a.partition c.args.exec c.args.now))
-    (omega (arith, v.ok.0))
+    let a = c.args.a in
+    view_past (λ r. r.state) c.args.rows.now.items a.stage
+    (changed_newest (λ set. handed set a.partition c.args.exec c.args.now))
+    (omega (arith, c.args.rows.now.ok.0))

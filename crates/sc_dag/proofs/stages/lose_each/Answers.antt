@@ -9,7 +9,7 @@ pub loop-row-preserved : goal.loop-row-preserved
 loop-row-preserved c =
     let old = get_or c.loop-row.rows c.loop-row.row-index c.row-item.result in
     map_loop (row_without_executor c.args.exec) c.args.rows.now c.loop-row.rows
-    c.loop-row.row-index c.lose.new.self c.row-item.result c.loop-row-test.true
+    c.loop-row.row-index c.change.new.self c.row-item.result c.loop-row-test.true
     c.loop-row.invariant
-    (row_is c.lose.new.self old.stage (without_executor c.args.exec old.state) old.is_ready
-    c.lose.ensures.stage c.lose.ensures.state c.lose.ensures.ready)
+    (row_is c.change.new.self old.stage (without_executor c.args.exec old.state) old.is_ready
+    c.change.ensures.stage c.change.ensures.state c.change.ensures.ready)

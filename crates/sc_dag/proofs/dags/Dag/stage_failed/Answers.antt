@@ -8,5 +8,5 @@ returns c =
     let stage = c.args.stage in
     subst (λ d. (has_failed_often d stage ≡ false)
     × IsSubmitted d (this_stage stage) c.submit_all.new.self.0)
-    c.fail_attempt.ensures.state
+    c.change.ensures.state
     (sym c.has_failed_often.ensures ∙ c.if-has_failed_often.false, c.submit_all.ensures)
