@@ -7,7 +7,6 @@ use Rattle.sc_commit.specs.declared.committers.Ending.TheVariants as endings
 use Rattle.sc_tracker.specs.Trust.{are_lost}
 use Rattle.sc_dag.specs.Losses.{after_lost}
 use Rattle.sc_dag.proofs.Tests.{both_left, clash}
-use Rattle.sc_dag.specs.DagData.{DagData}
 use Rattle.sc_core.specs.CoreData.{CoreData, has_key, is_running_job, job_runs, running_of, shelved, shelved_if, shelved_of, taken_off, to_be_told, with_dag, without_shelved}
 use Rattle.sc_core.specs.Losses.{Loses, LosesOrAborts, all_released, attempts_on, without_executor}
 use Rattle.sc_core.specs.Posts.{Posts, PostsBy, PostsIf, PostsOf, comes_twice, delay_for}
