@@ -4,7 +4,7 @@
 -- The clauses `headline`, `histories`, `ends` and `good` of `run` state these, for all words,
 -- sources and sinks. Its other clauses say what was read and asked for (`Runs`), and that nothing
 -- is passed over which refuses a run (`Exactly`).
-use Rattle.std.specs.Prelude.{ℕ, ◌≡◌, List, length}
+use Rattle.std.specs.Prelude.{◌≡◌, List, length}
 use Rattle.sc_base.specs.Outside.{bytes_taken, with_more}
 use Rattle.sc_context.specs.Histories.{HasDone}
 use Rattle.sc_core.specs.declared.journals.JobHistory.{JobHistory}
