@@ -24,7 +24,7 @@ at_place P (x ∷ xs) zero q all is =
     let same : x ≡ q = cc in subst P same (All-head P x xs all)
 at_place P (x ∷ xs) (suc i) q all is = at_place P xs i q (All-tail P x xs all) is
 
-abbrev Handed : Type 0
+abbrev pub Handed : Type 0
 Handed = Option (Vec (List (List Datum)) Global)
 
 -- what holds of all parents holds of one that is to be made

@@ -7,9 +7,11 @@ pub mod OwnLemmas
 pub mod PartitionLemmas
 pub mod StreamLemmas
 pub mod StageLemmas
+pub mod PutLemmas
 pub mod NodeLemmas
 pub mod MakingLemmas
 pub mod HandedLemmas
 pub mod LeftLemmas
+pub mod InputLemmas
 pub mod SettleLemmas
 pub mod AskingLemmas

@@ -31,12 +31,6 @@ pub opens_then : (sides : List Side) (maps : List (List Datum)) (f : List (List 
     → sides ≡ map Ok maps → of_sides f sides ≡ f maps
 opens_then sides maps f is = ap (of_sides f) is ∙ opened maps f
 
--- sides of which one raises, behind some that give rows
-pub first_raises : (maps : List (List Datum)) (rest : List Side) (r : Raise)
-    (f : List (List Datum) → Side) → of_sides f (map Ok maps ++ Err r ∷ rest) ≡ Err r
-first_raises [] rest r f = refl
-first_raises (rows ∷ maps) rest r f = first_raises maps rest r (λ more. f (rows ∷ more))
-
 -- the rows of a bucket of each map partition are those that are read
 pub dealt_read : (dealing : Dealing) (p m : ℕ) (maps : List (List Datum))
     (ds : List (List (List Datum))) → AreDealt dealing m maps ds

@@ -1,5 +1,6 @@
 pub mod Keeping
 pub mod Stages
+pub mod Inputs
 pub mod Reading
 pub mod Evaluations
 pub mod Gathering

@@ -16,7 +16,7 @@ use Rattle.sc_compute.specs.Stages.{AreDealt, Opens, local_count, node_at}
 use Rattle.sc_compute.specs.declared.stages.Input.{Input}
 use Rattle.sc_compute.specs.declared.stages.Input.TheVariants as inputs
 use Rattle.sc_compute.specs.declared.shuffles.ReadFrom.{ReadFrom}
-use Rattle.sc_compute.specs.declared.shuffles.ReadFrom.TheVariants.{Own, Dealt, Raised}
+use Rattle.sc_compute.specs.declared.shuffles.ReadFrom.TheVariants.{Own, Dealt}
 
 -- the partitions that are read by a dependency as they are; what goes through a shuffle isn't
 abbrev pub read_directly : (ℕ → ℕ) → ℕ → Dependency → List PlaceData
@@ -36,7 +36,6 @@ direct_reads work k p =
 abbrev pub own_place : Input → ℕ → ℕ → List PlaceData
 own_place inputs.Own parent p = place parent p ∷ []
 own_place (inputs.Dealt dealt) parent p = []
-own_place (inputs.Raised r) parent p = []
 
 -- the same by the streams that were read
 abbrev pub own_stream : WorkData → Input → ℕ → ℕ → List Stream
@@ -50,20 +49,17 @@ IsReadFrom kind dealing n (Own s) streams = (streams ≡ s.now ∷ []) × (deali
 IsReadFrom kind dealing n (Dealt dealt) streams =
     (maps : List (List Datum)) × Opens (map (map_side kind) streams) (Ok maps)
     × AreDealt dealing 0 maps dealt.now
-IsReadFrom kind dealing n (Raised r) streams = Opens (map (map_side kind) streams) (Err r)
 
 -- where an input is read as it is, there is a stream
 abbrev pub HasOwn : Input → Option Stream → Type 0
 HasOwn inputs.Own (Some s) = Unit {0}
 HasOwn inputs.Own None = ⊥
 HasOwn (inputs.Dealt dealt) own = Unit {0}
-HasOwn (inputs.Raised r) own = Unit {0}
 
 -- what is read through an input
 abbrev pub ReadsFrom : Input → Option Stream → ReadFrom → Type 0
 ReadsFrom inputs.Own own (Own s) = own ≡ Some s.now
 ReadsFrom (inputs.Dealt dealt) own (Dealt lent) = lent.now ≡ dealt.items
-ReadsFrom (inputs.Raised r) own (Raised q) = q ≡ r
 ReadsFrom input own from = ⊥
 
 -- what was read of bucket p: its rows in the order of the map partitions, or the first raise of any

@@ -6,8 +6,6 @@ use Rattle.std.specs.HashMap.{get}
 use Rattle.std.specs.List.{All}
 use Rattle.std.specs.Option.{option_to_list}
 use Rattle.sc_base.specs.Lists.{at_or}
-use Rattle.sc_base.specs.declared.refusals.OrMemory.{OrMemory}
-use Rattle.sc_base.specs.declared.refusals.OrMemory.TheVariants.{Fault, OutOfMemory}
 use Rattle.sc_value.specs.Datum.{Datum}
 use Rattle.sc_value.specs.Keys.{KeyData}
 use Rattle.sc_expr.specs.declared.exprs.Raise.{Raise}
@@ -44,13 +42,6 @@ abbrev pub Opens : List Side → Result (List (List Datum)) Raise → Type 0
 Opens sides (Ok maps) = sides ≡ map Ok maps
 Opens sides (Err r) = (f : List (List Datum) → Side) → of_sides f sides ≡ Err r
 
--- the same of a call's answer
-abbrev pub OpensAs :
-    List Side → Result (Vec (List Datum) Global) (OrMemory Raise) → Type 0
-OpensAs sides (Ok maps) = Opens sides (Ok maps.items)
-OpensAs sides (Err (Fault r)) = Opens sides (Err r)
-OpensAs sides (Err OutOfMemory) = Unit {0}
-
 -- the rows of the map partitions, of which the first has a number, by bucket
 abbrev pub AreDealt : Dealing → ℕ → List (List Datum) → List (List (List Datum)) → Type 0
 AreDealt dealing m [] [] = Unit {0}
@@ -68,8 +59,6 @@ IsInput work kind dealing wanted parent inputs.Own = lies_so work wanted parent 
 IsInput work kind dealing wanted parent (inputs.Dealt dealt) =
     (maps : List (List Datum)) × (lies_so work wanted parent ≡ false)
     × Opens (sides_of work kind parent) (Ok maps) × AreDealt dealing 0 maps dealt.items
-IsInput work kind dealing wanted parent (inputs.Raised r) =
-    (lies_so work wanted parent ≡ false) × Opens (sides_of work kind parent) (Err r)
 
 -- what the sides of a node are to be read from
 abbrev pub AreSides : WorkData → NodeData → Sides → Type 0
@@ -160,15 +149,30 @@ made_in stages = get nat_eq stages.sides
 abbrev pub handed_in : ShuffleInputs → ℕ → ℕ → Option (Vec (List (List Datum)) Global)
 handed_in stages node side = get same_place stages.handed (node, side)
 
+-- a side is read from what was handed in for it, and where nothing was from its parent alone
+abbrev pub IsReadOf : Option (Vec (List (List Datum)) Global) → Input → Type 0
+IsReadOf None inputs.Own = Unit {0}
+IsReadOf (Some outputs) (inputs.Dealt dealt) = dealt.items ≡ outputs.items
+IsReadOf handed input = ⊥
+
+-- the same of the sides of a node
+abbrev pub AreReadOf : (ℕ → Option (Vec (List (List Datum)) Global)) → Sides → Type 0
+AreReadOf handed Narrow = Unit {0}
+AreReadOf handed (One input) = IsReadOf (handed 0) input
+AreReadOf handed (Two first second) =
+    IsReadOf (handed 0) first × IsReadOf (handed 1) second
+
 -- the bounds of a node that were told
 abbrev pub bounds_told : ShuffleInputs → ℕ → Option (List KeyData)
 bounds_told stages = get nat_eq stages.bounds
 
--- all that was made for the nodes of a work is right, and so is what was handed in and told
+-- all that was made for the nodes of a work is right, and so is what was handed in and told;
+-- shuffles are read from what was handed in for them
 pub record AreRight (work : WorkData) (stages : ShuffleInputs) : Type 0 where
   pub counts : length stages.counts.items ≡ length work.script.nodes
   pub each : (k : ℕ) → IfSome (made_in stages k)
       (IsMadeRight work stages.counts.items (made_in stages) k)
+  pub read : (k : ℕ) → IfSome (made_in stages k) (AreReadOf (handed_in stages k))
   pub handed : (node side : ℕ) → IfSome (handed_in stages node side)
       (λ outputs. AreOutputs work node side outputs.items)
   pub told : (k : ℕ) → IfSome (bounds_told stages k) (λ bounds. bounds ≡ bounds_at work k)

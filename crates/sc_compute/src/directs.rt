@@ -98,7 +98,7 @@ fn push_own(
             places.push(Place { node, partition })?;
             Ok(())
         }
-        Input::Dealt(_) | Input::Raised(_) => Ok(()),
+        Input::Dealt(_) => Ok(()),
     }
 }
 
@@ -162,6 +162,5 @@ fn read_from<'a>(input: &'a Input, own: Option<&'a Stream>) -> ReadFrom<'a>
             None => unreachable!(),
         },
         Input::Dealt(dealt) => ReadFrom::Dealt(dealt),
-        Input::Raised(raise) => ReadFrom::Raised(*raise),
     }
 }

@@ -1,10 +1,11 @@
 //! What is handed in to the nodes of a work: what the tasks of a shuffle left, and bounds.
 #![tactic(auto)]
 
-ghost use Rattle.std.specs.Prelude.{◌≡◌, ◌<◌, IfOk, OnOk, ℕ, length, option_map};
+ghost use Rattle.std.specs.Prelude.{◌≡◌, IfOk, OnErr, OnOk, ℕ, option_map};
 ghost use Rattle.sc_lineage.specs.Views.{node_data_of, shuffling_data_of};
 ghost use Rattle.sc_lineage.specs.NodeData.{shuffle_node};
-ghost use Rattle.sc_compute.specs.Stages.{AreOutputs, AreRight, HasBounds, HasMade, HasOutputs, bounds_at, bounds_told, handed_in, left_parent, node_at, unless_handed};
+ghost use Rattle.sc_compute.specs.Inputs.{HandsIn, IsSame, IsUnmade, TellsBounds};
+ghost use Rattle.sc_compute.specs.Stages.{AreOutputs, AreRight, HasBounds, HasMade, HasOutputs, bounds_at, handed_in, left_parent, node_at, unless_handed};
 
 use crate::parents::{Parents, parents_of};
 use crate::stages::ShuffleInputs;
@@ -23,8 +24,9 @@ pub struct SideId {
 }
 
 impl ShuffleInputs {
-    /// Takes in what the tasks of a side left, one of each map partition in order. What is behind
-    /// the side is then neither made nor computed.
+    /// Takes in what the tasks of a side left, one of each map partition in order, before anything
+    /// is made. The side is read from that alone, and nothing behind it is made or computed. A
+    /// refused call changes nothing.
     pub fn hand_in(
         &mut self,
         work: &Work,
@@ -33,16 +35,20 @@ impl ShuffleInputs {
         outputs: Vec<MapOutput>,
     ) -> Result<(), AllocError>
         requires right { AreRight work.now self.old }
+        requires unmade { IsUnmade self.old }
         requires outputs { AreOutputs work.now node side outputs.items }
         ensures right { AreRight work.now self.new }
+        ensures unmade { IsUnmade self.new }
         ensures handed { OnOk result (HasOutputs self.new node side) }
-        ensures kept { (k : ℕ) → HasMade self.old k → HasMade self.new k }
+        ensures hands_in { OnOk result (HandsIn node side outputs self.old self.new) }
+        ensures refused { OnErr result (IsSame self.old self.new) }
     {
         self.handed.insert((node, side), outputs)?;
         Ok(())
     }
 
-    /// Takes in the bounds of a node, by which the tasks of its side deal their rows out.
+    /// Takes in the bounds of a node, by which the tasks of its side deal their rows out. A refused
+    /// call changes nothing.
     pub fn tell_bounds(
         &mut self,
         work: &Work,
@@ -53,7 +59,9 @@ impl ShuffleInputs {
         requires bounds { bounds ≡ bounds_at work.now node }
         ensures right { AreRight work.now self.new }
         ensures told { OnOk result (HasBounds self.new node (node_at work.now node)) }
+        ensures tells { OnOk result (TellsBounds node bounds self.old self.new) }
         ensures kept { (k : ℕ) → HasMade self.old k → HasMade self.new k }
+        ensures refused { OnErr result (IsSame self.old self.new) }
     {
         self.bounds.insert(node, bounds)?;
         Ok(())

@@ -1,16 +1,18 @@
-//! What a task computes, and what an action gives, on the thread that calls.
+//! What a task computes from its blocks, and what an action gives, on the thread that calls.
 //!
-//! [`compute`] leaves what a [`TaskTarget`] is to have computed, which is `own_value` of `sc_lineage`:
-//! a map side by bucket, or the result of a partition. It follows what the partition reads down to
-//! the sources and to shuffles, computes each partition that is needed once, and lets a stream go
-//! as soon as nothing is left to read it. Streams that several dependencies read are kept in
-//! between.
+//! [`ShuffleInputs`] holds what a task has for the nodes of a work. First what other tasks left of
+//! each shuffle that it reads is handed in, by [`ShuffleInputs::hand_in`]. Then
+//! [`ShuffleInputs::prepare`] finds for a node, and for those that it takes in, how many partitions
+//! each has and what its shuffles are read from: what was handed in. No shuffle is made here, and
+//! nothing behind one. The bounds of a sort are told by [`ShuffleInputs::tell_bounds`].
 //!
-//! [`ShuffleInputs`] holds what was made for the nodes of a work so far: how many partitions each has, and
-//! what went into its shuffles, by bucket, each of which is computed once. A task is given what
-//! other tasks left by [`ShuffleInputs::hand_in`], and the bounds of a sort by [`ShuffleInputs::tell_bounds`].
-//! [`evaluate`] makes what an action's node needs, computes its partitions one after another and
-//! puts their results together.
+//! [`compute`] leaves what a [`TaskTarget`] is to have computed, which is `own_value` of
+//! `sc_lineage`: a map side by bucket, or the result of a partition. It follows what the partition
+//! reads down to the sources and to what was handed in, computes each partition that is needed
+//! once, and lets a stream go as soon as nothing is left to read it. Streams that several
+//! dependencies read are kept in between.
+//!
+//! [`settle`] puts the results of an action together, as the driver does.
 //!
 //! It chooses an order and nothing else: what a node makes of its inputs is done by `sc_ops` and
 //! `sc_combine`. Another kind of task is a further variant of [`TaskTarget`].
@@ -37,7 +39,7 @@ mod targets;
 
 pub use asking::Asking;
 pub use caching::CachedPart;
-pub use evaluation::{Evaluated, evaluate};
+pub use evaluation::Evaluated;
 pub use settling::{bounds_of_results, settle};
 pub use stages::ShuffleInputs;
 pub use targets::{TaskOutput, TaskTarget, compute, compute_cached, node_of};

@@ -2,9 +2,7 @@
 #![tactic(auto)]
 
 ghost use Rattle.std.specs.Prelude.{◌≡◌, ◌<◌, IfOk, length};
-ghost use Rattle.sc_base.specs.Answers.{Answers};
 ghost use Rattle.sc_combine.specs.Deals.{IsDealt};
-ghost use Rattle.sc_lineage.specs.Meaning.{local_stream};
 ghost use Rattle.sc_lineage.specs.Shuffles.{dealing_of, map_side as map_side_of, stream_of_side};
 ghost use Rattle.sc_lineage.specs.Targets.{map_target, own_value};
 ghost use Rattle.sc_lineage.specs.Views.{partitioner_data_of, shuffling_data_of};
@@ -16,13 +14,12 @@ ghost use Rattle.sc_compute.specs.Tasks.{IsSideOf, LeavesSide};
 use crate::caching::Caching;
 use crate::handing::SideId;
 use crate::nodes::node_in;
-use crate::partitions::{cached_stream, partition_stream};
+use crate::partitions::cached_stream;
 use crate::stages::ShuffleInputs;
 use crate::targets::TaskOutput;
 use sc_base::OrMemory;
 use sc_columns::Rows;
 use sc_combine::{dealt_by_hash, dealt_by_range, dealt_in_turn, map_side};
-use sc_expr::Raise;
 use sc_lineage::{Node, NodeId, Partitioner, Place, Shuffling, Stream, Work};
 use sc_part::Bounds;
 use sc_shuffle::MapOutput;
@@ -106,31 +103,8 @@ fn output_of(
     }
 }
 
-/// What goes into a shuffle from one map partition.
-///
-/// # Errors
-///
-/// The first raise, unless memory runs out.
-pub fn mapped_rows(
-    alloc: Global,
-    work: &Work,
-    stages: &ShuffleInputs,
-    kind: &Shuffling,
-    from: Place,
-) -> Result<Rows, OrMemory<Raise>>
-    requires node { from.node < length work.now.script.nodes }
-    requires partition { from.partition < local_count work.now from.node }
-    requires right { AreRight work.now stages.now }
-    requires made { HasMade stages.now from.node }
-    ensures { Answers (λ rows. rows) (λ r. r) result (map_side_of (shuffling_data_of kind.now)
-        (local_stream work.now from.node from.partition)) }
-{
-    let stream = partition_stream(alloc, work, stages, from)?;
-    map_side(alloc, kind, &stream)
-}
-
 /// The rows that go into a shuffle from one map partition, by bucket.
-pub fn deal_one(
+fn deal_one(
     alloc: Global,
     kind: &Shuffling,
     n: u32,

@@ -17,25 +17,7 @@ use sc_lineage::{Place, Stream, Work};
 use std::alloc::{AllocError, Global};
 
 /// The stream of a partition of a node for which all was made, for which each partition that it
-/// reads is computed once.
-pub fn partition_stream(
-    alloc: Global,
-    work: &Work,
-    stages: &ShuffleInputs,
-    at: Place,
-) -> Result<Stream, AllocError>
-    requires node { at.node < length work.now.script.nodes }
-    requires partition { at.partition < local_count work.now at.node }
-    requires right { AreRight work.now stages.now }
-    requires made { HasMade stages.now at.node }
-    ensures { IfOk result (λ s. s ≡ local_stream work.now at.node at.partition) }
-{
-    let none = Vec::new(alloc);
-    let mut caching = Caching::unnoted(alloc, &none);
-    cached_stream(alloc, work, stages, &mut caching, at)
-}
-
-/// The same, where some partitions are known that needn't be computed.
+/// reads is computed once, and those that are known aren't computed.
 pub fn cached_stream(
     alloc: Global,
     work: &Work,

@@ -15,10 +15,9 @@ ghost use Rattle.sc_compute.specs.Stages.{bounds_at, node_at};
 
 use crate::evaluation::Evaluated;
 use crate::gathered::Gathered;
-use crate::making::whole_streams;
 use sc_columns::Rows;
 use sc_combine::bounds_between;
-use sc_lineage::Action;
+use sc_lineage::{Action, Stream};
 use sc_part::Bounds;
 use std::alloc::{AllocError, Global};
 
@@ -64,4 +63,18 @@ pub fn bounds_of_results(alloc: Global, n: u32, results: &[Rows]) -> Result<Boun
 {
     let streams = whole_streams(alloc, results)?;
     bounds_between(alloc, &streams, n)
+}
+
+/// Rows as streams that don't raise.
+fn whole_streams(alloc: Global, sides: &[Rows]) -> Result<Vec<Stream>, AllocError>
+    ensures { IfOk result (λ v. v.items ≡ map whole_stream sides.now) }
+{
+    let mut streams = Vec::with_capacity(alloc, sides.len())?;
+    for side in sides {
+        streams.push(Stream {
+            rows: side.share()?,
+            raise: None,
+        })?;
+    }
+    Ok(streams)
 }

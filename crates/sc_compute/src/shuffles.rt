@@ -23,8 +23,6 @@ pub enum ReadFrom<'a> {
     Own(&'a Stream),
     /// What went into the shuffle from each map partition, by bucket.
     Dealt(&'a [MapOutput]),
-    /// The first raise of what went into the shuffle.
-    Raised(Raise),
 }
 
 /// Partition `p` of `n` of a shuffle of one parent.
@@ -121,7 +119,6 @@ fn bucket_rows(
     match from {
         ReadFrom::Own(stream) => own_rows(alloc, kind, n, stream, p),
         ReadFrom::Dealt(dealt) => Ok(rows_of_bucket(alloc, dealt, p as usize)?),
-        ReadFrom::Raised(raise) => Err(OrMemory::Fault(raise)),
     }
 }
 

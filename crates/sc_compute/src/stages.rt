@@ -1,12 +1,12 @@
 //! What is made for the nodes of a work before their partitions can be computed.
 #![tactic(auto)]
 
-ghost use Rattle.std.specs.Prelude.{◌≡◌, ◌<◌, All, IfOk, OnOk, ℕ, length, option_map};
-ghost use Rattle.sc_compute.specs.Stages.{AreRight, AreSides, AtDirectParents, HasMade, local_count, made_in, node_at, parents_left};
+ghost use Rattle.std.specs.Prelude.{◌≡◌, ◌<◌, All, IfOk, OnOk, length, option_map};
+ghost use Rattle.sc_compute.specs.Inputs.{Grows, HasInputs, HasSides, IsUnmade, Makes};
+ghost use Rattle.sc_compute.specs.Stages.{AreReadOf, AreRight, AreSides, AtDirectParents, HasMade, handed_in, local_count, made_in, node_at, parents_left};
 
 use crate::making::make;
 use crate::nodes::node_in;
-use sc_expr::Raise;
 use sc_lineage::{NodeId, Work};
 use sc_part::Bounds;
 use sc_shuffle::MapOutput;
@@ -18,10 +18,9 @@ use std::collections::HashMap;
 pub enum Input {
     /// Of its partition of the same number alone, since the rows lie so already.
     Own,
-    /// Of each of its partitions what went into the shuffle, by bucket.
+    /// What the tasks of the side left, which was handed in: of each of its partitions what went
+    /// into the shuffle, by bucket.
     Dealt(Vec<MapOutput>),
-    /// The first raise of what went into the shuffle.
-    Raised(Raise),
 }
 
 /// What the sides of a node are read from.
@@ -35,9 +34,9 @@ pub enum Sides {
     Two(Input, Input),
 }
 
-/// What was made for the nodes of a work so far: how many partitions each has, and what went into
-/// its shuffles, each of which is computed once, whatever reads it. What other tasks left of a side
-/// can be handed in, and the bounds of a sort told.
+/// What was made for the nodes of a work so far: how many partitions each has, and what its
+/// shuffles are read from. That is what the tasks of a side left and was handed in, before anything
+/// is made, and nothing else. The bounds of a sort can be told.
 #[derive(Drop)]
 pub struct ShuffleInputs {
     /// By node; 0 where nothing was made.
@@ -53,7 +52,8 @@ pub struct ShuffleInputs {
 impl ShuffleInputs {
     /// Nothing yet.
     pub fn new(alloc: Global, work: &Work) -> Result<ShuffleInputs, AllocError>
-        ensures { IfOk result (AreRight work.now) }
+        ensures right { IfOk result (AreRight work.now) }
+        ensures unmade { IfOk result IsUnmade }
     {
         Ok(ShuffleInputs {
             counts: vec![in alloc; 0; work.script().nodes().len()]?,
@@ -77,16 +77,16 @@ impl ShuffleInputs {
         self.sides.get(&node)
     }
 
-    /// Makes what the partitions of a node need: its number of partitions and its shuffles, and the
-    /// same for all nodes that it reads, but for what is behind sides that were handed in. What was
-    /// made before stays.
+    /// Makes what the partitions of a node need: how many it has and what its shuffles are read
+    /// from, and the same for all nodes that it takes in, and for no other. For each shuffle among
+    /// them the outputs were handed in. A refused call may have made some of it.
     pub fn prepare(&mut self, alloc: Global, work: &Work, node: NodeId) -> Result<(), AllocError>
         requires known { node < length work.now.script.nodes }
         requires right { AreRight work.now self.old }
+        requires inputs { HasInputs work.now self.old node }
         ensures right { AreRight work.now self.new }
         ensures made { OnOk result (HasMade self.new node) }
-        ensures kept { (k : ℕ) → HasMade self.old k → HasMade self.new k }
-        ensures handed { self.new.handed ≡ self.old.handed }
+        ensures grows { Grows work.now node self.old self.new }
     {
         if self.sides.contains_key(&node) {
             return Ok(());
@@ -108,10 +108,10 @@ impl ShuffleInputs {
         requires right { AreRight work.now self.old }
         requires parents { All (HasMade self.old)
             (parents_left self.old node (node_at work.now node)) }
+        requires sides { HasSides work.now self.old node }
         ensures right { AreRight work.now self.new }
         ensures made { OnOk result (HasMade self.new node) }
-        ensures kept { (k : ℕ) → HasMade self.old k → HasMade self.new k }
-        ensures handed { self.new.handed ≡ self.old.handed }
+        ensures makes { Makes node self.old self.new }
     {
         let (count, sides) = make(alloc, work, self, node)?;
         self.put(work, node, count, sides)
@@ -124,10 +124,10 @@ impl ShuffleInputs {
         requires parents { AtDirectParents work.now (HasMade self.old) node }
         requires count { count ≡ local_count work.now node }
         requires are { AreSides work.now (node_at work.now node) sides }
+        requires read { AreReadOf (handed_in self.old node) sides }
         ensures right { AreRight work.now self.new }
         ensures made { OnOk result (HasMade self.new node) }
-        ensures kept { (k : ℕ) → HasMade self.old k → HasMade self.new k }
-        ensures handed { self.new.handed ≡ self.old.handed }
+        ensures makes { Makes node self.old self.new }
     {
         self.sides.insert(node, sides)?;
         self.counts[node as usize] = count;

@@ -4,16 +4,15 @@
 ghost use Rattle.std.specs.Prelude.{◌≡◌, All, IfOk};
 ghost use Rattle.sc_lineage.specs.Actions.{result_of};
 ghost use Rattle.sc_lineage.specs.ScriptData.{node_of_action};
-ghost use Rattle.sc_lineage.specs.Targets.{own_value, result_target};
 ghost use Rattle.sc_lineage.specs.Views.{action_data_of};
 ghost use Rattle.sc_compute.specs.Caching.{AreOwn, IsCachedPart, IsOwnPart};
-ghost use Rattle.sc_compute.specs.Stages.{AreRight, HasMade};
+ghost use Rattle.sc_compute.specs.Stages.{AreRight};
 ghost use Rattle.sc_compute.specs.Tasks.{HasAll, IsTargetOf, Leaves, target_data_of};
 
 use crate::caching::{CachedPart, Caching};
 use crate::handing::SideId;
 use crate::mapping::map_output;
-use crate::partitions::{cached_stream, partition_stream};
+use crate::partitions::cached_stream;
 use crate::stages::ShuffleInputs;
 use sc_expr::Raise;
 use sc_lineage::{Action, NodeId, Place, Stream, Work};
@@ -118,25 +117,6 @@ fn left_by(
             Ok(TaskOutput::Result(result(alloc, action, stream)?))
         }
     }
-}
-
-/// The result of a partition for an action, where all was made for its node.
-pub(crate) fn action_result(
-    alloc: Global,
-    work: &Work,
-    stages: &ShuffleInputs,
-    action: &Action,
-    partition: u32,
-) -> Result<Stream, AllocError>
-    requires target { IsTargetOf work.now (result_target (action_data_of action.now) partition) }
-    requires right { AreRight work.now stages.now }
-    requires made { HasMade stages.now (node_of_action (action_data_of action.now)) }
-    ensures { IfOk result (λ s. s
-        ≡ own_value work.now (result_target (action_data_of action.now) partition)) }
-{
-    let node = node_of(action);
-    let stream = partition_stream(alloc, work, stages, Place { node, partition })?;
-    result(alloc, action, stream)
 }
 
 /// The node of an action.

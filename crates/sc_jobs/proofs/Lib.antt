@@ -1,4 +1,5 @@
 pub mod NodeLemmas
+pub mod InputLemmas
 pub mod StageLemmas
 pub mod PlanLemmas
 pub mod KnownLemmas

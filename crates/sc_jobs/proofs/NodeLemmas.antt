@@ -13,7 +13,7 @@ use Rattle.sc_lineage.specs.ScriptData.{WorkData, IsSoundScript, collect_action,
 use Rattle.sc_lineage.proofs.MeaningLemmas.{reads_before}
 use Rattle.sc_lineage.proofs.PlaceLemmas.{at_or-found, at_or-get_or}
 use Rattle.sc_stagecut.specs.Carrying.{is_sort}
-use Rattle.sc_stagecut.specs.Numbering.{is_shuffle, is_some_shuffle, mapped_node, parent_or}
+use Rattle.sc_stagecut.specs.Numbering.{is_shuffle, is_some_shuffle, mapped_node, parent_or, side_of}
 use Rattle.sc_stagecut.specs.Reaching.{dependencies_among, is_shuffled}
 use Rattle.sc_compute.specs.Stages.{GoesThrough, mapped_in, node_at}
 use Rattle.sc_compute.specs.Tasks.{IsSideOf}
@@ -77,6 +77,26 @@ goes_through work (meet_node kind left right n) zero h = not_skipped _ _ _ h
 goes_through work (meet_node kind left right n) (suc zero) h = not_skipped _ _ _ h
 goes_through work (meet_node kind left right n) (suc (suc side)) h = absurd (false≢true h)
 
+-- a side that goes through is a shuffle
+shuffled_so : (skipped : Bool) (parent : ℕ) (by : PartitionerData) → skipped ≡ false
+    → is_shuffled (if skipped then one_to_one parent else shuffled parent by) ≡ true
+shuffled_so true parent by isnt = absurd (false≢true (sym isnt))
+shuffled_so false parent by isnt = refl
+
+pub through_shuffle : (work : WorkData) (node : NodeData) (side : ℕ) → GoesThrough work node side
+    → is_some_shuffle (slice_get (dependencies_by (known_of work) node) side) ≡ true
+through_shuffle work (text_node name n) side through = absurd through
+through_shuffle work (parallelize_node rows n) side through = absurd through
+through_shuffle work (each_node kind parent e) side through = absurd through
+through_shuffle work (union_node left right) side through = absurd through
+through_shuffle work (coalesce_node parent n) side through = absurd through
+through_shuffle work (cache_node parent) side through = absurd through
+through_shuffle work (shuffle_node kind parent n) zero through = shuffled_so _ _ _ through
+through_shuffle work (shuffle_node kind parent n) (suc side) through = absurd through
+through_shuffle work (meet_node kind left right n) zero through = shuffled_so _ _ _ through
+through_shuffle work (meet_node kind left right n) (suc zero) through = shuffled_so _ _ _ through
+through_shuffle work (meet_node kind left right n) (suc (suc side)) through = absurd through
+
 -- the parent of a dependency is that of the side, whether it is skipped or not
 same_parent : (known : List PartitionerData) (d : Dependency)
     → parent_of (unless_parted known d) ≡ parent_of d
@@ -96,6 +116,13 @@ same_side known [] side = refl
 same_side known (d ∷ ds) zero = same_parent known d
 same_side known (d ∷ ds) (suc side) = same_side known ds side
 
+-- where there is no node
+missing : (xs : List NodeData) (i : ℕ) → slice_get xs i ≡ None
+    → at_or xs i (cache_node 0) ≡ cache_node 0
+missing [] i is = refl
+missing (x ∷ xs) zero is = cc
+missing (x ∷ xs) (suc i) is = missing xs i is
+
 -- The shuffles of a work.
 module _ (work : WorkData) where
   -- the node whose partitions the map tasks of a shuffle take
@@ -106,12 +133,6 @@ module _ (work : WorkData) where
       nothing : (side : ℕ) → at_or (zero ∷ []) side zero ≡ zero
       nothing zero = refl
       nothing (suc side) = refl
-
-      missing : (xs : List NodeData) (i : ℕ) → slice_get xs i ≡ None
-          → at_or xs i (cache_node 0) ≡ cache_node 0
-      missing [] i is = refl
-      missing (x ∷ xs) zero is = cc
-      missing (x ∷ xs) (suc i) is = missing xs i is
 
       at : (node : Option NodeData) → slice_get work.script.nodes s.node ≡ node
           → parent_or (slice_get (dependencies_among (known_of work) node) s.side)
@@ -141,6 +162,23 @@ module _ (work : WorkData) where
             side = subst Side same (side_is (known_of work) node s.side shuffle);
             through = subst Through same (goes_through work node s.side shuffle);
           }
+
+  -- a side that goes through is one
+  pub shuffle_of_through : (k side : ℕ) → GoesThrough work (node_at work k) side
+      → is_shuffle work.script.nodes (side_of k side) ≡ true
+  shuffle_of_through k side through = at (slice_get work.script.nodes k) refl
+    where
+      none : (node : NodeData) → node ≡ cache_node 0 → GoesThrough work node side → ⊥
+      none node is goes =
+          let P : NodeData → Type 0 = λ n. GoesThrough work n side in subst P is goes
+
+      at : (node : Option NodeData) → slice_get work.script.nodes k ≡ node
+          → is_some_shuffle (slice_get (dependencies_among (known_of work) node) side) ≡ true
+      at None is = absurd (none (node_at work k) (missing work.script.nodes k is) through)
+      at (Some node) is =
+          let P : NodeData → Type 0 = λ n. GoesThrough work n side in
+          through_shuffle work node side
+          (subst P (at_or-found work.script.nodes k node (cache_node 0) is) through)
 
 -- a node that is a sort
 pub sort_is : (node : NodeData) → is_sort node ≡ true

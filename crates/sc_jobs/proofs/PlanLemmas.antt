@@ -26,6 +26,7 @@ use Rattle.sc_compute.specs.Stages.{local_count}
 use Rattle.sc_jobs.specs.JobData.{IsGoal, goal_node, job_data}
 use Rattle.sc_jobs.specs.Plans.{AreTasksFor, IsJobFor, IsStageFor}
 use Rattle.sc_jobs.specs.declared.goals.Goal.{Goal}
+use Rattle.sc_jobs.proofs.InputLemmas.{read_inputs}
 use Rattle.sc_jobs.proofs.NodeLemmas.{goal_known, is_shuffle_of, mapped_same}
 
 -- what holds of each two items of a list holds of each two beside them
@@ -173,4 +174,9 @@ module _ (work : WorkData) (sound : IsSoundScript work.script) (carried : Carrie
   }
 
   pub planned : IsJobFor work (job_data goal graph)
-  planned = record { goal = is; job = is_job; stages = stages }
+  planned = record {
+    goal = is;
+    job = is_job;
+    stages = stages;
+    inputs = read_inputs work carried goal graph lawful stages;
+  }

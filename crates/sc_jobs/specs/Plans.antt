@@ -11,6 +11,7 @@ use Rattle.sc_stagecut.specs.Carrying.{is_sort}
 use Rattle.sc_stagecut.specs.Numbering.{side_of}
 use Rattle.sc_dag.specs.Openings.{IsJob, number_behind}
 use Rattle.sc_dag.specs.Submission.{is_map}
+use Rattle.sc_compute.specs.Inputs.{TakesIn}
 use Rattle.sc_compute.specs.Stages.{GoesThrough, bounds_at, local_count, mapped_in, node_at}
 use Rattle.sc_compute.specs.Tasks.{IsSideOf}
 use Rattle.sc_jobs.specs.JobData.{IsGoal, JobData, goal_node}
@@ -36,6 +37,23 @@ AreTasksFor work goal (targets.Result node) tasks =
 abbrev pub IsStageFor : WorkData → Goal → StageData → Type 0
 IsStageFor work goal stage = AreTasksFor work goal stage.target stage.tasks
 
+-- the node whose partitions the tasks of a stage take
+abbrev pub node_taken_by : WorkData → Target → ℕ
+node_taken_by work (targets.Map s) = mapped_in (node_at work s.node) s.side
+node_taken_by work (targets.Result node) = node
+
+-- a stage has the map stage of a side of a node among its parents
+pub record ReadsSide (graph : List StageData) (stage : StageData) (node side : ℕ) : Type 0 where
+  pub parent : StageData
+  pub there : Contains graph parent
+  pub read : Contains stage.parents parent.id
+  pub makes : parent.target ≡ targets.Map (side_of node side)
+
+-- a stage has the map stage of each shuffle that its tasks take in among its parents
+abbrev pub ReadsInputs : WorkData → List StageData → StageData → Type 0
+ReadsInputs work graph stage = (k side : ℕ) → TakesIn work (node_taken_by work stage.target) k
+    → GoesThrough work (node_at work k) side → ReadsSide graph stage k side
+
 -- what every job keeps
 pub record IsJobFor (work : WorkData) (it : JobData) : Type 0 where
   -- it is for something that is there
@@ -44,6 +62,8 @@ pub record IsJobFor (work : WorkData) (it : JobData) : Type 0 where
   pub job : IsJob it.graph
   -- and make what it is for
   pub stages : All (IsStageFor work it.goal) it.graph
+  -- which read all that their tasks need
+  pub inputs : All (ReadsInputs work it.graph) it.graph
 
 -- a graph has the map stage of a side of a node
 pub record MapsInto (graph : List StageData) (node : ℕ) : Type 0 where

@@ -2,4 +2,5 @@ pub mod ReadLemmas
 pub mod NextLemmas
 pub mod LeavingLemmas
 pub mod HandingLemmas
+pub mod InputLemmas
 pub mod ListLemmas

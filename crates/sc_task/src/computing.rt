@@ -2,7 +2,8 @@
 #![tactic(auto)]
 
 ghost use Rattle.std.specs.Prelude.{◌≡◌, ◌<◌, IfOk, OnErr, OnOk, Some, false, ℕ, length};
-ghost use Rattle.sc_compute.specs.Stages.{AreRight, HasBounds, HasMade, mapped_in, node_at};
+ghost use Rattle.sc_compute.specs.Inputs.{HasInputs, IsUnmade};
+ghost use Rattle.sc_compute.specs.Stages.{AreRight, HasBounds, HasMade, HasOutputs, mapped_in, node_at};
 ghost use Rattle.sc_compute.specs.Tasks.{HasAll, IsSideOf, IsTargetOf, Leaves, target_data_of};
 ghost use Rattle.sc_jobs.specs.JobData.{blocks_left};
 ghost use Rattle.sc_jobs.specs.Plans.{MapsInto};
@@ -10,7 +11,7 @@ ghost use Rattle.sc_lineage.specs.ScriptData.{node_of_action};
 ghost use Rattle.sc_lineage.specs.Views.{action_data_of};
 ghost use Rattle.sc_net.specs.Tasks.{target_of_task};
 ghost use Rattle.sc_task.specs.Caches.{IsSameButCache, has_cache};
-ghost use Rattle.sc_task.specs.Handing.{IsOfWork};
+ghost use Rattle.sc_task.specs.Handing.{AreHanded, IsHanded, IsOfWork};
 ghost use Rattle.sc_task.specs.States.{AreOf, HasReadAll};
 
 use crate::caching::left_with;
@@ -65,6 +66,8 @@ fn made_for<W: Naming>(
     ensures right { IfOk result (AreRight work.now) }
     ensures has { IfOk result (λ s. HasAll work.now s (target_data_of target.entry)) }
 {
+    task.is_task();
+    task.job().is_job();
     let mut stages = handed(alloc, work, task, got)?;
     match target {
         TaskTarget::Map { node, side, .. } => made_to_map(alloc, work, task, stages, node, side),
@@ -75,8 +78,8 @@ fn made_for<W: Naming>(
     }
 }
 
-/// What was made, and beside it all that is to be made before what goes into a side of a node can
-/// be computed.
+/// What was handed in, and beside it all that is to be made before what goes into a side of a node
+/// can be computed.
 fn made_to_map<W: Naming>(
     alloc: Global,
     work: &Work,
@@ -89,6 +92,7 @@ fn made_to_map<W: Naming>(
     requires right { AreRight work.now stages }
     requires known { node < length work.now.script.nodes }
     requires side { IsSideOf (node_at work.now node) side }
+    requires inputs { HasInputs work.now stages (mapped_in (node_at work.now node) side) }
     requires maps { MapsInto task.now.job.graph node }
     ensures right { IfOk result (AreRight work.now) }
     ensures made { IfOk result (λ s. HasMade s (mapped_in (node_at work.now node) side)) }
@@ -100,7 +104,8 @@ fn made_to_map<W: Naming>(
     Ok(stages)
 }
 
-/// What was read of a task's blocks, handed in for the shuffles that they are of.
+/// What was read of a task's blocks, handed in for the shuffles that they are of: for each that the
+/// task reads.
 fn handed<W: Naming>(
     alloc: Global,
     work: &Work,
@@ -109,7 +114,8 @@ fn handed<W: Naming>(
 ) -> Result<ShuffleInputs, AllocError>
     requires named { work.now ≡ W.work }
     requires all { HasReadAll work.now task.now got.now }
-    ensures { IfOk result (AreRight work.now) }
+    ensures right { IfOk result (AreRight work.now) }
+    ensures handed { IfOk result (AreHanded task.now) }
 {
     task.job().is_job();
     let mut stages = ShuffleInputs::new(alloc, work)?;
@@ -144,9 +150,14 @@ fn hand_in(
     outputs: &[MapOutput],
 ) -> Result<(), AllocError>
     requires right { AreRight work.now stages.old }
+    requires unmade { IsUnmade stages.old }
     requires stage { IsOfWork work.now stage.now }
     requires of { AreOf work.now (blocks_left (Some stage.now)) outputs.now }
     ensures right { AreRight work.now stages.new }
+    ensures unmade { IsUnmade stages.new }
+    ensures handed { OnOk result (IsHanded stages.new stage.now) }
+    ensures kept { OnOk result ((k side : ℕ) → HasOutputs stages.old k side
+        → HasOutputs stages.new k side) }
 {
     match stage.target() {
         Target::Map(shuffle) => {

@@ -1,12 +1,16 @@
-use Rattle.std.proofs.Common.{◌∙◌, [], List, Bor, Vec, length, ap, sym, arith}
+use Rattle.std.proofs.Common.{◌≡◌, ◌∙◌, [], List, Bor, Option, Some, Vec, length, ap, sym, subst, arith}
 use Rattle.std.specs.Option.{option_map}
 use Rattle.std.specs.declared.alloc.Global.{Global}
 use Rattle.sc_base.specs.Lists.{at_or}
 use Rattle.sc_value.specs.Datum.{Datum}
-use Rattle.sc_lineage.specs.Meaning.{known_of}
+use Rattle.sc_lineage.specs.Meaning.{bounds_of_shuffle, known_of, local_streams}
+use Rattle.sc_lineage.specs.Partitioners.{no_partitioner}
 use Rattle.sc_lineage.specs.Views.{shuffling_data_of}
 use Rattle.sc_lineage.proofs.CountLemmas.{count_is_within}
 use Rattle.sc_compute.proofs.HandedLemmas.{doesnt_lie, handed_few, handed_maps, handed_parts, were_handed}
+use Rattle.sc_compute.specs.Stages.{IsReadOf, handed_in}
+use Rattle.sc_compute.specs.declared.stages.Input.TheVariants as inputs
+use Rattle.sc_compute.proofs.MakingLemmas.{skipped_parts}
 use Rattle.sc_compute.proofs.making.input_of.Goals as goal
 
 pub parts_handed-requires : goal.parts_handed-requires
@@ -58,3 +62,35 @@ returns-in_ok-dealt-in-Some-clause-input c =
       maps.1,
       maps.2,
     )
+
+pub returns-in_ok-dealt-in-Some-clause-read : goal.returns-in_ok-dealt-in-Some-clause-read
+returns-in_ok-dealt-in-Some-clause-read c =
+    let dealt = c.in_ok-dealt-in-Some.dealt in
+    let P : Option (Vec (List (List Datum)) Global) → Type 0 = λ o.
+    IsReadOf o (inputs.Dealt dealt) in
+    subst P
+    (sym (ap (option_map (λ (o : Bor (Vec (List (List Datum)) Global)). o.now)) c.in-Some.is)
+    ∙ c.handed.ensures)
+    (c.in_ok-dealt-in-Some.ensures ∙ c.deref.ensures.value)
+
+pub returns-in-None-clause-count : goal.returns-in-None-clause-count
+returns-in-None-clause-count c =
+    let work = c.args.work.now in
+    let kind = shuffling_data_of c.args.kind.now in
+    let parent = c.args.parent in
+    skipped_parts kind (at_or (known_of work) parent no_partitioner) c.args.n
+    (bounds_of_shuffle kind (local_streams work parent) c.args.n)
+    (c.requires.lies (sym c.handed.ensures
+    ∙ ap (option_map (λ (o : Bor (Vec (List (List Datum)) Global)). o.now)) c.in-None.is))
+
+pub returns-in-None-clause-input : goal.returns-in-None-clause-input
+returns-in-None-clause-input c =
+    c.requires.lies (sym c.handed.ensures
+    ∙ ap (option_map (λ (o : Bor (Vec (List (List Datum)) Global)). o.now)) c.in-None.is)
+
+pub returns-in-None-clause-read : goal.returns-in-None-clause-read
+returns-in-None-clause-read c =
+    let P : Option (Vec (List (List Datum)) Global) → Type 0 = λ o. IsReadOf o inputs.Own in
+    subst P
+    (sym (sym c.handed.ensures
+    ∙ ap (option_map (λ (o : Bor (Vec (List (List Datum)) Global)). o.now)) c.in-None.is)) tt

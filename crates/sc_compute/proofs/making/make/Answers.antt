@@ -3,10 +3,11 @@ use Rattle.std.proofs.lemmas.List.Elements.{All-head, All-tail}
 use Rattle.sc_lineage.specs.NodeData.{group_by_key, shuffle_node, meet_node}
 use Rattle.sc_lineage.specs.ScriptData.{count_step}
 use Rattle.sc_lineage.specs.Views.{node_data_of, shuffling_data_of}
-use Rattle.sc_compute.specs.Stages.{AreSides, HasMade, local_count}
+use Rattle.sc_lineage.specs.Partitioners.{hash_partitioner, partitioner_of_shuffle}
+use Rattle.sc_compute.specs.Stages.{AreSides, local_count}
 use Rattle.sc_compute.specs.declared.stages.Sides.TheVariants as sides
-use Rattle.sc_compute.proofs.LeftLemmas.{first_left, second_left}
-use Rattle.sc_compute.proofs.NodeLemmas.{IsNode, count_fits, count_is, left_are, narrow_else, narrow_is, narrow_sides, node_is, parents_known, side_is, some_parts}
+use Rattle.sc_compute.proofs.InputLemmas.{lies_unhanded}
+use Rattle.sc_compute.proofs.NodeLemmas.{IsNode, count_fits, count_is, narrow_else, narrow_is, narrow_sides, node_is, parents_known, side_is, some_parts}
 use Rattle.sc_compute.proofs.making.make.Goals as goal
 
 pub input_of-requires : goal.input_of-requires
@@ -24,8 +25,9 @@ input_of-requires c =
       right = c.requires.right;
       side = side_is at 0 (shuffling_data_of c.in-Shuffle.kind) parent c.in-Shuffle.partitions
           (refl, refl, refl);
-      parent_made = first_left (HasMade stages) stages c.args.node node
-          (left_are at stages c.requires.parents) parent refl;
+      lies = lies_unhanded c.args.work.now stages c.args.node 0 node
+          (partitioner_of_shuffle (shuffling_data_of c.in-Shuffle.kind) c.in-Shuffle.partitions)
+          parent (node_is at) c.requires.sides (λ goes. goes);
       some_partitions = some_parts at;
     }
 
@@ -45,8 +47,8 @@ input_of-requires-in-Meet c =
           (parents_known at);
       right = c.requires.right;
       side = side_is at 0 group_by_key left c.in-Meet.partitions (refl, refl, refl);
-      parent_made = first_left (HasMade stages) stages c.args.node node
-          (left_are at stages c.requires.parents) left refl;
+      lies = lies_unhanded c.args.work.now stages c.args.node 0 node
+          (hash_partitioner c.in-Meet.partitions) left (node_is at) c.requires.sides (λ goes. goes);
       some_partitions = some_parts at;
     }
 
@@ -66,8 +68,8 @@ input_of-requires-in-Meet-2 c =
       known = All-head known right [] (All-tail known left (right ∷ []) (parents_known at));
       right = c.requires.right;
       side = side_is at 1 group_by_key right c.in-Meet.partitions (refl, refl, refl);
-      parent_made = second_left (HasMade stages) stages c.args.node node
-          (left_are at stages c.requires.parents) right refl;
+      lies = lies_unhanded c.args.work.now stages c.args.node 1 node
+          (hash_partitioner c.in-Meet.partitions) right (node_is at) c.requires.sides (λ goes. goes);
       some_partitions = some_parts at;
     }
 
@@ -106,6 +108,7 @@ returns-in_ok-count-in-Shuffle c =
       are = subst (λ n. AreSides work n (sides.One input))
           (sym (node_is at))
           c.in_ok-count-in-Shuffle.ensures.input;
+      read = c.in_ok-count-in-Shuffle.ensures.read;
     }
 
 pub returns-in_ok-second-in-Meet : goal.returns-in_ok-second-in-Meet
@@ -124,6 +127,7 @@ returns-in_ok-second-in-Meet c =
       are = subst (λ n. AreSides work n (sides.Two first second))
           (sym (node_is at))
           (c.in_ok-first-in-Meet.ensures.input, c.in_ok-second-in-Meet.ensures.input);
+      read = (c.in_ok-first-in-Meet.ensures.read, c.in_ok-second-in-Meet.ensures.read);
     }
 
 pub returns-in_default : goal.returns-in_default
@@ -143,4 +147,5 @@ returns-in_default c =
       are = subst (λ n. AreSides work n sides.Narrow)
           (sym (node_is at))
           (narrow_sides work node narrow);
+      read = tt;
     }

@@ -1,15 +1,21 @@
-use Rattle.std.proofs.Common.{◌∙◌, ◌+◌, Some, drop, get_or, subst, sym, ap}
+use Rattle.std.proofs.Common.{◌∙◌, ◌+◌, Some, All, drop, get_or, take, subst, sym, ap, arith}
+use Rattle.std.proofs.lemmas.List.{take_all}
+use Rattle.std.proofs.lemmas.List.Elements.{All-nil}
 use Rattle.std.specs.List.{flat_map}
 use Rattle.sc_jobs.specs.JobData.{JobData, blocks_left, stage_in}
 use Rattle.sc_jobs.specs.Plans.{IsJobFor}
+use Rattle.sc_task.specs.Handing.{IsHandedBy}
 use Rattle.sc_task.specs.States.{AreOf}
 use Rattle.sc_task.proofs.HandingLemmas.{found_of_work, next_cut}
+use Rattle.sc_task.proofs.InputLemmas.{handed_found, handed_more}
 use Rattle.sc_task.proofs.computing.handed.Goals as goal
 
 pub loop-parent-init : goal.loop-parent-init
 loop-parent-init g c =
     record {
-      right = c.in_ok-stages.ensures;
+      right = c.in_ok-stages.ensures.right;
+      unmade = c.in_ok-stages.ensures.unmade;
+      handed = All-nil (IsHandedBy c.args.task.now.job.graph c.in_ok-stages.stages);
       left = subst (λ items. AreOf c.args.work.now (flat_map
           (λ id. blocks_left (stage_in c.args.task.now.job.graph id)) items) c.args.got.now)
           (sym c.parents_of-parent-items.ensures) c.requires.all;
@@ -50,6 +56,18 @@ pub loop-parent-preserved : goal.loop-parent-preserved
 loop-parent-preserved g c =
     record {
       right = c.hand_in.ensures.right;
+      unmade = c.hand_in.ensures.unmade;
+      handed = handed_more c.loop-parent.stages c.hand_in.new.stages
+          c.args.task.now.job.graph c.parents_of-parent-items.result.now
+          c.loop-parent.parent-index 0 c.loop-parent-test.true c.in_ok-hand_in.ensures.kept
+          (handed_found c.args.task.now.job.graph c.hand_in.new.stages
+          (get_or c.parents_of-parent-items.result.now c.loop-parent.parent-index 0)
+          c.in-Some.stage.now
+          (sym (c.in-Some.ensures ∙ ap (λ (j : JobData). stage_in j.graph
+          (get_or c.parents_of-parent-items.result.now c.loop-parent.parent-index 0))
+          c.job-in-loop-parent.ensures))
+          c.in_ok-hand_in.ensures.handed)
+          c.loop-parent.invariant.handed;
       left = subst (AreOf c.args.work.now (flat_map
           (λ id. blocks_left (stage_in c.args.task.now.job.graph id))
           (drop (c.loop-parent.parent-index + 1) c.parents_of-parent-items.result.now)))
@@ -62,3 +80,10 @@ loop-parent-preserved g c =
           (get_or c.parents_of-parent-items.result.now c.loop-parent.parent-index 0))
           c.job-in-loop-parent.ensures) c.count_left.ensures c.loop-parent.invariant.left).2;
     }
+
+pub returns-clause-handed : goal.returns-clause-handed
+returns-clause-handed g c =
+    let handed = IsHandedBy c.args.task.now.job.graph c.loop-parent.stages in
+    let items = c.parents_of-parent-items.result.now in
+    subst (All handed) (take_all c.loop-parent.parent-index items (omega arith)
+    ∙ c.parents_of-parent-items.ensures) c.loop-parent.invariant.handed
