@@ -205,7 +205,7 @@ def history_faults(files: Files) -> Iterator[Fault]:
 
 def list_faults(crates: Crates) -> Iterator[Fault]:
     reading = crates.text(refresh_reading.PAGE)
-    for fault in refresh_reading.faults(crates, reading):
+    for fault in refresh_reading.faults(crates):
         yield refresh_reading.PAGE, 1, fault
     edits: list[str] = []
     testing = crates.text(refresh_testing.PAGE)

@@ -1,11 +1,10 @@
-"""What the tools know of the crates' files: what a file cites, and how a type is declared."""
+"""What the tools know of the crates: which stand on which, and how a type is declared."""
 import dataclasses
 import functools
 import pathlib
 import re
 from collections.abc import Iterator
 
-IMPORT = re.compile(r"\buse\s+([\w.]+)\.\{([^}]*)\}|\buse\s+([\w.]+) as \w+")
 CAPITAL = re.compile(r"\b[A-Z]\w*")
 COMMENT = re.compile(r"//.*")
 RUST_USE = re.compile(r"^\s*(?:pub )?use (crate|\w+)((?:::\w+)*)(?:::\{([^}]*)\})?;", re.MULTILINE)
@@ -18,15 +17,6 @@ class Declared:
 
     path: str
     name: str
-
-
-@dataclasses.dataclass
-class Cited:
-    """What definitions or clauses cite."""
-
-    specs: set[str] = dataclasses.field(default_factory=set)
-    types: set[Declared] = dataclasses.field(default_factory=set)
-    kit: dict[str, set[str]] = dataclasses.field(default_factory=dict)
 
 
 class Crates:
@@ -67,47 +57,6 @@ class Crates:
         """The paths of the files that fit a pattern, such as 'sc_app/src/**/*.rt', in order."""
         found = sorted((self.root / "crates").glob(pattern))
         return [it.relative_to(self.root).as_posix() for it in found if it.is_file()]
-
-    def cited(self, text: str) -> Cited:
-        """What the imports of a text bring in, not what these cite in turn."""
-        found = Cited()
-        for module, words, alone in IMPORT.findall(text):
-            parts = (module or alone).split(".")
-            if parts[0] == "Rattle" and parts[1] in self.names:
-                self._note(found, parts[1], parts[3:])
-            else:
-                names = {it.split(" as ")[0].strip() for it in words.split(",")} - {""}
-                found.kit.setdefault(".".join(parts), set()).update(names)
-        return found
-
-    def _note(self, found: Cited, crate: str, parts: list[str]) -> None:
-        if parts and parts[0] == "declared":
-            modules = [it for it in parts[1:] if it[0].islower()]
-            types = [it for it in parts[1:] if it[0].isupper() and not it.startswith("The")]
-            path = f"crates/{crate}/src/{'/'.join(modules) or 'lib'}.rt"
-            found.types.update(Declared(path, it) for it in types[:1])
-        elif parts and parts[0] != "contracts":
-            found.specs.add(f"crates/{crate}/specs/{'/'.join(parts)}.antt")
-
-    def rests_on(self, text: str) -> Cited:
-        """What a text cites, and what that cites in turn, down to the kit. A file counts whole."""
-        found = Cited()
-        waiting = [text]
-        while waiting:
-            direct = self.cited(waiting.pop())
-            for module, words in direct.kit.items():
-                found.kit.setdefault(module, set()).update(words)
-            for path in direct.specs - found.specs:
-                found.specs.add(path)
-                waiting.append(self.text(path))
-            types = list(direct.types)
-            while types:
-                it = types.pop()
-                if it not in found.types:
-                    found.types.add(it)
-                    waiting.append(self.model(it))
-                    types += self.types_in(it)
-        return found
 
     def block(self, path: str, pattern: str) -> str:
         """The text from what a pattern finds in a file to the brace that closes it."""

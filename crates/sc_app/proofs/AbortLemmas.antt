@@ -3,12 +3,14 @@ use Rattle.std.proofs.Common.{◌≡◌, ◌∙◌, ℕ, zero, suc, ◌<◌, Lis
 use Rattle.std.specs.Prelude.{Contains}
 use Rattle.sc_base.specs.Lists.{at_or}
 use Rattle.sc_core.specs.declared.answers.Abort.TheVariants as aborts
+use Rattle.sc_core.specs.declared.journals.JobHistory.{JobHistory}
 use Rattle.sc_lineage.specs.Actions.{action_outcome, never}
 use Rattle.sc_lineage.specs.ScriptData.{ActionData, WorkData, collect_action}
 use Rattle.sc_plan.specs.Plans.{PlansHaveOneReading}
 use Rattle.sc_script.specs.Parsing.{HaveOneReading}
 use Rattle.sc_app.specs.declared.ran.Status.{Status}
-use Rattle.sc_app.specs.Ends.{Ends, EndsForAbort}
+use Rattle.sc_app.specs.Ends.{EndsForAbort}
+use Rattle.sc_app.specs.Promises.{Ends}
 use Rattle.sc_app.specs.Exactly.{HasNoNever, TellsNoFailure}
 use Rattle.sc_app.specs.Runs.{RunData, HasReadWork}
 use Rattle.sc_app.proofs.ReadingLemmas.{one_work}
@@ -22,7 +24,8 @@ action_there (action ∷ actions) (suc k) other known =
     let there = action_there actions k other (omega (arith, known)) in
     (suc there.0, omega (arith, there.1), there.2)
 
-module _ (law : HaveOneReading) (plans : PlansHaveOneReading) (run : RunData) (work : WorkData)
+module _ (law : HaveOneReading) (plans : PlansHaveOneReading) (run : RunData)
+    (history : List JobHistory) (work : WorkData)
     (read : HasReadWork run.words run.reads work) (none_planned : work.plan ≡ []) where
   -- the work that was run is this one
   this_work : (other : WorkData) → HasReadWork run.words run.reads other → other ≡ work
@@ -32,14 +35,14 @@ module _ (law : HaveOneReading) (plans : PlansHaveOneReading) (run : RunData) (w
   no_line : (other : WorkData) → HasReadWork run.words run.reads other → other.plan ≡ []
   no_line other was = ap (λ (w : WorkData). w.plan) (this_work other was) ∙ none_planned
 
-  no_loss : EndsForAbort run aborts.NoExecutor → ⊥
+  no_loss : EndsForAbort run history aborts.NoExecutor → ⊥
   no_loss ends = ends.aborted.unplanned (no_line ends.work ends.read)
 
-  none_given_up : (stage : ℕ) → EndsForAbort run (aborts.StageLimit stage) → ⊥
+  none_given_up : (stage : ℕ) → EndsForAbort run history (aborts.StageLimit stage) → ⊥
   none_given_up stage ends = ends.aborted.unplanned (no_line ends.work ends.read)
 
   no_failure : HasNoNever work → (stage attempt partition : ℕ)
-      → EndsForAbort run (aborts.TaskLimit stage attempt partition) → ⊥
+      → EndsForAbort run history (aborts.TaskLimit stage attempt partition) → ⊥
   no_failure outcomes stage attempt partition ends =
       let same : ends.work ≡ work = this_work ends.work ends.read in
       let known : ends.k < length work.script.actions =
@@ -51,12 +54,14 @@ module _ (law : HaveOneReading) (plans : PlansHaveOneReading) (run : RunData) (w
       outcomes (at_or work.script.actions ends.k (collect_action 0))
       (action_there work.script.actions ends.k (collect_action 0) known) raises
 
-pub tells_no_failure : HaveOneReading → PlansHaveOneReading → (run : RunData) (status : Status)
-    → Ends run status → TellsNoFailure run.words run.reads status
-tells_no_failure law plans run status ends = λ work read none_planned. (
-  (λ e. no_loss law plans run work read none_planned (subst (λ (s : Status). Ends run s) e ends)),
-  (λ stage e. none_given_up law plans run work read none_planned stage
-      (subst (λ (s : Status). Ends run s) e ends)),
-  (λ outcomes stage attempt partition e. no_failure law plans run work read none_planned outcomes
-      stage attempt partition (subst (λ (s : Status). Ends run s) e ends)),
+pub tells_no_failure : HaveOneReading → PlansHaveOneReading → (run : RunData)
+    (history : List JobHistory) (status : Status) → Ends run history status
+    → TellsNoFailure run.words run.reads status
+tells_no_failure law plans run history status ends = λ work read none_planned. (
+  (λ e. no_loss law plans run history work read none_planned
+      (subst (λ (s : Status). Ends run history s) e ends)),
+  (λ stage e. none_given_up law plans run history work read none_planned stage
+      (subst (λ (s : Status). Ends run history s) e ends)),
+  (λ outcomes stage attempt partition e. no_failure law plans run history work read none_planned
+      outcomes stage attempt partition (subst (λ (s : Status). Ends run history s) e ends)),
 )

@@ -17,7 +17,7 @@ use Rattle.sc_read.specs.Scripts.{TakesAsScript, TakesScript}
 use Rattle.sc_read.proofs.ReadLemmas.{asked-more, later-more, quiet-more}
 use Rattle.sc_script.specs.Scripts.{ReadsScript}
 use Rattle.sc_app.specs.declared.ran.Status.TheVariants as statuses
-use Rattle.sc_app.specs.Ends.{IsRun}
+use Rattle.sc_app.specs.Handed.{IsRun}
 use Rattle.sc_app.specs.Runs.{run_of}
 use Rattle.sc_app.specs.Statuses.{is_missing, status_of_script}
 use Rattle.sc_words.specs.Words.{command_of}
@@ -95,10 +95,10 @@ module _ (words : List (List ℕ)) (command : Command)
   -- the reading of the script stops the run
   pub script-stops : (before after : SourceState) (sink : SinkState) (reads : List Read)
       (stop : OrMemory ScriptStop) → TakesAsScript before after name [] reads (Err stop)
-      → IsRun (run_of words reads history (outside_of before sink) (outside_of after sink))
+      → IsRun (run_of words reads (outside_of before sink) (outside_of after sink)) history
       (status_of_script name stop)
   script-stops before after sink reads (refusals.Fault (script_stops.Faulty fault)) x =
-      let run = run_of words reads history (outside_of before sink) (outside_of after sink) in
+      let run = run_of words reads (outside_of before sink) (outside_of after sink) in
       record {
         reads = inr (record {
           command = command;
@@ -120,11 +120,12 @@ module _ (words : List (List ℕ)) (command : Command)
           nothing_written = refl;
           nothing_ran = none_ran;
         };
+        jobs = λ e. absurd cc;
         usage = usage-none (statuses.Script fault) words command is_command
             (λ e. cc);
       }
   script-stops before after sink reads (refusals.Fault (script_stops.Unreadable why)) x =
-      let run = run_of words reads history (outside_of before sink) (outside_of after sink) in
+      let run = run_of words reads (outside_of before sink) (outside_of after sink) in
       let status = statuses.Input name (is_missing why) in
       record {
         reads = inl x.0;
@@ -136,10 +137,11 @@ module _ (words : List (List ℕ)) (command : Command)
           nothing_written = refl;
           nothing_ran = none_ran;
         };
+        jobs = λ e. absurd cc;
         usage = usage-none status words command is_command (λ e. cc);
       }
   script-stops before after sink reads refusals.OutOfMemory (inl x) =
-      let run = run_of words reads history (outside_of before sink) (outside_of after sink) in
+      let run = run_of words reads (outside_of before sink) (outside_of after sink) in
       record {
         reads = inl x.0;
         asked = asks words command is_command run statuses.OutOfMemory [] refl
@@ -150,11 +152,12 @@ module _ (words : List (List ℕ)) (command : Command)
               (record { faults = refl; misses = refl });
           stands = inl (refl, none_ran);
         };
+        jobs = λ e. absurd cc;
         usage = usage-none statuses.OutOfMemory words command is_command
             (λ e. cc);
       }
   script-stops before after sink reads refusals.OutOfMemory (inr x) =
-      let run = run_of words reads history (outside_of before sink) (outside_of after sink) in
+      let run = run_of words reads (outside_of before sink) (outside_of after sink) in
       record {
         reads = inr (record {
           command = command;
@@ -169,6 +172,7 @@ module _ (words : List (List ℕ)) (command : Command)
             x.1.file.asked
             (ap (λ rs. names_of_reads name plan_name rs ++ []) (sym x.1.kept));
         ends = record { quiet = x.1.file.quiet; stands = inl (refl, none_ran) };
+        jobs = λ e. absurd cc;
         usage = usage-none statuses.OutOfMemory words command is_command
             (λ e. cc);
       }

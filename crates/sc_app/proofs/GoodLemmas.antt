@@ -4,11 +4,12 @@ use Rattle.std.specs.Prelude.{◌⊎◌}
 use Rattle.std.proofs.lemmas.Option.{slice_get_within, get_or_from_slice_get}
 use Rattle.sc_base.specs.Counts.{Rose}
 use Rattle.sc_base.specs.Lists.{content_of}
+use Rattle.sc_core.specs.declared.journals.JobHistory.{JobHistory}
 use Rattle.sc_lineage.specs.ScriptData.{input_names}
 use Rattle.sc_read.specs.Reads.{IsMissing, Taken}
 use Rattle.sc_app.specs.declared.ran.Status.{Status}
 use Rattle.sc_app.specs.declared.ran.Status.TheVariants as statuses
-use Rattle.sc_app.specs.Ends.{Ends}
+use Rattle.sc_app.specs.Promises.{Ends}
 use Rattle.sc_app.specs.Good.{AreAllThere, EndsWell, IsGood}
 use Rattle.sc_app.specs.Runs.{RunData, IsNextName}
 use Rattle.sc_app.proofs.ReadingLemmas.{AreTexts-last}
@@ -37,26 +38,27 @@ there run name all (inr (inr next)) missing =
       get_or_from_slice_get names at name name next.4.next,
     ) gone
 
-pub ends_well : (run : RunData) (status : Status) → Ends run status → IsGood run → EndsWell status
-ends_well run statuses.Done ends good = tt
-ends_well run statuses.Usage ends good = good.command ends.no_command
-ends_well run (statuses.Script fault) ends good =
+pub ends_well : (run : RunData) (history : List JobHistory) (status : Status)
+    → Ends run history status → IsGood run → EndsWell status
+ends_well run history statuses.Done ends good = tt
+ends_well run history statuses.Usage ends good = good.command ends.no_command
+ends_well run history (statuses.Script fault) ends good =
     good.script (record { script = ends.bytes; plan = None; inputs = [] }) fault ends.is ends.faults
-ends_well run (statuses.Plan fault) ends good =
+ends_well run history (statuses.Plan fault) ends good =
     let taken : Taken =
     record { script = ends.bytes; plan = Some ends.plan_bytes; inputs = [] } in
     good.plan ends.command taken ends.plan_bytes fault ends.is_command ends.is refl ends.faults
-ends_well run (statuses.Input name true) ends good = by_there good.there
+ends_well run history (statuses.Input name true) ends good = by_there good.there
   where
     by_there : (Rose run.before.source.misses run.after.source.misses → ⊥) ⊎ AreAllThere run → ⊥
     by_there (inl no_miss) = no_miss ends.cause.0
     by_there (inr all) = there run name all ends.is_next ends.cause.2
-ends_well run (statuses.Input name false) ends good = good.no_fault ends.cause.0
-ends_well run (statuses.Aborted abort) ends good = tt
-ends_well run (statuses.DriverFault k fault) ends good = tt
-ends_well run statuses.WriteFault ends good = good.no_write_fault ends.stops.rose
-ends_well run statuses.OutOfMemory ends good = tt
-ends_well run (statuses.NotText name) ends good =
+ends_well run history (statuses.Input name false) ends good = good.no_fault ends.cause.0
+ends_well run history (statuses.Aborted abort) ends good = tt
+ends_well run history (statuses.DriverFault k fault) ends good = tt
+ends_well run history statuses.WriteFault ends good = good.no_write_fault ends.stops.rose
+ends_well run history statuses.OutOfMemory ends good = tt
+ends_well run history (statuses.NotText name) ends good =
     ends.no_text (AreTexts-last ends.inputs name ends.bytes
     (good.texts (record {
       script = ends.read.bytes;

@@ -3,6 +3,7 @@ pub mod AskedLemmas
 pub mod BegunLemmas
 pub mod ExactlyLemmas
 pub mod GoodLemmas
+pub mod JobLemmas
 pub mod PieceLemmas
 pub mod PlanLemmas
 pub mod ReadingLemmas

@@ -17,7 +17,7 @@ use Rattle.sc_read.proofs.ReadLemmas.{asked-more, quiet-more, unreadable-since}
 use Rattle.sc_script.specs.Scripts.{ReadsScript}
 use Rattle.sc_app.specs.declared.ran.Status.{Status}
 use Rattle.sc_app.specs.declared.ran.Status.TheVariants as statuses
-use Rattle.sc_app.specs.Ends.{IsRun}
+use Rattle.sc_app.specs.Handed.{IsRun}
 use Rattle.sc_app.specs.Runs.{RunData, AreReads, AsksOnce, name_missed, run_of}
 use Rattle.sc_app.specs.Statuses.{is_missing, status_of_plan}
 use Rattle.sc_words.specs.Words.{command_of}
@@ -83,10 +83,10 @@ module _ (words : List (List ℕ)) (command : Command)
     named-stops : (after : SourceState) (sink : SinkState) (more : List Read)
         (stop : OrMemory PlanStop) (named : List ℕ) → plan_name ≡ Some named
         → TakesAsNamedPlan mid after named command.limits.executors first more (Err stop)
-        → IsRun (run_of words more history (outside_of start sink) (outside_of after sink))
+        → IsRun (run_of words more (outside_of start sink) (outside_of after sink)) history
         (status_of_plan stop)
     named-stops after sink more (refusals.Fault (plan_stops.Faulty fault)) named is_named x =
-        let run = run_of words more history (outside_of start sink) (outside_of after sink) in
+        let run = run_of words more (outside_of start sink) (outside_of after sink) in
         record {
           reads = with_plan run named x.0 refl refl is_named x.1.file.shown x.1.kept;
           asked = asked_both run (statuses.Plan fault) named x.0 refl refl is_named refl
@@ -104,10 +104,11 @@ module _ (words : List (List ℕ)) (command : Command)
             nothing_written = refl;
             nothing_ran = none_ran;
           };
+          jobs = λ e. absurd cc;
           usage = usage-none (statuses.Plan fault) words command is_command (λ e. cc);
         }
     named-stops after sink more (refusals.Fault (plan_stops.Unreadable n why)) named is_named x =
-        let run = run_of words more history (outside_of start sink) (outside_of after sink) in
+        let run = run_of words more (outside_of start sink) (outside_of after sink) in
         let status = statuses.Input n (is_missing why) in
         let is_next : plan_name ≡ Some n = is_named ∙ ap Some (sym x.0) in
         let missed = subst (λ m. MissesFile mid after m why) (sym x.0) x.2 in
@@ -132,10 +133,11 @@ module _ (words : List (List ℕ)) (command : Command)
             nothing_written = refl;
             nothing_ran = none_ran;
           };
+          jobs = λ e. absurd cc;
           usage = usage-none status words command is_command (λ e. cc);
         }
     named-stops after sink more refusals.OutOfMemory named is_named (inl x) =
-        let run = run_of words more history (outside_of start sink) (outside_of after sink) in
+        let run = run_of words more (outside_of start sink) (outside_of after sink) in
         record {
           reads = alone run refl refl x.0;
           asked = asks words command is_command run statuses.OutOfMemory (name ∷ []) refl
@@ -145,10 +147,11 @@ module _ (words : List (List ℕ)) (command : Command)
             quiet = subst (λ s. IsQuietSource start s) (sym x.1) taken.file.quiet;
             stands = inl (refl, none_ran);
           };
+          jobs = λ e. absurd cc;
           usage = usage-none statuses.OutOfMemory words command is_command (λ e. cc);
         }
     named-stops after sink more refusals.OutOfMemory named is_named (inr x) =
-        let run = run_of words more history (outside_of start sink) (outside_of after sink) in
+        let run = run_of words more (outside_of start sink) (outside_of after sink) in
         record {
           reads = with_plan run named x.0 refl refl is_named x.1.file.shown x.1.kept;
           asked = asked_both run statuses.OutOfMemory named x.0 refl refl is_named refl
@@ -157,6 +160,7 @@ module _ (words : List (List ℕ)) (command : Command)
             quiet = quiet-more start mid after taken.file.quiet x.1.file.quiet;
             stands = inl (refl, none_ran);
           };
+          jobs = λ e. absurd cc;
           usage = usage-none statuses.OutOfMemory words command is_command (λ e. cc);
         }
 
@@ -164,13 +168,13 @@ module _ (words : List (List ℕ)) (command : Command)
     pub plan-stops : (after : SourceState) (sink : SinkState) (more : List Read)
         (stop : OrMemory PlanStop)
         → TakesAsPlan mid after plan_name command.limits.executors first more (Err stop)
-        → IsRun (run_of words more history (outside_of start sink) (outside_of after sink))
+        → IsRun (run_of words more (outside_of start sink) (outside_of after sink)) history
         (status_of_plan stop)
     plan-stops after sink more stop x = by_name plan_name refl x
       where
         by_name : (named : Option (List ℕ)) → plan_name ≡ named
             → TakesAsPlan mid after named command.limits.executors first more (Err stop)
-            → IsRun (run_of words more history (outside_of start sink) (outside_of after sink))
+            → IsRun (run_of words more (outside_of start sink) (outside_of after sink)) history
             (status_of_plan stop)
         by_name None is y = absurd y
         by_name (Some n) is y = named-stops after sink more stop n is y

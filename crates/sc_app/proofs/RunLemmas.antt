@@ -22,7 +22,9 @@ use Rattle.sc_read.specs.Reads.{AreFirstInputs, input_read, names_of_reads, read
 use Rattle.sc_read.proofs.ReadLemmas.{asked-more, quiet-more, unreadable-since}
 use Rattle.sc_app.specs.declared.ran.Status.{Status}
 use Rattle.sc_app.specs.declared.ran.Status.TheVariants as statuses
-use Rattle.sc_app.specs.Ends.{Ends, EndsForAbort, IsRun}
+use Rattle.sc_app.specs.Ends.{EndsForAbort}
+use Rattle.sc_app.specs.Handed.{IsRun, RanAllJobs}
+use Rattle.sc_app.specs.Promises.{Ends}
 use Rattle.sc_app.specs.Runs.{RunData, AreReads, AsksOnce, HasRead, HasReadWork, name_missed, run_of}
 use Rattle.sc_app.specs.Statuses.{is_missing, status_of_input, status_of_print}
 use Rattle.sc_words.specs.Words.{AreTaken, command_of}
@@ -119,11 +121,11 @@ module _ (words : List (List ℕ)) (command : Command)
       pub inputs-stop : (history : List JobHistory) → history ≡ [] → (after : SourceState)
           (sink : SinkState) (more : List Read) (stop : OrMemory InputStop)
           → TakesAsWork script plan command.limits before after reads more (Err stop)
-          → IsRun (run_of words more history (outside_of start sink) (outside_of after sink))
+          → IsRun (run_of words more (outside_of start sink) (outside_of after sink)) history
           (status_of_input stop)
       inputs-stop history none_ran after sink more
           (refusals.Fault (inputs_stops.Unreadable n why)) x =
-          let run = run_of words more history (outside_of start sink) (outside_of after sink) in
+          let run = run_of words more (outside_of start sink) (outside_of after sink) in
           let status = statuses.Input n (is_missing why) in
           record {
             reads = in_order run x.inputs refl refl x.kept x.first;
@@ -142,10 +144,11 @@ module _ (words : List (List ℕ)) (command : Command)
               nothing_written = refl;
               nothing_ran = none_ran;
             };
+            jobs = λ e. absurd cc;
             usage = usage-none status words command is_command (λ e. cc);
           }
       inputs-stop history none_ran after sink more (refusals.Fault (inputs_stops.NotText n)) x =
-          let run = run_of words more history (outside_of start sink) (outside_of after sink) in
+          let run = run_of words more (outside_of start sink) (outside_of after sink) in
           let inputs = x.inputs ++ (n, x.bytes) ∷ [] in
           record {
             reads = in_order run inputs refl refl x.taken.kept x.taken.first;
@@ -163,11 +166,12 @@ module _ (words : List (List ℕ)) (command : Command)
               nothing_written = refl;
               nothing_ran = none_ran;
             };
+            jobs = λ e. absurd cc;
             usage = usage-none (statuses.NotText n) words command is_command
                 (λ e. cc);
           }
       inputs-stop history none_ran after sink more refusals.OutOfMemory x =
-          let run = run_of words more history (outside_of start sink) (outside_of after sink) in
+          let run = run_of words more (outside_of start sink) (outside_of after sink) in
           record {
             reads = in_order run x.0 refl refl x.1.kept x.1.first;
             asked = asked-all run statuses.OutOfMemory x.0 refl refl x.1.kept x.1.asked refl;
@@ -175,6 +179,7 @@ module _ (words : List (List ℕ)) (command : Command)
               quiet = quiet-more start before after began.quiet x.1.quiet;
               stands = inl (refl, none_ran);
             };
+            jobs = λ e. absurd cc;
             usage = usage-none statuses.OutOfMemory words command is_command
                 (λ e. cc);
           }
@@ -200,39 +205,43 @@ module _ (words : List (List ℕ)) (command : Command)
         -- a run that read all, with how its jobs went and with what its end says
         module _ (histories : List JobHistory) (sink sink' : SinkState) where
           abbrev ran : RunData
-          ran = run_of words more histories (outside_of start sink) (outside_of after sink')
+          ran = run_of words more (outside_of start sink) (outside_of after sink')
 
           all_read : (status : Status) → name_missed status ≡ [] → (status ≡ statuses.Usage → ⊥)
-              → Ends ran status → IsRun ran status
-          all_read status none other ends =
+              → (status ≡ statuses.Done → RanAllJobs ran histories) → Ends ran histories status
+              → IsRun ran histories status
+          all_read status none other jobs ends =
               record {
                 reads = in_order ran work.inputs refl refl inputs.kept inputs.first;
                 asked = asked-all ran status work.inputs refl refl inputs.kept inputs.asked none;
                 ends = ends;
+                jobs = jobs;
                 usage = usage-none status words command is_command other;
               }
 
           -- all actions were printed
           pub run-done : PrintsAll work sink sink'
-              → HasDone work histories (length work.script.actions) → IsRun ran statuses.Done
+              → HasDone work histories (length work.script.actions)
+              → IsRun ran histories statuses.Done
           run-done prints jobs =
-              all_read statuses.Done refl (λ e. cc) (record {
+              all_read statuses.Done refl (λ e. cc) (λ e. (work, has_work, jobs)) (record {
                 work = work;
                 read = has_work;
                 quiet = quiet;
                 prints = prints;
-                jobs = jobs;
                 text = text-printed work sink sink' prints;
               })
 
           -- a job was aborted
-          abort-stops : (abort : Abort) → EndsForAbort ran abort
-              → IsRun ran (statuses.Aborted abort)
-          abort-stops abort ends = all_read (statuses.Aborted abort) refl (λ e. cc) ends
+          abort-stops : (abort : Abort) → EndsForAbort ran histories abort
+              → IsRun ran histories (statuses.Aborted abort)
+          abort-stops abort ends =
+              all_read (statuses.Aborted abort) refl (λ e. cc) (λ e. absurd cc) ends
 
           -- the printing stops the run
           pub printing-stops : (stop : OrMemory PrintFault)
-              → Prints work sink sink' (Err stop) histories → IsRun ran (status_of_print stop)
+              → Prints work sink sink' (Err stop) histories
+              → IsRun ran histories (status_of_print stop)
           printing-stops (refusals.Fault (print_faults.Aborted k abort)) x =
               abort-stops abort (record {
                 work = work;
@@ -243,7 +252,7 @@ module _ (words : List (List ℕ)) (command : Command)
                 aborted = x.1;
               })
           printing-stops (refusals.Fault (print_faults.Driver k fault)) x =
-              all_read (statuses.DriverFault k fault) refl (λ e. cc) (record {
+              all_read (statuses.DriverFault k fault) refl (λ e. cc) (λ e. absurd cc) (record {
                 work = work;
                 read = has_work;
                 quiet = quiet;
@@ -251,7 +260,7 @@ module _ (words : List (List ℕ)) (command : Command)
                 jobs = x.1;
               })
           printing-stops (refusals.Fault print_faults.Write) x =
-              all_read statuses.WriteFault refl (λ e. cc) (record {
+              all_read statuses.WriteFault refl (λ e. cc) (λ e. absurd cc) (record {
                 work = work;
                 read = has_work;
                 quiet = quiet;
@@ -259,7 +268,7 @@ module _ (words : List (List ℕ)) (command : Command)
                 jobs = x.1;
               })
           printing-stops refusals.OutOfMemory x =
-              all_read statuses.OutOfMemory refl (λ e. cc) (record {
+              all_read statuses.OutOfMemory refl (λ e. cc) (λ e. absurd cc) (record {
                 quiet = quiet;
                 stands = inr (record {
                   work = work;
@@ -271,7 +280,8 @@ module _ (words : List (List ℕ)) (command : Command)
 -- words that are refused
 pub no-command : (words : List (List ℕ)) (source : SourceState) (sink : SinkState)
     → (AreTaken words → ⊥) → command_of words ≡ None
-    → IsRun (run_of words [] [] (outside_of source sink) (outside_of source sink)) statuses.Usage
+    → IsRun (run_of words [] (outside_of source sink) (outside_of source sink)) []
+    statuses.Usage
 no-command words source sink refused none =
     record {
       reads = inl refl;
@@ -283,12 +293,13 @@ no-command words source sink refused none =
         nothing_ran = refl;
         untouched = refl;
       };
+      jobs = λ e. absurd cc;
       usage = ((λ e. refused), (λ r. inl refl));
     }
 
 -- memory ran out before anything was read
 pub no-memory : (words : List (List ℕ)) (source : SourceState) (sink : SinkState)
-    → IsRun (run_of words [] [] (outside_of source sink) (outside_of source sink))
+    → IsRun (run_of words [] (outside_of source sink) (outside_of source sink)) []
     statuses.OutOfMemory
 no-memory words source sink =
     record {
@@ -298,5 +309,6 @@ no-memory words source sink =
         quiet = record { faults = refl; misses = refl };
         stands = inl (refl, refl);
       };
+      jobs = λ e. absurd cc;
       usage = ((λ e. absurd cc), (λ r. inr refl));
     }

@@ -6,6 +6,7 @@ use Rattle.std.specs.Str.{IsUtf8}
 use Rattle.std.proofs.lemmas.List.Elements.{All-get_or}
 use Rattle.std.proofs.lemmas.Option.{slice_get_within, get_or_from_slice_get}
 use Rattle.sc_base.specs.Outside.{Files}
+use Rattle.sc_core.specs.declared.journals.JobHistory.{JobHistory}
 use Rattle.sc_lineage.specs.Actions.{action_outcome, faults, never, HasText}
 use Rattle.sc_lineage.specs.ScriptData.{ActionData, ScriptData, WorkData}
 use Rattle.sc_lineage.specs.declared.nodes.DriverFault.{DriverFault}
@@ -19,7 +20,8 @@ use Rattle.sc_script.specs.Scripts.{FaultsScript}
 use Rattle.sc_script.specs.declared.faults.ScriptFault.{ScriptFault}
 use Rattle.sc_app.specs.declared.ran.Status.{Status}
 use Rattle.sc_app.specs.declared.ran.Status.TheVariants as statuses
-use Rattle.sc_app.specs.Ends.{Ends, EndsForPlan}
+use Rattle.sc_app.specs.Ends.{EndsForPlan}
+use Rattle.sc_app.specs.Promises.{Ends}
 use Rattle.sc_app.specs.Exactly.{IsFirstWithout, IsUnlessEarlier, TellsAbort, TellsDriverFault, TellsNever}
 use Rattle.sc_app.specs.Runs.{RunData, HasRead, HasReadWork, IsNextName}
 use Rattle.sc_app.proofs.ReadingLemmas.{no_bad_text, no_fault, no_next, no_next_plan, no_plan_fault, one_work}
@@ -98,8 +100,8 @@ module _ (law : HaveOneReading) (plans : PlansHaveOneReading) (run : RunData) (w
       no_fault law run.words run.reads bytes is fault work.script work.plan work.inputs e faulty
       read.read
 
-  not_planless : (fault : PlanFault) → EndsForPlan run fault → ⊥
-  not_planless fault ends =
+  not_planless : (history : List JobHistory) (fault : PlanFault) → EndsForPlan run history fault → ⊥
+  not_planless history fault ends =
       let taken : Taken =
       record { script = ends.bytes; plan = Some ends.plan_bytes; inputs = [] } in
       no_plan_fault run.words run.reads plans ends.command taken ends.plan_bytes fault
@@ -136,14 +138,15 @@ module _ (law : HaveOneReading) (plans : PlansHaveOneReading) (run : RunData) (w
       let here = first.is_action in
       (number, same, cc)
 
-module _ (law : HaveOneReading) (plans : PlansHaveOneReading) (run : RunData) (work : WorkData)
+module _ (law : HaveOneReading) (plans : PlansHaveOneReading) (run : RunData)
+    (history : List JobHistory) (work : WorkData)
     (k : ℕ) (action : ActionData)
     (read : HasReadWork run.words run.reads work) (first : IsFirstWithout work k action)
     (is : action_outcome work action ≡ never) where
   no_text : HasText work action → ⊥
   no_text = never_without work action is
 
-  tells_never_here : (status : Status) → Ends run status
+  tells_never_here : (status : Status) → Ends run history status
       → TellsAbort status ⊎ ((status ≡ statuses.OutOfMemory) ⊎ (status ≡ statuses.WriteFault))
   tells_never_here statuses.Done ends =
       absurd (not_all law plans run work k action read first no_text ends.work ends.read
@@ -154,7 +157,7 @@ module _ (law : HaveOneReading) (plans : PlansHaveOneReading) (run : RunData) (w
       absurd (not_faulty law plans run work k action read first no_text ends.bytes f [] ends.is
       ends.faults)
   tells_never_here (statuses.Plan f) ends =
-      absurd (not_planless law plans run work k action read first no_text f ends)
+      absurd (not_planless law plans run work k action read first no_text history f ends)
   tells_never_here (statuses.Input name missing) ends =
       absurd (not_next law plans run work k action read first no_text name ends.is_next)
   tells_never_here (statuses.Aborted abort) ends = inl (abort, refl)
@@ -172,12 +175,14 @@ module _ (law : HaveOneReading) (plans : PlansHaveOneReading) (run : RunData) (w
       absurd (not_bad law plans run work k action read first no_text ends.script ends.plan
       ends.inputs name ends.bytes ends.read ends.no_text)
 
-pub tells_never : HaveOneReading → PlansHaveOneReading → (run : RunData) (status : Status)
-    → Ends run status → TellsNever run.words run.reads status
-tells_never law plans run status ends = λ work k action read first is.
-    tells_never_here law plans run work k action read first is status ends
+pub tells_never : HaveOneReading → PlansHaveOneReading → (run : RunData)
+    (history : List JobHistory) (status : Status) → Ends run history status
+    → TellsNever run.words run.reads status
+tells_never law plans run history status ends = λ work k action read first is.
+    tells_never_here law plans run history work k action read first is status ends
 
-module _ (law : HaveOneReading) (plans : PlansHaveOneReading) (run : RunData) (work : WorkData)
+module _ (law : HaveOneReading) (plans : PlansHaveOneReading) (run : RunData)
+    (history : List JobHistory) (work : WorkData)
     (k : ℕ) (action : ActionData)
     (fault : DriverFault) (read : HasReadWork run.words run.reads work)
     (first : IsFirstWithout work k action)
@@ -185,7 +190,7 @@ module _ (law : HaveOneReading) (plans : PlansHaveOneReading) (run : RunData) (w
   no_text_either : HasText work action → ⊥
   no_text_either = faults_without work action fault is
 
-  tells_driver_here : (status : Status) → Ends run status
+  tells_driver_here : (status : Status) → Ends run history status
       → TellsAbort status ⊎ IsUnlessEarlier (statuses.DriverFault k fault) status
   tells_driver_here statuses.Done ends =
       absurd (not_all law plans run work k action read first no_text_either ends.work ends.read
@@ -196,7 +201,7 @@ module _ (law : HaveOneReading) (plans : PlansHaveOneReading) (run : RunData) (w
       absurd (not_faulty law plans run work k action read first no_text_either ends.bytes f []
       ends.is ends.faults)
   tells_driver_here (statuses.Plan f) ends =
-      absurd (not_planless law plans run work k action read first no_text_either f ends)
+      absurd (not_planless law plans run work k action read first no_text_either history f ends)
   tells_driver_here (statuses.Input name missing) ends =
       absurd (not_next law plans run work k action read first no_text_either name ends.is_next)
   tells_driver_here (statuses.Aborted abort) ends = inl (abort, refl)
@@ -216,7 +221,8 @@ module _ (law : HaveOneReading) (plans : PlansHaveOneReading) (run : RunData) (w
       absurd (not_bad law plans run work k action read first no_text_either ends.script ends.plan
       ends.inputs name ends.bytes ends.read ends.no_text)
 
-pub tells_driver_fault : HaveOneReading → PlansHaveOneReading → (run : RunData) (status : Status)
-    → Ends run status → TellsDriverFault run.words run.reads status
-tells_driver_fault law plans run status ends = λ work k action fault read first is.
-    tells_driver_here law plans run work k action fault read first is status ends
+pub tells_driver_fault : HaveOneReading → PlansHaveOneReading → (run : RunData)
+    (history : List JobHistory) (status : Status) → Ends run history status
+    → TellsDriverFault run.words run.reads status
+tells_driver_fault law plans run history status ends = λ work k action fault read first is.
+    tells_driver_here law plans run history work k action fault read first is status ends

@@ -2,7 +2,6 @@
 use Rattle.std.specs.Prelude.{ℕ, ◌≡◌, ◌⊎◌, List, [], ◌∷◌, ◌++◌, Option, Some, None}
 use Rattle.std.specs.Option.{option_map}
 use Rattle.sc_base.specs.Outside.{Files, Outside, HasAsked}
-use Rattle.sc_core.specs.declared.journals.JobHistory.{JobHistory}
 use Rattle.sc_ids.specs.declared.limits.Limits.{Limits}
 use Rattle.sc_lineage.specs.ScriptData.{ScriptData, WorkData, IsSoundWork}
 use Rattle.sc_plan.specs.declared.lines.PlanLine.{PlanLine}
@@ -16,25 +15,22 @@ use Rattle.sc_app.specs.declared.ran.Status.TheVariants as statuses
 use Rattle.sc_words.specs.Words.{command_of}
 use Rattle.sc_words.specs.declared.commands.Command.{Command}
 
--- a run, but for its status
+-- a run, but for its status and its jobs
 pub record RunData : Type 0 where
   -- the words of the command line
   pub words : List (List ℕ)
   -- what was read, in order
   pub reads : List Read
-  -- how the jobs went, in order
-  pub history : List JobHistory
   -- the outside before and after
   pub before : Outside
   pub after : Outside
 
--- a run by its words, its reads, how its jobs went and the outside
-abbrev pub run_of : List (List ℕ) → List Read → List JobHistory → Outside → Outside → RunData
-run_of words reads history before after =
+-- a run by its words, its reads and the outside
+abbrev pub run_of : List (List ℕ) → List Read → Outside → Outside → RunData
+run_of words reads before after =
     record {
       words = words;
       reads = reads;
-      history = history;
       before = before;
       after = after;
     }

@@ -4,9 +4,9 @@
 ghost use Rattle.std.specs.Prelude.{◌≡◌, ◌≤◌, [], map};
 ghost use Rattle.std.specs.String.{string_bytes};
 ghost use Rattle.sc_base.specs.Outside.{IsLaterSource, outside_of};
-ghost use Rattle.sc_app.specs.Ends.{Ends, IsRun, PrintsMeaning};
 ghost use Rattle.sc_app.specs.Exactly.{TellsDriverFault, TellsFault, TellsNever, TellsNoFailure, TellsNotText, TellsPlanFault, TellsUsage};
-ghost use Rattle.sc_app.specs.Good.{EndsWell, IsGood};
+ghost use Rattle.sc_app.specs.Handed.{IsRun};
+ghost use Rattle.sc_app.specs.Promises.{Ends, GoodRunsEndWell, ZeroMeansText, ZeroShowsJobs};
 ghost use Rattle.sc_app.specs.Runs.{AreReads, AsksOnce, run_of};
 
 use crate::ran::{Ran, Status};
@@ -49,24 +49,30 @@ pub fn run<R, S: Source, K: Sink>(
     // The script was read under its word, then the plan, where one is named, and then each input
     // that the script names, once and in order.
     ensures reads { AreReads (run_of (map string_bytes words.now) result.read.items
-        result.history.items (outside_of (S.state source.old) (K.state sink.old))
+        (outside_of (S.state source.old) (K.state sink.old))
         (outside_of (S.state source.new) (K.state sink.new))) }
 
     // The source was asked for that, and for the name that it didn't give, and for nothing else.
     ensures asked { AsksOnce (run_of (map string_bytes words.now) result.read.items
-        result.history.items (outside_of (S.state source.old) (K.state sink.old))
+        (outside_of (S.state source.old) (K.state sink.old))
         (outside_of (S.state source.new) (K.state sink.new))) result.status }
 
     // Done: the sink got exactly the text of the meaning of the script and inputs that were read.
-    ensures headline { result.status ≡ Status.Done
-        → PrintsMeaning (run_of (map string_bytes words.now) result.read.items
-        result.history.items (outside_of (S.state source.old) (K.state sink.old))
-        (outside_of (S.state source.new) (K.state sink.new))) }
+    ensures headline { ZeroMeansText (run_of (map string_bytes words.now) result.read.items
+        (outside_of (S.state source.old) (K.state sink.old))
+        (outside_of (S.state source.new) (K.state sink.new))) result.status }
+
+    // And the history is that of the jobs of all actions of what was read.
+    ensures histories { ZeroShowsJobs (run_of (map string_bytes words.now) result.read.items
+        (outside_of (S.state source.old) (K.state sink.old))
+        (outside_of (S.state source.new) (K.state sink.new))) result.history.items
+        result.status }
 
     // Each status has its cause, and this is what stands.
     ensures ends { Ends (run_of (map string_bytes words.now) result.read.items
-        result.history.items (outside_of (S.state source.old) (K.state sink.old))
-        (outside_of (S.state source.new) (K.state sink.new))) result.status }
+        (outside_of (S.state source.old) (K.state sink.old))
+        (outside_of (S.state source.new) (K.state sink.new))) result.history.items
+        result.status }
 
     // Usage comes only where `clap` refuses the words, and there unless memory runs out.
     ensures usage { TellsUsage (map string_bytes words.now) result.status }
@@ -95,9 +101,9 @@ pub fn run<R, S: Source, K: Sink>(
 
     // With nothing to refuse the run is done, unless memory runs out, a job is aborted, or the
     // results of an action have no value together.
-    ensures good { IsGood (run_of (map string_bytes words.now) result.read.items
-        result.history.items (outside_of (S.state source.old) (K.state sink.old))
-        (outside_of (S.state source.new) (K.state sink.new))) → EndsWell result.status }
+    ensures good { GoodRunsEndWell (run_of (map string_bytes words.now) result.read.items
+        (outside_of (S.state source.old) (K.state sink.old))
+        (outside_of (S.state source.new) (K.state sink.new))) result.status }
 {
     scripts_have_one_reading();
     plans_have_one_reading();
@@ -124,9 +130,9 @@ fn run_words<S: Source, K: Sink>(
     requires none { history.old.items ≡ [] }
     ensures later { IsLaterSource (S.state source.old) (S.state source.new) }
     ensures sink_later { (K.state sink.old).faults ≤ (K.state sink.new).faults }
-    ensures run { IsRun (run_of (map string_bytes words.now) reads.new.items history.new.items
+    ensures run { IsRun (run_of (map string_bytes words.now) reads.new.items
         (outside_of (S.state source.old) (K.state sink.old))
-        (outside_of (S.state source.new) (K.state sink.new))) result }
+        (outside_of (S.state source.new) (K.state sink.new))) history.new.items result }
 {
     match read_words(alloc, words) {
         Ok(command) => run_script(alloc, command, source, sink, reads, history),

@@ -4,7 +4,7 @@
 //! names, evaluates its actions in order, and writes the text of each to the sink. Its contract is
 //! the promise of the whole program: a run that is done has written exactly the text of the
 //! script's sequential meaning over the inputs that it read, and every other [`Status`] comes only
-//! with its cause, and with what then stands. `specs/Ends.antt` has that on one page.
+//! with its cause, and with what then stands. `specs/Promises.antt` has that on two pages.
 //!
 //! It runs on the thread that calls it, and it returns.
 #![tactic(auto)]

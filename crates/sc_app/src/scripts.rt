@@ -4,7 +4,7 @@
 ghost use Rattle.std.specs.Prelude.{◌≡◌, ◌≤◌, []};
 ghost use Rattle.sc_base.specs.Outside.{IsLaterSource, outside_of};
 ghost use Rattle.sc_ids.specs.LimitRanges.{AreLimits};
-ghost use Rattle.sc_app.specs.Ends.{IsRunOf};
+ghost use Rattle.sc_app.specs.Handed.{IsRunOf};
 
 use crate::ran::Status;
 use crate::stops::{status_of_input, status_of_plan, status_of_print, status_of_script};

@@ -1,0 +1,34 @@
+-- What the functions below `run` say of a run.
+use Rattle.std.specs.Prelude.{ℕ, ◌≡◌, List, Some, length}
+use Rattle.sc_base.specs.Outside.{Outside}
+use Rattle.sc_context.specs.Histories.{HasDone}
+use Rattle.sc_core.specs.declared.journals.JobHistory.{JobHistory}
+use Rattle.sc_lineage.specs.ScriptData.{WorkData}
+use Rattle.sc_read.specs.declared.reads.Read.{Read}
+use Rattle.sc_app.specs.declared.ran.Status.{Status}
+use Rattle.sc_app.specs.declared.ran.Status.TheVariants as statuses
+use Rattle.sc_app.specs.Exactly.{TellsUsage}
+use Rattle.sc_app.specs.Promises.{Ends}
+use Rattle.sc_app.specs.Runs.{RunData, AreReads, AsksOnce, HasReadWork, run_of}
+use Rattle.sc_words.specs.Words.{command_of}
+use Rattle.sc_words.specs.declared.commands.Command.{Command}
+
+-- a work was read, and the jobs of all its actions are done
+abbrev pub RanAllJobs : RunData → List JobHistory → Type 0
+RanAllJobs run history = (work : WorkData) × HasReadWork run.words run.reads work
+    × HasDone work history (length work.script.actions)
+
+-- a run with its status: what it read, what it asked for, how it ended, and how its jobs went
+pub record IsRun (run : RunData) (history : List JobHistory) (status : Status) : Type 0 where
+  pub reads : AreReads run
+  pub asked : AsksOnce run status
+  pub ends : Ends run history status
+  pub jobs : status ≡ statuses.Done → RanAllJobs run history
+  pub usage : TellsUsage run.words status
+
+-- a run of this command, whatever the words that asked for it
+abbrev pub IsRunOf :
+    Command → List Read → List JobHistory → Outside → Outside → Status → Type 0
+IsRunOf command reads history before after status =
+    (words : List (List ℕ)) → command_of words ≡ Some command
+    → IsRun (run_of words reads before after) history status
