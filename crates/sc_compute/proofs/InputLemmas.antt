@@ -74,7 +74,8 @@ lies_unhanded work inputs k side node wanted parent is has through none =
 -- a parent of a side that doesn't go through is read as it is
 module _ (work : WorkData) where
   abbrev Reads : NodeData → ℕ → Type 0
-  Reads node parent = Contains (flat_map direct_parent (dependencies_by (known_of work) node)) parent
+  Reads node parent =
+      Contains (flat_map direct_parent (dependencies_by (known_of work) node)) parent
 
   abbrev of_side : PartitionerData → ℕ → List ℕ
   of_side wanted parent = direct_parent (unless_parted (known_of work) (shuffled parent wanted))
@@ -88,7 +89,8 @@ module _ (work : WorkData) where
       → (GoesThrough work node side → ⊥) → Reads node parent
   parent_read (text_node name n) side parent is never = cc
   parent_read (parallelize_node rows n) side parent is never = cc
-  parent_read (each_node kind q e) zero parent is never = first_in q parent [] (some_number q parent is)
+  parent_read (each_node kind q e) zero parent is never =
+      first_in q parent [] (some_number q parent is)
   parent_read (each_node kind q e) (suc side) parent is never = cc
   parent_read (union_node left right) zero parent is never =
       first_in left parent (right ∷ []) (some_number left parent is)

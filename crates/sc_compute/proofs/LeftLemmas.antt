@@ -36,7 +36,8 @@ of_left P parents side (Some outputs) left q is some all =
     let e : None ≡ Some q = sym is ∙ some in absurd (cc)
 
 -- the parents that are left are the same where the same was handed in
-pub left_same : (before after : ShuffleInputs) (k : ℕ) (node same : NodeData) (first second : Option ℕ)
+pub left_same : (before after : ShuffleInputs) (k : ℕ) (node same : NodeData)
+    (first second : Option ℕ)
     → after.handed ≡ before.handed → first ≡ left_parent before k node 0
     → second ≡ left_parent before k node 1 → node ≡ same
     → option_to_list first ++ option_to_list second ≡ parents_left after k same

@@ -33,7 +33,8 @@ is_narrow work node sides are is = kind node (subst (AreSides work node) is are)
 
 -- A partition of a node for which all was made.
 module _ (work : WorkData) (sound : IsSoundScript work.script) (k p : ℕ)
-    (known : k < length work.script.nodes) (within : p < local_count work k) (stages : ShuffleInputs)
+    (known : k < length work.script.nodes) (within : p < local_count work k)
+    (stages : ShuffleInputs)
     (right : AreRight work stages) (made : HasMade stages k) where
   abbrev node : NodeData
   node = node_at work k

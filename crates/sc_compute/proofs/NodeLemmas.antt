@@ -89,7 +89,8 @@ module _ {work : WorkData} {k : ℕ} {node : NodeData} (at : IsNode work k node)
       subst (λ m. IsSideFor m side kind parent n) (sym node_is) is
 
   -- the parents that were left are those of the node
-  pub left_are : (stages : ShuffleInputs) → All (HasMade stages) (parents_left stages k (node_at work k))
+  pub left_are : (stages : ShuffleInputs)
+      → All (HasMade stages) (parents_left stages k (node_at work k))
       → All (HasMade stages) (parents_left stages k node)
   left_are stages made = subst (λ n. All (HasMade stages) (parents_left stages k n)) node_is made
 

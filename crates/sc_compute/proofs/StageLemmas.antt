@@ -37,7 +37,8 @@ pub count_made : (work : WorkData) (stages : ShuffleInputs) (k : ℕ) → AreRig
     → HasMade stages k → at_or stages.counts.items k 0 ≡ local_count work k
 count_made work stages k right made = (made_right work stages k right made).1.count
 
-pub count_made_at : (work : WorkData) (stages : ShuffleInputs) (j k : ℕ) → j ≡ k → AreRight work stages
+pub count_made_at : (work : WorkData) (stages : ShuffleInputs) (j k : ℕ) → j ≡ k
+    → AreRight work stages
     → HasMade stages k → at_or stages.counts.items j 0 ≡ local_count work k
 count_made_at work stages j k same right made =
     ap (λ i. at_or stages.counts.items i 0) same ∙ count_made work stages k right made

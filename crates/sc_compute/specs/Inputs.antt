@@ -65,7 +65,8 @@ pub record HandsIn (node side : ℕ) (outputs : Vec (List (List Datum)) Global)
 -- the bounds of a node are told, and all else stays
 pub record TellsBounds (node : ℕ) (bounds : List KeyData) (before after : ShuffleInputs) : Type 0
   where
-    pub told : (k : ℕ) → bounds_told after k ≡ cond (nat_eq node k) (Some bounds) (bounds_told before k)
+    pub told : (k : ℕ)
+        → bounds_told after k ≡ cond (nat_eq node k) (Some bounds) (bounds_told before k)
     pub counts : after.counts ≡ before.counts
     pub made : after.sides ≡ before.sides
     pub handed : after.handed ≡ before.handed

@@ -1,5 +1,5 @@
 -- What happens beside the reports is always answered, in one way.
-use Rattle.std.proofs.Common.{◌≡◌, Bool, true, false, refl, ap, sym, ◌∙◌, true≢false}
+use Rattle.std.proofs.Common.{◌≡◌, Bool, true, false, refl, ap, sym, ◌∙◌}
 use Rattle.sc_core.specs.CoreData.{CoreData, job_runs}
 use Rattle.sc_core.specs.Sides.{Sides, StepsAside, with_leaver}
 use Rattle.sc_core.specs.declared.answers.Answer.{Answer}

@@ -1,5 +1,5 @@
 -- What happens beside the reports leaves what holds of every core, and as much to do.
-use Rattle.std.proofs.Common.{◌≡◌, ◌≢◌, ℕ, ◌<◌, All, Bool, true, false, cond, List, [], ◌∷◌, map, Option, Some, None, find, length, option_map, refl, ap, sym, subst, ◌∙◌, arith, rules, true≢false}
+use Rattle.std.proofs.Common.{◌≡◌, ◌≢◌, ℕ, All, Bool, true, false, cond, List, [], ◌∷◌, map, Option, Some, None, find, length, option_map, refl, ap, sym, subst, ◌∙◌, arith, rules, true≢false}
 use Rattle.std.specs.List.{AllPairs, filter}
 use Rattle.std.proofs.lemmas.List.{map-id}
 use Rattle.std.proofs.lemmas.List.Elements.{All-map, All-weaker}
@@ -11,10 +11,10 @@ use Rattle.sc_commit.specs.Committing.{is_same}
 use Rattle.sc_taskset.proofs.FindLemmas.{pairs_head, pairs_tail}
 use Rattle.sc_dag.specs.DagData.{DagData}
 use Rattle.sc_dag.specs.Sound.{runner_of}
-use Rattle.sc_core.specs.CoreData.{CoreData, is_of, is_running_job, job_runs}
+use Rattle.sc_core.specs.CoreData.{CoreData, is_of, is_running_job}
 use Rattle.sc_core.specs.HandOuts.{HandOutData}
-use Rattle.sc_core.specs.Laws.{left_to_do, is_untold}
-use Rattle.sc_core.specs.Posts.{fits, is_save}
+use Rattle.sc_core.specs.Laws.{left_to_do}
+use Rattle.sc_core.specs.Posts.{fits}
 use Rattle.sc_core.specs.Sides.{IsAside, IsFurther, Sides, StepsAside, first_with}
 use Rattle.sc_core.specs.Sound.{AreLostAsPlanned, AreOnExecutors, AreTwo, AwaitsTelling, GoesOn, IsShelvedWell, IsSoundCore, IsSoundJob, IsSoundShelf, RunsWell, WasHandedOut, is_shelved}
 use Rattle.sc_core.specs.declared.answers.Answer.{Answer}

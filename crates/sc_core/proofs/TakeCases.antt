@@ -1,8 +1,8 @@
 -- What a Take comes to: a task, the end of the job by its budget, or no change.
-use Rattle.std.proofs.Common.{◌≡◌, ℕ, ◌≤◌, ◌<◌, ◌⊎◌, inl, inr, Bool, true, false, None, refl}
+use Rattle.std.proofs.Common.{◌≡◌, ℕ, ◌≤◌, ◌<◌, ◌⊎◌, inl, inr, true, false, refl}
 use Rattle.sc_ids.specs.declared.attempts.AttemptId.{AttemptId}
 use Rattle.sc_dag.specs.Offers.{IsOffer}
-use Rattle.sc_core.specs.CoreData.{CoreData, ended, job_runs}
+use Rattle.sc_core.specs.CoreData.{CoreData, ended}
 use Rattle.sc_core.specs.HandOuts.{HandOutData}
 use Rattle.sc_core.specs.Laws.{changes_nothing}
 use Rattle.sc_core.specs.Owners.{has_task}
@@ -64,10 +64,12 @@ takes_so c after exec (says.Wait out) (asking, none, way, is) =
     inr (inr (record { told = refl; plain = refl; is = is }))
 takes_so c after exec (says.Busy held) (runs, stays, live, has, is) =
     inr (inr (record { told = refl; plain = refl; is = is }))
-takes_so c after exec says.Lost (runs, stays, lost, is) = inr (inr (record { told = refl; plain = refl; is = is }))
+takes_so c after exec says.Lost (runs, stays, lost, is) =
+    inr (inr (record { told = refl; plain = refl; is = is }))
 takes_so c after exec (says.Stopped first) (runs, left, is) =
     inr (inr (record { told = refl; plain = refl; is = is }))
-takes_so c after exec says.Ended (runs, is) = inr (inr (record { told = refl; plain = refl; is = is }))
+takes_so c after exec says.Ended (runs, is) =
+    inr (inr (record { told = refl; plain = refl; is = is }))
 takes_so c after exec (says.Aborted (aborts.TaskLimit s n p)) h = absurd h
 takes_so c after exec (says.Aborted (aborts.StageLimit s)) h = absurd h
 takes_so c after exec (says.Aborted aborts.NoExecutor) h = absurd h

@@ -2,10 +2,10 @@
 //!
 //! [`Core::step`] is the only way in. An [`Event`] is what an executor asks ([`Event::Take`]) or
 //! reports ([`Event::Post`]), that a report is told which the fault plan lets come late
-//! ([`Event::Release`]), that an executor is told lost ([`Event::TellLost`]), or what happens beside
-//! the reports ([`Event::Side`]), as that an executor leaves; what it is answered and what it leaves
-//! is one relation, `Steps` of `specs/Steps.antt`, with a file for each event. A [`Journal`] keeps
-//! the events with their answers, so that its state is the replay of its entries.
+//! ([`Event::Release`]), that an executor is told lost ([`Event::TellLost`]), or what happens
+//! beside the reports ([`Event::Side`]), as that an executor leaves; what it is answered and what
+//! it leaves is one relation, `Steps` of `specs/Steps.antt`, with a file for each event. A
+//! [`Journal`] keeps the events with their answers, so that its state is the replay of its entries.
 //!
 //! Contracts see a [`Core`] as the record `CoreData` of `specs/CoreData.antt`; what holds of every
 //! core stands in `specs/Sound.antt`, and what follows for every list of events in

@@ -57,8 +57,8 @@ impl State {
         outcome: Outcome,
     ) -> Result<Stepped, OrMemory<NotEnabled>>
         requires { IsRunningAt self.old.0.running attempt place }
-        ensures answered { IfOk result (λ s. PostsOf (running_of self.old.0 attempt) self.old.0 attempt
-            outcome s.answer self.new.0) }
+        ensures answered { IfOk result (λ s. PostsOf (running_of self.old.0 attempt) self.old.0
+            attempt outcome s.answer self.new.0) }
         ensures thrice { IfOk result (λ s. IsThrice s s.answer) }
         ensures not_enabled { (fault : NotEnabled) → result ≡ Err (OrMemory.Fault fault)
             → misfits self.old.0 (running_of self.old.0 attempt) outcome ≡ true }

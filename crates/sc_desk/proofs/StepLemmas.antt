@@ -1,5 +1,5 @@
 -- What becomes of the stages and the results of a job, by what happens to its core.
-use Rattle.std.proofs.Common.{◌≡◌, ◌≢◌, ℕ, ◌<◌, ◌&&◌, not, Bool, true, false, if◌then◌else◌, List, [], ◌∷◌, inl, inr, true≢false, Option, Some, None, slice_get, refl, ap, sym, subst, ◌∙◌, rules, ◌⊎◌}
+use Rattle.std.proofs.Common.{◌≡◌, ◌≢◌, ℕ, ◌<◌, ◌&&◌, not, Bool, true, false, if◌then◌else◌, List, [], ◌∷◌, inl, inr, true≢false, Option, Some, None, slice_get, refl, ap, sym, subst, ◌∙◌, rules}
 use Rattle.sc_ids.specs.Changes.{change_at}
 use Rattle.sc_ids.specs.declared.attempts.AttemptId.{AttemptId}
 use Rattle.sc_ids.specs.declared.blocks.Loc.{Loc}
@@ -31,7 +31,6 @@ use Rattle.sc_core.specs.Posts.{Posts, PostsIf, PostsOf, fits}
 use Rattle.sc_core.specs.Sound.{IsSoundCore, IsSoundJob}
 use Rattle.sc_core.specs.Takes.{Takes}
 use Rattle.sc_core.specs.Tells.{FailsBy, FailsOrAborts, FollowsUp, IsGone, LooksAgain, Misses, MissesIf, Tells, TellsFailure, TellsFailureIf, TellsMap, TellsResult, after_failure, after_result, done_if, is_zombie_in, released, success_answer, with_result_of}
-use Rattle.sc_core.specs.declared.answers.Abort.TheVariants as aborts
 use Rattle.sc_core.specs.declared.answers.Answer.{Answer}
 use Rattle.sc_core.specs.declared.answers.Answer.TheVariants as says
 use Rattle.sc_core.specs.declared.events.Event.{Event}

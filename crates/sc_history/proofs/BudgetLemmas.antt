@@ -18,7 +18,6 @@ use Rattle.sc_core.specs.Takes.{Takes}
 use Rattle.sc_core.specs.Tells.{released}
 use Rattle.sc_core.specs.declared.answers.Abort.TheVariants as aborts
 use Rattle.sc_core.specs.declared.answers.Answer.{Answer}
-use Rattle.sc_core.specs.declared.answers.Answer.TheVariants as says
 use Rattle.sc_core.specs.declared.answers.JobState.TheVariants as jobs
 use Rattle.sc_core.specs.declared.entries.Entry.{Entry}
 use Rattle.sc_core.specs.declared.events.Event.{Event}
@@ -71,7 +70,12 @@ takes_count c after exec answer h = by (takes_so c after exec answer h)
     by (inr (inl b)) =
         gives false (ap has_task b.told)
         (subst (λ x. Counts c x false) (sym b.is)
-        (record { handed = omega arith; limits = refl; within = λ h. h; spent = λ spent e. b.most }))
+        (record {
+          handed = omega arith;
+          limits = refl;
+          within = λ h. h;
+          spent = λ spent e. b.most;
+        }))
     by (inr (inr same)) = gives false same.plain (unchanged c after same.is)
 
 -- ---- reports

@@ -19,12 +19,10 @@ use Rattle.sc_core.specs.CoreData.{CoreData, is_running_job, job_runs, with_dag}
 use Rattle.sc_core.specs.Posts.{PostsIf}
 use Rattle.sc_core.specs.Releases.{ReleasesIf}
 use Rattle.sc_core.specs.Steps.{Steps}
-use Rattle.sc_core.specs.Takes.{Takes}
 use Rattle.sc_core.specs.Tells.{FailsBy, FailsOrAborts, IsGone, Misses, MissesIf, Tells, TellsFailureIf, after_failure, after_result, done_if, is_zombie_in, released, with_result_of}
 use Rattle.sc_core.specs.declared.answers.Abort.TheVariants.{StageLimit}
 use Rattle.sc_core.specs.declared.answers.Abort.TheVariants as aborts
 use Rattle.sc_core.specs.declared.answers.Answer.{Answer}
-use Rattle.sc_core.specs.declared.answers.Answer.TheVariants as says
 use Rattle.sc_core.specs.declared.answers.JobState.TheVariants as jobs
 use Rattle.sc_core.specs.declared.events.Event.{Event}
 use Rattle.sc_core.specs.declared.events.Event.TheVariants.{Post, Release, Side, Take, TellLost}

@@ -1,5 +1,5 @@
 -- No event changes for how many outputs of a shuffle there is room.
-use Rattle.std.proofs.Common.{◌≡◌, inl, inr, ℕ, List, ◌&&◌, not, Bool, true, false, if◌then◌else◌, [], ◌∷◌, slice_get, refl, ap, sym, subst, ◌∙◌, ◌⊎◌}
+use Rattle.std.proofs.Common.{◌≡◌, inl, inr, ℕ, List, ◌&&◌, not, Bool, true, false, if◌then◌else◌, [], ◌∷◌, slice_get, refl, ap, sym, subst, ◌∙◌}
 use Rattle.sc_ids.specs.declared.attempts.AttemptId.{AttemptId}
 use Rattle.sc_ids.specs.declared.blocks.Loc.{Loc}
 use Rattle.sc_ids.specs.declared.failures.FailureCause.{FailureCause}
@@ -21,9 +21,7 @@ use Rattle.sc_core.specs.CoreData.{CoreData, with_dag}
 use Rattle.sc_core.specs.Losses.{all_released, attempts_on}
 use Rattle.sc_core.specs.Takes.{Takes}
 use Rattle.sc_core.specs.Tells.{FailsBy, FailsOrAborts, IsGone, Misses, MissesIf, Tells, TellsFailure, TellsFailureIf, TellsMap, TellsResult, after_failure, after_result, done_if, is_zombie_in, released, with_result_of}
-use Rattle.sc_core.specs.declared.answers.Abort.TheVariants as aborts
 use Rattle.sc_core.specs.declared.answers.Answer.{Answer}
-use Rattle.sc_core.specs.declared.answers.Answer.TheVariants as says
 use Rattle.sc_core.specs.declared.events.Event.{Event}
 use Rattle.sc_core.specs.declared.events.Event.TheVariants.{Post, Release, Side, Take, TellLost}
 use Rattle.sc_core.specs.declared.events.Outcome.{Outcome}

@@ -1,5 +1,5 @@
 -- A job that is aborted for the failures of a partition shows them.
-use Rattle.std.proofs.Common.{◌≡◌, ◌≢◌, ◌⊎◌, inl, inr, ℕ, ◌≤◌, true, List, [], ◌++◌, length, Option, Some, None, refl, ap, sym, subst, ◌∙◌, arith, rules, true≢false, slice_get, Bool, false}
+use Rattle.std.proofs.Common.{◌≡◌, ◌≢◌, ◌⊎◌, inl, inr, ℕ, ◌≤◌, true, List, [], ◌++◌, length, Option, Some, None, refl, ap, sym, subst, ◌∙◌, arith, rules, true≢false, slice_get, false}
 use Rattle.std.specs.List.{AllPairs}
 use Rattle.std.proofs.lemmas.List.{length-map}
 use Rattle.sc_ids.specs.Graphs.{StageData}
@@ -22,7 +22,6 @@ use Rattle.sc_core.specs.Tells.{limit_of}
 use Rattle.sc_core.specs.declared.answers.Abort.TheVariants.{TaskLimit}
 use Rattle.sc_core.specs.declared.answers.Abort.TheVariants as aborts
 use Rattle.sc_core.specs.declared.answers.Answer.{Answer}
-use Rattle.sc_core.specs.declared.answers.Answer.TheVariants as says
 use Rattle.sc_core.specs.declared.answers.JobState.TheVariants as jobs
 use Rattle.sc_core.specs.declared.events.Event.{Event}
 use Rattle.sc_core.specs.declared.events.Event.TheVariants.{Post, Release, Side, Take, TellLost}

@@ -1,5 +1,5 @@
 -- The stages of a job read all shuffles that their tasks take in.
-use Rattle.std.proofs.Common.{◌≡◌, ◌∙◌, ℕ, zero, suc, Bool, true, false, cond, List, [], ◌∷◌, ◌++◌, Option, Some, None, map, filter, flat_map, refl, ap, sym, subst, arith}
+use Rattle.std.proofs.Common.{◌≡◌, ◌∙◌, ℕ, zero, suc, Bool, true, false, cond, List, [], ◌∷◌, Option, Some, None, map, filter, flat_map, refl, ap, sym, subst, arith}
 use Rattle.std.proofs.lemmas.List.Elements.{All-contains, All-contains_itself, All-weaker}
 use Rattle.std.specs.List.{All, Contains, slice_get}
 use Rattle.sc_ids.specs.Graphs.{StageData}
@@ -17,7 +17,7 @@ use Rattle.sc_stagecut.specs.Numbering.{is_shuffle, is_some_shuffle, mapped_node
 use Rattle.sc_stagecut.specs.Reaching.{IsReached, IsWithin, Leads, Reaches, dependencies_among, dependencies_at}
 use Rattle.sc_stagecut.proofs.PathLemmas.{reaches-further, within-reached}
 use Rattle.sc_compute.specs.Inputs.{Leads as LeadsDirectly, TakesIn, direct_parent, direct_parents, direct_parents_of}
-use Rattle.sc_compute.specs.Stages.{GoesThrough, mapped_in, node_at}
+use Rattle.sc_compute.specs.Stages.{GoesThrough, node_at}
 use Rattle.sc_jobs.specs.JobData.{goal_node}
 use Rattle.sc_jobs.specs.Plans.{AreTasksFor, IsStageFor, ReadsInputs, ReadsSide, node_taken_by}
 use Rattle.sc_jobs.specs.declared.goals.Goal.{Goal}

@@ -1,5 +1,5 @@
 -- What was handed in for a task are the inputs of what it is to compute.
-use Rattle.std.proofs.Common.{◌≡◌, ◌∙◌, ℕ, ◌+◌, ◌<◌, List, [], ◌∷◌, ◌++◌, Option, Some, None, All, IfSome, length, take, drop, get_or, refl, ap, sym, subst, arith}
+use Rattle.std.proofs.Common.{◌≡◌, ℕ, ◌+◌, ◌<◌, List, [], ◌∷◌, Option, Some, None, All, IfSome, length, take, get_or, refl, sym, subst}
 use Rattle.std.proofs.lemmas.List.{take_more}
 use Rattle.std.proofs.lemmas.List.Elements.{All-append, All-cons, All-contains, All-nil, All-weaker}
 use Rattle.std.specs.List.{Contains}
@@ -10,10 +10,10 @@ use Rattle.sc_ids.specs.declared.blocks.Target.TheVariants as targets
 use Rattle.sc_lineage.specs.ScriptData.{WorkData}
 use Rattle.sc_stagecut.specs.Numbering.{side_of}
 use Rattle.sc_compute.specs.Asking.{node_taken}
-use Rattle.sc_compute.specs.Inputs.{HasInputs, TakesIn}
-use Rattle.sc_compute.specs.Stages.{GoesThrough, HasOutputs, node_at}
+use Rattle.sc_compute.specs.Inputs.{HasInputs}
+use Rattle.sc_compute.specs.Stages.{HasOutputs}
 use Rattle.sc_compute.specs.declared.stages.ShuffleInputs.{ShuffleInputs}
-use Rattle.sc_jobs.specs.JobData.{HasPartition, goal_action, goal_node, parents_in, stage_in, target_among, target_by}
+use Rattle.sc_jobs.specs.JobData.{HasPartition, parents_in, stage_in, target_among, target_by}
 use Rattle.sc_jobs.specs.Plans.{AreTasksFor, IsJobFor, IsStageFor, ReadsInputs, ReadsSide, node_taken_by}
 use Rattle.sc_jobs.proofs.StageLemmas.{found_there, stage_found}
 use Rattle.sc_net.specs.Tasks.{IsTaskOf, TaskData, stage_of_task, target_of_task}

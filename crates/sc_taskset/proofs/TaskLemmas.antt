@@ -13,7 +13,8 @@ use Rattle.sc_taskset.specs.Sound.{AreApart, IsPast, IsSoundTask}
 
 -- fewer attempts are apart
 apart_filter :
-    (p : RunningCopy → Bool) (copies : List RunningCopy) → AreApart copies → AreApart (filter p copies)
+    (p : RunningCopy → Bool) (copies : List RunningCopy) → AreApart copies
+    → AreApart (filter p copies)
 apart_filter p [] apart = apart
 apart_filter p (c ∷ []) apart = by (p c)
   where

@@ -1,4 +1,4 @@
-use Rattle.std.proofs.Common.{◌≡◌, ◌∙◌, [], List, Bor, Option, Some, Vec, length, ap, sym, subst, arith}
+use Rattle.std.proofs.Common.{◌∙◌, [], List, Bor, Option, Some, Vec, length, ap, sym, subst, arith}
 use Rattle.std.specs.Option.{option_map}
 use Rattle.std.specs.declared.alloc.Global.{Global}
 use Rattle.sc_base.specs.Lists.{at_or}
@@ -8,7 +8,7 @@ use Rattle.sc_lineage.specs.Partitioners.{no_partitioner}
 use Rattle.sc_lineage.specs.Views.{shuffling_data_of}
 use Rattle.sc_lineage.proofs.CountLemmas.{count_is_within}
 use Rattle.sc_compute.proofs.HandedLemmas.{doesnt_lie, handed_few, handed_maps, handed_parts, were_handed}
-use Rattle.sc_compute.specs.Stages.{IsReadOf, handed_in}
+use Rattle.sc_compute.specs.Stages.{IsReadOf}
 use Rattle.sc_compute.specs.declared.stages.Input.TheVariants as inputs
 use Rattle.sc_compute.proofs.MakingLemmas.{skipped_parts}
 use Rattle.sc_compute.proofs.making.input_of.Goals as goal

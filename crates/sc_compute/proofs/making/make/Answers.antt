@@ -69,7 +69,8 @@ input_of-requires-in-Meet-2 c =
       right = c.requires.right;
       side = side_is at 1 group_by_key right c.in-Meet.partitions (refl, refl, refl);
       lies = lies_unhanded c.args.work.now stages c.args.node 1 node
-          (hash_partitioner c.in-Meet.partitions) right (node_is at) c.requires.sides (λ goes. goes);
+          (hash_partitioner c.in-Meet.partitions) right (node_is at) c.requires.sides
+          (λ goes. goes);
       some_partitions = some_parts at;
     }
 

@@ -21,7 +21,8 @@ invariant_of-self-in-Post c =
 pub invariant_of-self-in-Release : goal.invariant_of-self-in-Release
 invariant_of-self-in-Release c =
     stepped_sound c.self.inside.state.0 c.release_key.new.self.0 (Release c.in-Release.key)
-    c.release_key.result c.self.invariant c.release_key.ensures.answered c.release_key.ensures.unchanged
+    c.release_key.result c.self.invariant c.release_key.ensures.answered
+    c.release_key.ensures.unchanged
 
 pub invariant_of-self-in-Side : goal.invariant_of-self-in-Side
 invariant_of-self-in-Side c =
