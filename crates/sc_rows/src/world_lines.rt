@@ -173,12 +173,12 @@ fn answer_of<W: Naming, R: Abort + AllocGlobal>(
 }
 
 /// The lines as they are answered, one after the other, and behind them the results that are there.
-fn answers_of<W: Naming, R: Abort + AllocGlobal>(rt: &R, work: Work, lines: &str) -> String
+fn answers_of<W: Naming, R: Abort + AllocGlobal>(rt: &R, work: Work, lines: String) -> String
     requires { work ≡ W.work }
 {
     let mut world = world_of::<W, R>(rt, work);
     let mut told = String::new(rt.alloc());
-    for line in lines.lines() {
+    for line in lines.as_str().lines() {
         let (words, _) = halves(line, ": ");
         let answer = answer_of(rt, &mut world, words);
         writeln!(told, "{words}: {answer}").expect(rt, "memory");
@@ -206,7 +206,8 @@ pub fn assert_world<R: Abort + AllocGlobal>(rt: &R, case: &str) {
     let (plan, rest) = halves(rest, "----\n");
     let (lines, results) = halves(rest, "----\n");
     let work = work_of(rt, WORD_COUNT, plan, word, INPUT);
-    let seen = answers_of::<Brand, R>(rt, work, lines);
+    let steps = String::from_str(rt.alloc(), lines).expect(rt, "memory");
+    let seen = answers_of::<Brand, R>(rt, work, steps);
     let want = format!(in rt.alloc(); "{lines}{results}").expect(rt, "memory");
     assert_eq!(rt; seen.as_str(), want.as_str(), "{label}");
 }
