@@ -4,9 +4,18 @@
 Prints one line a place, 'FILE:LINE: what is wrong', and ends with 1 where it found any:
 
 - a label of a paper (a capital letter and a number) in prose, definitions or comments;
-- a code name in backticks in README.md, ARCHITECTURE.md, CONTRIBUTING.md or docs/ that no file of
-  the repository has. A name with '_', one in CamelCase and a file .rt, .antt or .edit count; in a
-  path, '*' and parts in capitals (crates/NAME/src) stand for anything;
+- a code name in backticks in README.md, ARCHITECTURE.md, CONTRIBUTING.md, docs/ or the README.md of
+  a crate that no file of the repository has. A name with '_', one in CamelCase and a file .rt,
+  .antt or .edit count; in a path, '*' and parts in capitals (crates/NAME/src) stand for anything.
+  In the page of a crate a path such as specs/Steps.antt is one of that crate, and a lemma with a
+  hyphen counts too;
+- a name such as Finding::Gone in a document whose type is there and has no such member;
+- a crate of 300 lines of code or more without a README.md, and such a page that doesn't begin with
+  the crate's name, has more than 40 lines or one past 100 columns;
+- a link in a document to a file or a heading that isn't there;
+- a heading of level 2 in docs/GUIDE.md that its table of contents lacks, or has in another order;
+- a block of code whose first line names a file (```rust crates/..) and whose lines don't stand in
+  that file, one behind the other; a line '// ..' in the block stands for any number of lines;
 - a group or a crate of crates.txt that ARCHITECTURE.md or README.md lacks;
 - the word "today" in a document, but for README.md between its marks;
 - a line of code, clauses, definitions or proofs past 100 columns, but for imports;
@@ -42,9 +51,24 @@ PROSE_SUFFIXES = {".md", ".edit", ".py", ".sh"}
 COMMENT_MARKS = {".rt": "//", ".antt": "--"}
 FILE_SUFFIXES = (".rt", ".antt", ".edit")
 TOP_DOCUMENTS = ("README.md", "ARCHITECTURE.md", "CONTRIBUTING.md")
+CRATE_PAGE = re.compile(r"crates/([^/]+)/README\.md")
+CRATE_PATH = re.compile(r"(?:src|specs|proofs|must-fail)/\S+")
+DECLARED = re.compile(
+    r"^(?:pub )?(?:(?:enum|struct|trait) (\w+)|impl\b[^{\n]*?\b(\w+)(?:<[^{\n]*>)? \{)",
+    re.MULTILINE,
+)
+MEMBER = re.compile(r"\b([A-Z]\w*)::(\w+)")
+HYPHENED = re.compile(r"\w+(?:-\w+)+")
+LINK = re.compile(r"\]\(([^)\s]+)\)")
+HEADING = re.compile(r"#+ (.*)")
+QUOTE = re.compile(r"```\w+ (crates/\S+)")
+LEFT_OUT = "// .."
+CONTENTS_PAGE = "docs/GUIDE.md"
+CODE_LINES = 300
+PAGE_LINES = 40
 COLUMNS = 100
-# What a rename made longer, by one column: to break it makes each crate above stale, so it waits for
-# the next change of its crate.
+# What a rename made longer, by one column: to break it makes each crate above stale, so it waits
+# for the next change of its crate.
 WIDER = {("crates/sc_plan/proofs/ReaderLemmas.antt", 127)}
 
 Fault = tuple[str, int, str]
@@ -77,7 +101,26 @@ def read_files(root: pathlib.Path) -> Files:
 
 
 def is_document(name: str) -> bool:
-    return name in TOP_DOCUMENTS or (name.startswith("docs/") and name.endswith(".md"))
+    return (
+        name in TOP_DOCUMENTS
+        or (name.startswith("docs/") and name.endswith(".md"))
+        or CRATE_PAGE.fullmatch(name) is not None
+    )
+
+
+def documents(files: Files) -> Iterator[tuple[str, str]]:
+    """The documents of the repository, with those of its crates."""
+    yield from ((name, text) for name, text in files.items() if is_document(name))
+
+
+def prose(text: str) -> Iterator[tuple[int, str]]:
+    """The numbered lines of a document outside its blocks of code."""
+    fenced = False
+    for number, line in enumerate(text.splitlines(), 1):
+        if line.lstrip().startswith("```"):
+            fenced = not fenced
+        elif not fenced:
+            yield number, line
 
 
 def without_hexadecimal(line: str) -> str:
@@ -137,18 +180,147 @@ def name_faults(files: Files) -> Iterator[Fault]:
         words.update(WORD.findall(name))
         if not name.endswith(".md"):
             words.update(WORD.findall(text))
+    for name, text in documents(files):
+        for number, line in prose(text):
+            for span in CODE_SPAN.findall(line):
+                for word in CODE_WORD.findall(span):
+                    if is_ours(word) and not is_known(word, words, list(files)):
+                        yield name, number, f"no file has the name {word}"
+
+
+def member_faults(files: Files) -> Iterator[Fault]:
+    """Types of the program that have no variant, field or function of the name that is said."""
+    members: dict[str, set[str]] = {}
     for name, text in files.items():
-        if not is_document(name):
-            continue
-        fenced = False
+        if name.endswith(".rt"):
+            words = set(WORD.findall("".join(re.findall(r"^\s.*\n", text, re.MULTILINE))))
+            for kind in {word for declared in DECLARED.findall(text) for word in declared}:
+                members.setdefault(kind, set()).update(words)
+    for name, text in documents(files):
+        for number, line in prose(text):
+            for span in CODE_SPAN.findall(line):
+                for kind, member in MEMBER.findall(span):
+                    if kind in members and member not in members[kind]:
+                        yield name, number, f"{kind} has no {member}"
+
+
+def crate_pages(files: Files) -> Iterator[tuple[str, str, str]]:
+    """The pages of crates: the crate, the path, the text."""
+    for name, text in files.items():
+        page = CRATE_PAGE.fullmatch(name)
+        if page:
+            yield page.group(1), name, text
+
+
+def own_name_faults(files: Files) -> Iterator[Fault]:
+    for crate, name, text in crate_pages(files):
+        proofs = [it for path, it in files.items() if path.startswith(f"crates/{crate}/")]
+        for number, line in prose(text):
+            for span in CODE_SPAN.findall(line):
+                if CRATE_PATH.fullmatch(span) and f"crates/{crate}/{span}" not in files:
+                    yield name, number, f"{crate} has no file {span}"
+                if HYPHENED.fullmatch(span) and not any(span in it for it in proofs):
+                    yield name, number, f"no file of {crate} has the name {span}"
+
+
+def page_faults(files: Files) -> Iterator[Fault]:
+    code: dict[str, int] = {}
+    for name, text in files.items():
+        parts = name.split("/")
+        if parts[0] == "crates" and parts[2:3] == ["src"] and name.endswith(".rt"):
+            code[parts[1]] = code.get(parts[1], 0) + len(text.splitlines())
+    for crate, lines in code.items():
+        if lines >= CODE_LINES and f"crates/{crate}/README.md" not in files:
+            yield f"crates/{crate}", 1, f"has {lines} lines of code, and no README.md"
+    for crate, name, text in crate_pages(files):
+        lines = text.splitlines()
+        if lines[:1] != [f"# {crate}"]:
+            yield name, 1, f"doesn't begin with '# {crate}'"
+        if len(lines) > PAGE_LINES:
+            yield name, PAGE_LINES + 1, f"has {len(lines)} lines, more than {PAGE_LINES}"
+        for number, line in enumerate(lines, 1):
+            if len(line) > COLUMNS:
+                yield name, number, f"has {len(line)} columns"
+
+
+def anchor(heading: str) -> str:
+    """The anchor that a heading of this text has where Markdown is shown."""
+    kept = re.sub(r"[^\w\- ]", "", heading.strip().lower())
+    return kept.replace(" ", "-")
+
+
+def anchors(text: str) -> set[str]:
+    """The anchors of a document's headings."""
+    found = (HEADING.match(line) for _, line in prose(text))
+    return {anchor(it.group(1)) for it in found if it}
+
+
+def link_faults(files: Files) -> Iterator[Fault]:
+    for name, text in documents(files):
+        folder = pathlib.PurePosixPath(name).parent
+        for number, line in prose(text):
+            for target in LINK.findall(line):
+                if "://" in target:
+                    continue
+                path, _, heading = target.partition("#")
+                page = os.path.normpath(folder / path) if path else name
+                there = page in files or any(it.startswith(f"{page}/") for it in files)
+                if not there:
+                    yield name, number, f"links to {path}, which isn't there"
+                elif heading and heading not in anchors(files.get(page, "")):
+                    yield name, number, f"links to a heading that {page} hasn't, {heading}"
+
+
+def contents_faults(files: Files) -> Iterator[Fault]:
+    lines = [line for _, line in prose(files.get(CONTENTS_PAGE, ""))]
+    wanted = [f"- [{it[3:]}](#{anchor(it[3:])})" for it in lines if it.startswith("## ")]
+    listed = [it for it in lines if it.startswith("- [") and "](#" in it]
+    for want in wanted:
+        if want not in listed:
+            yield CONTENTS_PAGE, 1, f"the table of contents lacks {want}"
+    if sorted(wanted) == sorted(listed) and wanted != listed:
+        yield CONTENTS_PAGE, 1, "the table of contents has another order"
+    for it in listed:
+        if it not in wanted:
+            yield CONTENTS_PAGE, 1, f"the table of contents has a line too many, {it}"
+
+
+def runs_of(block: list[str]) -> Iterator[list[str]]:
+    """The parts of a quoted block between the lines that stand for others."""
+    run: list[str] = []
+    for line in [*block, LEFT_OUT]:
+        if line != LEFT_OUT:
+            run.append(line)
+        elif run:
+            yield run
+            run = []
+
+
+def stands_in(block: list[str], lines: list[str]) -> bool:
+    """Whether the parts of a block stand in a file, in order and each without a gap."""
+    begin = 0
+    for run in runs_of(block):
+        ends = range(begin + len(run), len(lines) + 1)
+        end = next((end for end in ends if lines[end - len(run) : end] == run), None)
+        if end is None:
+            return False
+        begin = end
+    return True
+
+
+def quote_faults(files: Files) -> Iterator[Fault]:
+    for name, text in documents(files):
+        quoted, begun, block = "", 0, list[str]()
         for number, line in enumerate(text.splitlines(), 1):
-            if line.lstrip().startswith("```"):
-                fenced = not fenced
-            elif not fenced:
-                for span in CODE_SPAN.findall(line):
-                    for word in CODE_WORD.findall(span):
-                        if is_ours(word) and not is_known(word, words, list(files)):
-                            yield name, number, f"no file has the name {word}"
+            if quoted and line.startswith("```"):
+                lines = [it.strip() for it in files.get(quoted, "").splitlines()]
+                if not stands_in(block, lines):
+                    yield name, begun, f"the block isn't what {quoted} has"
+                quoted = ""
+            elif quoted:
+                block.append(line.strip())
+            elif found := QUOTE.fullmatch(line):
+                quoted, begun, block = found.group(1), number, []
 
 
 def groups(text: str) -> Iterator[tuple[str, list[str]]]:
@@ -179,9 +351,7 @@ def crate_faults(files: Files) -> Iterator[Fault]:
 
 
 def today_faults(files: Files) -> Iterator[Fault]:
-    for name, text in files.items():
-        if not is_document(name):
-            continue
+    for name, text in documents(files):
         marked = False
         for number, line in enumerate(text.splitlines(), 1):
             if line in TODAY_MARKS:
@@ -244,6 +414,12 @@ def main() -> int:
     of_files = (
         label_faults,
         name_faults,
+        member_faults,
+        own_name_faults,
+        page_faults,
+        link_faults,
+        contents_faults,
+        quote_faults,
         crate_faults,
         today_faults,
         column_faults,
