@@ -23,7 +23,7 @@ use std::alloc::Global;
 
 /// Runs the script that the words name, as `run SCRIPT` and options.
 ///
-/// What is promised, of which the clauses below say what today's language has of it:
+/// What is promised, of which the clauses below have what this release has:
 ///
 /// > For every script, inputs, fault plan, clock and interleaving of executor threads, `run`
 /// > answering 0 means that the sink got exactly the text of the script's sequential meaning and
@@ -31,10 +31,10 @@ use std::alloc::Global;
 /// > from one attempt authorised alone; an abort is answered only where the returned history shows
 /// > its limit, loss, script fault or device fault.
 ///
-/// Today one thread runs the actions, each by its jobs: the executors take turns, and what the
-/// fault plan says is done to them. There is no clock, and nothing is saved. `read` of the answer
-/// is the script, the plan where one is named, and then the inputs, as they were read, which shows
-/// a script's fault and a plan's; `history` has the jobs, of which the last shows an abort.
+/// One thread runs the actions, each by its jobs: the executors take turns, and lose what the fault
+/// plan says. There is no clock yet, and nothing is saved. `read` of the answer is the script, the
+/// plan where one is named, and then the inputs, as they were read, which shows a script's fault
+/// and a plan's; `history` has the jobs, of which the last shows an abort.
 pub fn run<R, S: Source, K: Sink>(
     _rt: &R,
     alloc: Global,
@@ -87,15 +87,16 @@ pub fn run<R, S: Source, K: Sink>(
     // An input that was read and isn't text is told by its name, unless memory runs out.
     ensures text_exactly { TellsNotText result.read.items result.status }
 
-    // Where an action is never, a job is aborted; and one whose results have no value is told,
-    // unless a job is aborted. Memory may run out, or the sink fail before.
+    // Where a partition of the first action that fails raises, a job is aborted; where that action
+    // fails on the driver, the status says so, unless a job is aborted. Memory may run out, or the
+    // sink fail before.
     ensures never_exactly { TellsNever (map string_bytes words.now) result.read.items
         result.status }
     ensures driver_exactly { TellsDriverFault (map string_bytes words.now) result.read.items
         result.status }
 
-    // Without a line in the fault plan no executor is lost, no stage is given up, and a task that
-    // fails too often is one of an action that is never.
+    // Without a line in the fault plan no executor is lost, no stage is given up, and no task fails
+    // too often unless a partition of some action raises.
     ensures no_failure { TellsNoFailure (map string_bytes words.now) result.read.items
         result.status }
 

@@ -1,17 +1,19 @@
 //! The scheduler's core: a machine that answers events, and whose whole state is plain data.
 //!
-//! [`Core::step`] is the only way in. An [`Event`] is what an executor asks ([`Event::Take`]) or
-//! reports ([`Event::Post`]), that a report is told which the fault plan lets come late
-//! ([`Event::Release`]), that an executor is told lost ([`Event::TellLost`]), or what happens
-//! beside the reports ([`Event::Side`]), as that an executor leaves; what it is answered and what
-//! it leaves is one relation, `Steps` of `specs/Steps.antt`, with a file for each event. A
-//! [`Journal`] keeps the events with their answers, so that its state is the replay of its entries.
+//! [`Core::step`] is the only way in. An [`Event`] is one of five: an executor asks for a task
+//! ([`Event::Take`]) or reports on one ([`Event::Post`]); a report that the fault plan delayed
+//! reaches the driver ([`Event::Release`]); the driver learns that an executor is lost
+//! ([`Event::TellLost`]); or something happens beside the reports ([`Event::Side`]), such as an
+//! executor that leaves. What an event is answered and what it leaves is one relation, `Steps` of
+//! `specs/Steps.antt`, with a file for each event. A [`Journal`] keeps the events with their
+//! answers, so that its state is the replay of its entries.
 //!
 //! Contracts see a [`Core`] as the record `CoreData` of `specs/CoreData.antt`; what holds of every
 //! core stands in `specs/Sound.antt`, and what follows for every list of events in
 //! `specs/Laws.antt`. The core holds no row, no block and no work: results are known by their
-//! partitions alone. Below it lie `sc_dag`,
-//! `sc_commit` and `sc_plan`.
+//! partitions alone. Below it lie `sc_dag`, `sc_commit` and `sc_plan`.
+//!
+//! After the event loop of Spark's DAGScheduler, and its TaskSchedulerImpl.
 #![tactic(auto)]
 
 mod answers;

@@ -9,15 +9,15 @@
 //!
 //! A report whose attempt runs but whose task isn't the one that was given is a stranger, and one
 //! that speaks of a generation that no wipe has brought yet is early; both are handed back. One
-//! that comes late, and the copy of one that comes twice, stand on the shelf until
-//! [`Desk::release`] tells them. [`Desk::tell_lost`] tells that an executor is lost. What is to be
-//! told next, and which wipe or eviction the plan orders next, say [`Desk::due_report`],
-//! [`Desk::due_loss`] and [`Desk::due_order`]; each order comes once in a run, when it is due
-//! ([`orders_are_due`]).
+//! that the fault plan delays, and the second copy of one that it doubles, stand on the shelf until
+//! [`Desk::release`] hands them to the core. By [`Desk::tell_lost`] the core learns that an
+//! executor is lost. [`Desk::due_report`], [`Desk::due_loss`] and [`Desk::due_order`] say which
+//! report, which loss, and which wipe or eviction the plan wants next; each order comes once in a
+//! run, when it is due ([`orders_are_due`]).
 //!
 //! Contracts see a desk as the record `DeskData` of `specs/DeskData.antt`. What holds of every desk
 //! stands in `specs/Sound.antt`: the results are those of the work that `W` stands for, they are
-//! there exactly where the core says so, the shelf has the reports that the core is to be told of,
+//! there exactly where the core says so, the shelf has the reports that the core still waits for,
 //! and each failure that was posted has its evidence. The desk computes nothing and holds no block.
 //! Below it lie `sc_core`, `sc_jobs` and `sc_net`.
 #![tactic(auto)]

@@ -4,13 +4,14 @@
 //! the blocks that it reads. By its type the job has it, and each block has its place. What its
 //! attempt came to is a [`Report`], which keeps its task and tells a [`Finding`]. By its type a
 //! report is true: a result is what the task is to compute, a raise is its own and of nothing that
-//! it reads, and a block that was gone or missing is one of its inputs (`specs/Reports.antt`). So
-//! whoever is told need not ask who tells.
+//! it reads, and a block whose fetch failed is one of its inputs (`specs/Reports.antt`). So the
+//! driver need not ask who sent it.
 //!
 //! A fault plan may have a report come late, or twice. Such a [`ShelvedReport`] is kept at the desk
-//! until the core, which has its number and its outcome, tells that it is due.
+//! under the key that the core gave it, until it is due.
 //!
-//! Jobs come from `sc_jobs`, hand-outs from `sc_core`. Who computes and who is told stands above.
+//! Jobs come from `sc_jobs`, hand-outs from `sc_core`. The executors that compute and report, and
+//! the driver's desk, stand above.
 #![tactic(auto)]
 
 mod findings;

@@ -14,7 +14,9 @@
 //! (`specs/States.antt`). `specs/Steps.antt` says what each step does.
 //!
 //! Tasks and reports come from `sc_net`, stores from `sc_store`, and `sc_compute` computes. Where
-//! the attempts run, and who is told, stands above.
+//! the attempts run, and who receives their reports, is said by the crates above.
+//!
+//! After Spark's Task and its ShuffleBlockFetcherIterator.
 #![tactic(auto)]
 
 mod assigned;
