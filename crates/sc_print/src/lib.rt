@@ -5,8 +5,9 @@
 //! have no value, a sink that failed or want of memory, leaves the texts before it as they were
 //! written. However it ends, the histories of the jobs are handed back.
 //!
-//! Contracts see the pieces that a sink took, where it shows them, and how often it failed. It
-//! knows nothing of where scripts come from, and of no status.
+//! Contracts see the pieces that a sink took, where it shows them, and how often it failed. Jobs
+//! come from `sc_context`, sinks from `sc_sink`; where scripts come from and which status a run has
+//! is said by `sc_app`, which calls it.
 #![tactic(auto)]
 
 mod faults;

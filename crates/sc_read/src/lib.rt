@@ -9,7 +9,8 @@
 //! the reading.
 //!
 //! Contracts see what the source was asked for and which of its counts rose. Where a source shows
-//! neither, they speak of the bytes that it gave alone.
+//! neither, they speak of the bytes that it gave alone. Sources come from `sc_input`, the grammars
+//! from `sc_script` and `sc_plan`, a work from `sc_lineage`; `sc_app` calls it.
 #![tactic(auto)]
 
 mod files;
