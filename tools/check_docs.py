@@ -214,12 +214,13 @@ def crate_pages(files: Files) -> Iterator[tuple[str, str, str]]:
 
 def own_name_faults(files: Files) -> Iterator[Fault]:
     for crate, name, text in crate_pages(files):
-        proofs = [it for path, it in files.items() if path.startswith(f"crates/{crate}/")]
+        folder = f"crates/{crate}/"
+        own = [it for path, it in files.items() if path.startswith(folder) and path != name]
         for number, line in prose(text):
             for span in CODE_SPAN.findall(line):
-                if CRATE_PATH.fullmatch(span) and f"crates/{crate}/{span}" not in files:
+                if CRATE_PATH.fullmatch(span) and folder + span not in files:
                     yield name, number, f"{crate} has no file {span}"
-                if HYPHENED.fullmatch(span) and not any(span in it for it in proofs):
+                if HYPHENED.fullmatch(span) and not any(span in it for it in own):
                     yield name, number, f"no file of {crate} has the name {span}"
 
 
