@@ -31,6 +31,7 @@ impl<R: Print + Drop> Model for StdSink<R> {
 
 impl<R: Print + Drop> Sink for StdSink<R> {
     ghost use Rattle.std.specs.Prelude.{◌≤◌, ◌≢◌};
+    ghost use Rattle.sc_sink.specs.Host.{WritesOut};
     ghost use Rattle.sc_sink.specs.Writing.{IsWriteCause};
 
     ghost state = { λ s. s };
@@ -38,6 +39,7 @@ impl<R: Print + Drop> Sink for StdSink<R> {
     fn write(&mut self, bytes: &[u8]) -> SinkAnswer
         ensures faults { self.old.faults ≤ self.new.faults }
         ensures cause { IsWriteCause self.old self.new bytes.now result }
+        ensures by_one { WritesOut self.old self.new result }
         ensures needs_no_memory { result ≢ SinkAnswer.OutOfMemory }
     {
         let mut writer = CountedWriter::new(io::writer(&self.rt));
