@@ -1,5 +1,5 @@
 -- The files of the system.
-use Rattle.std.specs.Prelude.{ℕ, ◌≡◌, ◌≢◌, ◌^◌, None}
+use Rattle.std.specs.Prelude.{ℕ, ◌≡◌, ◌≢◌, ◌≤◌, ◌^◌, length, None}
 use Rattle.std.specs.declared.io.ErrorKind.{ErrorKind}
 use Rattle.std.specs.declared.io.ErrorKind.TheVariants as kinds
 use Rattle.sc_base.specs.Counts.{counted}
@@ -24,6 +24,14 @@ with_fault source = record source { faults = counted source.faults }
 -- one more read of a name that isn't there
 abbrev pub with_miss : SourceState → SourceState
 with_miss source = record source { misses = counted source.misses }
+
+-- A read of a file of the system, by its answer: it gives at most so many bytes and counts nothing,
+-- or one count rises by just one.
+abbrev pub ReadsFile : SourceState → SourceState → ReadAnswer → Type 0
+ReadsFile before after (Bytes bytes) = (after ≡ before) × (length bytes ≤ most_bytes)
+ReadsFile before after NoFile = after ≡ with_miss before
+ReadsFile before after Failed = after ≡ with_fault before
+ReadsFile before after OutOfMemory = after ≡ before
 
 -- Takes in a file that was opened, by the answer: all that its reader had left to give, or one more
 -- fault, where a read failed or there were too many bytes.

@@ -45,9 +45,18 @@ impl<R: Files + AllocGlobal + Drop> Model for HostSource<R> {
 }
 
 impl<R: Files + AllocGlobal + Drop> Source for HostSource<R> {
+    ghost use Rattle.sc_base.specs.Outside.{IsLaterSource};
+    ghost use Rattle.sc_input.specs.Host.{ReadsFile};
+    ghost use Rattle.sc_input.specs.Reading.{AsksOnce, IsReadCause};
+
     ghost state = { λ s. s };
 
-    fn read(&mut self, name: &Name) -> ReadAnswer {
+    fn read(&mut self, name: &Name) -> ReadAnswer
+        ensures later { IsLaterSource self.old self.new }
+        ensures asked { AsksOnce self.old self.new name.now result }
+        ensures cause { IsReadCause self.old self.new name.now result }
+        ensures by_one { ReadsFile self.old self.new result }
+    {
         match fs::open(&self.rt, name.as_str()) {
             Ok(file) => {
                 let awaited = file
