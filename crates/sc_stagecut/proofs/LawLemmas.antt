@@ -14,12 +14,15 @@ use Rattle.sc_lineage.specs.ScriptData.{WorkData, IsSoundScript}
 use Rattle.sc_stagecut.specs.Carrying.{AreStagesOf, CarriedData, IsCarriedFor, after_job, new_number, number_behind}
 use Rattle.sc_stagecut.specs.CutLaws.{CutsAreLawful, HasStage, IsLawfulCut, IsOfRead, taken_node}
 use Rattle.sc_stagecut.specs.Cuts.{IsCut, IsMapStage, IsStage}
-use Rattle.sc_stagecut.specs.Numbering.{is_shuffle, mapped_node, numbered_from}
-use Rattle.sc_stagecut.specs.Reaching.{IsReached, IsWithin}
+use Rattle.sc_stagecut.specs.Numbering.{in_side_order, is_shuffle, mapped_node, numbered_from}
+use Rattle.sc_stagecut.specs.Reaching.{IsReached, IsWithin, followed_from}
+use Rattle.sc_stagecut.specs.declared.reads.Follow.TheVariants as follows
 use Rattle.sc_stagecut.specs.declared.carried.Numbered.{Numbered}
+use Rattle.sc_stagecut.proofs.DependencyLemmas.{followed_before}
+use Rattle.sc_stagecut.proofs.MarkLemmas.{reaches-below}
 use Rattle.sc_stagecut.proofs.JobLemmas.{Needs, carried_on, fresh_between, kept_there, kept_in, numbers_given, numbers_older, numbers_rising, numbers_there}
 use Rattle.sc_stagecut.proofs.OrderLemmas.{AllPairs-append, Contains-cases, Contains-filter, Contains-from_filter, Contains-from_map, Contains-map, zip_beside, zip_from}
-use Rattle.sc_stagecut.proofs.SideLemmas.{IsBetween}
+use Rattle.sc_stagecut.proofs.SideLemmas.{IsBetween, in_side_order_from, in_side_order_there, shuffle_side}
 use Rattle.sc_stagecut.proofs.StageLemmas.{IsNumber, numbers_are}
 use Rattle.sc_stagecut.proofs.NewLemmas.{all_from, behind_last, maps_rise, new_of_maps, new_of_result, none_from}
 
@@ -96,20 +99,21 @@ module _ (work : WorkData) (sound : IsSoundScript work.script) (carried : Carrie
           let one = Contains-from_map (λ (n : Numbered). n.stage) is.read p
           (subst Q is.parents c) in
           let S : List Numbered → Type 0 = λ ms. Contains ms one.0 in
-          let both = Contains-from_filter is.are_read.0 cut.numbers one.0
+          let both = Contains-from_filter is.are_read.0 (in_side_order (from + 1) cut.numbers) one.0
           (subst S is.are_read.2 one.1) in
+          let listed = in_side_order_from (from + 1) cut.numbers one.0 both.0 in
           let within = (is.are_read.1 one.0).0 both.1 in
           let number = All-contains
           (IsNumber work.script sound carried node cut.numbers cut.next cut.are_numbers known)
           cut.numbers one.0
           (numbers_are work.script sound carried node cut.numbers cut.next cut.are_numbers known)
-          both.0 in
+          listed in
           let W : ℕ → Type 0 = λ k. IsWithin nodes k one.0.shuffle.node in
           let H : ℕ → Type 0 = λ k. HasStage graph one.0.shuffle k in (
             one.0.shuffle,
             number.shuffle,
             subst W (sym at) within,
-            subst H one.2 (stage_of one.0 both.0),
+            subst H one.2 (stage_of one.0 listed),
           )
 
       back : IsOfRead nodes graph stage.target p → Contains stage.parents p
@@ -119,8 +123,13 @@ module _ (work : WorkData) (sound : IsSoundScript work.script) (carried : Carrie
           let V : ShuffleId → Type 0 = λ s. IsWithin nodes from s.node in
           let within = subst V (sym one.2) (subst W at read.2) in
           let S : List Numbered → Type 0 = λ ms. Contains ms one.0 in
+          let T : ShuffleId → Type 0 = λ s. is_shuffle nodes s ≡ true in
+          let low = reaches-below (followed_from follows.Narrow nodes) from
+          (followed_before work.script sound follows.Narrow) one.0.shuffle.node within in
+          let listed = in_side_order_there (from + 1) cut.numbers one.0 (omega (arith, low))
+          (shuffle_side nodes one.0.shuffle (subst T (sym one.2) read.1)) one.1 in
           let kept = subst S (sym is.are_read.2)
-          (Contains-filter is.are_read.0 cut.numbers one.0 one.1
+          (Contains-filter is.are_read.0 (in_side_order (from + 1) cut.numbers) one.0 listed
           ((is.are_read.1 one.0).1 within)) in
           let Q : List ℕ → Type 0 = λ ps. Contains ps p in
           let P : ℕ → Type 0 = λ k. Contains (map (λ (n : Numbered). n.stage) is.read) k in
@@ -157,9 +166,10 @@ module _ (work : WorkData) (sound : IsSoundScript work.script) (carried : Carrie
       let Q : List ℕ → Type 0 = λ ps. Contains ps p in
       let one = Contains-from_map (λ (n : Numbered). n.stage) is.read p (subst Q is.parents c) in
       let S : List Numbered → Type 0 = λ ms. Contains ms one.0 in
-      let both = Contains-from_filter is.are_read.0 cut.numbers one.0
+      let both = Contains-from_filter is.are_read.0 (in_side_order (from + 1) cut.numbers) one.0
       (subst S is.are_read.2 one.1) in
-      subst P one.2 (holds one.0 both.0 ((is.are_read.1 one.0).0 both.1)))
+      let listed = in_side_order_from (from + 1) cut.numbers one.0 both.0 in
+      subst P one.2 (holds one.0 listed ((is.are_read.1 one.0).0 both.1)))
       stage.parents (All-contains_itself stage.parents)
 
   shuffle_is : (n : Numbered) → Contains cut.numbers n

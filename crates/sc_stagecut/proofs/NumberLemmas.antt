@@ -1,11 +1,12 @@
 -- Lists of sides, and numbers given one after another.
 use Rattle.std.proofs.Common.{◌≡◌, ◌∙◌, ℕ, zero, suc, ◌+◌, ◌<◌, Bool, true, false, cond, if◌then◌else◌, List, [], ◌∷◌, ◌++◌, length, take, filter, get_or, flat_map, refl, ap, sym, arith, append_assoc}
-use Rattle.std.proofs.lemmas.List.{take_more}
+use Rattle.std.proofs.lemmas.Grind.{flat_map-append}
+use Rattle.std.proofs.lemmas.List.{append-nil, take_more}
 use Rattle.std.proofs.lemmas.List.Elements.{filter-append}
 use Rattle.sc_base.specs.Lists.{numbers_below}
 use Rattle.sc_ids.specs.declared.blocks.ShuffleId.{ShuffleId}
 use Rattle.sc_lineage.proofs.PlaceLemmas.{numbers_from-more}
-use Rattle.sc_stagecut.specs.Numbering.{numbered, numbered_from, side_of, sides_below}
+use Rattle.sc_stagecut.specs.Numbering.{in_side_order, is_of, numbered, numbered_from, side_of, sides_below}
 use Rattle.sc_stagecut.specs.declared.carried.Numbered.{Numbered}
 
 -- the sides of one node more
@@ -50,6 +51,27 @@ filter_sides-more test k xs ys zs so_far left right =
     both true false = refl
     both false true = refl
     both false false = refl
+
+-- numbered shuffles of the sides of one node more
+pub in_side_order-more : (numbers : List Numbered) (k : ℕ) (xs ys zs : List Numbered)
+    → xs ≡ in_side_order k numbers
+    → ys ≡ xs ++ filter (is_of (side_of k 0)) numbers
+    → zs ≡ ys ++ filter (is_of (side_of k 1)) numbers
+    → zs ≡ in_side_order (k + 1) numbers
+in_side_order-more numbers k xs ys zs so_far left right =
+    let those : ShuffleId → List Numbered = λ s. filter (is_of s) numbers in
+    let first = those (side_of k 0) in
+    let second = those (side_of k 1) in
+    let number : suc k ≡ k + 1 = omega arith in
+    right
+    ∙ ap (λ (ns : List Numbered). ns ++ second)
+    (left ∙ ap (λ (ns : List Numbered). ns ++ first) so_far)
+    ∙ append_assoc (in_side_order k numbers) first second
+    ∙ ap (λ (ns : List Numbered). in_side_order k numbers ++ (first ++ ns))
+    (sym (append-nil second))
+    ∙ sym (flat_map-append those (sides_below k) (side_of k 0 ∷ side_of k 1 ∷ []))
+    ∙ ap (flat_map those) (sym (sides_below-more k))
+    ∙ ap (λ n. in_side_order n numbers) number
 
 -- one shuffle more gets the next number
 numbered_from-push : (first : ℕ) (xs : List ShuffleId) (x : ShuffleId)

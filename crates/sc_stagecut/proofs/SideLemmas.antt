@@ -1,19 +1,19 @@
 -- Sides in order, and the numbers that they get.
-use Rattle.std.proofs.Common.{◌≡◌, ℕ, zero, suc, ◌+◌, ◌<◌, ◌≤◌, true, eqb, List, [], ◌∷◌, ◌++◌, length, All, inl, inr, ◌⊎◌, refl, ap, ap₂, sym, subst, arith}
+use Rattle.std.proofs.Common.{◌≡◌, ℕ, zero, suc, ◌+◌, ◌<◌, ◌≤◌, true, eqb, List, [], ◌∷◌, ◌++◌, length, filter, flat_map, All, inl, inr, ◌⊎◌, refl, ap, ap₂, sym, subst, arith}
 use Rattle.std.proofs.lemmas.Bool.{and_from, and_parts, cases_lt, eq-eqb, eqb-true, false≢true}
-use Rattle.std.proofs.lemmas.List.Elements.{All-append, All-cons, All-head, All-nil, All-tail, All-weaker, Contains-append_left, Contains-append_right}
+use Rattle.std.proofs.lemmas.List.Elements.{All-append, All-cons, All-head, All-nil, All-tail, All-weaker, Contains-append_cases, Contains-append_left, Contains-append_right}
 use Rattle.std.proofs.lemmas.List.Folds.{Any-from_list_any, list_any-from_Any}
 use Rattle.std.proofs.lemmas.List.Kept.{AllPairs-cons}
 use Rattle.std.specs.List.{AllPairs, Contains, slice_get}
 use Rattle.sc_ids.specs.declared.blocks.ShuffleId.{ShuffleId}
 use Rattle.sc_lineage.specs.Dependencies.{Dependency}
 use Rattle.sc_lineage.specs.NodeData.{NodeData}
-use Rattle.sc_stagecut.specs.Numbering.{has_number, is_of, is_shuffle, is_some_shuffle, numbered, numbered_from, side_of, sides_below}
+use Rattle.sc_stagecut.specs.Numbering.{has_number, in_side_order, is_of, is_shuffle, is_some_shuffle, numbered, numbered_from, side_of, sides_below}
 use Rattle.sc_stagecut.specs.Reaching.{dependencies_at}
 use Rattle.sc_stagecut.specs.declared.carried.Numbered.{Numbered}
 use Rattle.sc_stagecut.proofs.DependencyLemmas.{few_at}
 use Rattle.sc_stagecut.proofs.NumberLemmas.{sides_below-more}
-use Rattle.sc_stagecut.proofs.OrderLemmas.{AllPairs-append, AllPairs-head, AllPairs-tail, Contains-cases, Contains-first, Contains-later}
+use Rattle.sc_stagecut.proofs.OrderLemmas.{AllPairs-append, AllPairs-head, AllPairs-tail, Contains-cases, Contains-filter, Contains-first, Contains-from_filter, Contains-later}
 
 -- one side comes before another
 abbrev pub Before : ShuffleId → ShuffleId → Type 0
@@ -127,6 +127,51 @@ number_there stages n c =
       and_from (eqb n.shuffle.node n.shuffle.node) (eqb n.shuffle.side n.shuffle.side)
           (eq-eqb n.shuffle.node n.shuffle.node refl) (eq-eqb n.shuffle.side n.shuffle.side refl),
     )
+
+-- Numbered shuffles in the order of sides are the numbered shuffles.
+Contains-flat_map : {A B : Type 0} (f : A → List B) (xs : List A) (x : A) (y : B)
+    → Contains xs x → Contains (f x) y → Contains (flat_map f xs) y
+Contains-flat_map f [] x y c has = absurd (omega (arith, c.1))
+Contains-flat_map {A} {B} f (z ∷ xs) x y c has =
+    by (λ rest. Contains-flat_map f xs x y rest has) (Contains-cases z x xs c)
+  where
+    by : (Contains xs x → Contains (flat_map f xs) y) → (z ≡ x) ⊎ Contains xs x
+        → Contains (f z ++ flat_map f xs) y
+    by later (inl same) =
+        let P : A → Type 0 = λ w. Contains (f w) y in
+        Contains-append_left (f z) (flat_map f xs) y (subst P (sym same) has)
+    by later (inr rest) = Contains-append_right (f z) (flat_map f xs) y (later rest)
+
+pub in_side_order_there : (bound : ℕ) (numbers : List Numbered) (n : Numbered)
+    → n.shuffle.node < bound → n.shuffle.side < 2 → Contains numbers n
+    → Contains (in_side_order bound numbers) n
+in_side_order_there bound numbers n low two c =
+    Contains-flat_map (λ (s : ShuffleId). filter (is_of s) numbers) (sides_below bound) n.shuffle n
+    (sides_there bound n.shuffle low two)
+    (Contains-filter (is_of n.shuffle) numbers n c
+    (and_from (eqb n.shuffle.node n.shuffle.node) (eqb n.shuffle.side n.shuffle.side)
+    (eq-eqb n.shuffle.node n.shuffle.node refl) (eq-eqb n.shuffle.side n.shuffle.side refl)))
+
+of_sides : (numbers : List Numbered) (n : Numbered) (sides : List ShuffleId)
+    → Contains (flat_map (λ (s : ShuffleId). filter (is_of s) numbers) sides) n
+    → Contains numbers n
+of_sides numbers n [] c = absurd (omega (arith, c.1))
+of_sides numbers n (s ∷ sides) c =
+    by (of_sides numbers n sides)
+    (Contains-append_cases (filter (is_of s) numbers)
+    (flat_map (λ (t : ShuffleId). filter (is_of t) numbers) sides) n c)
+  where
+    by : (Contains (flat_map (λ (t : ShuffleId). filter (is_of t) numbers) sides) n
+        → Contains numbers n)
+        → Contains (filter (is_of s) numbers) n
+        ⊎ Contains (flat_map (λ (t : ShuffleId). filter (is_of t) numbers) sides) n
+        → Contains numbers n
+    by later (inl here) = (Contains-from_filter (is_of s) numbers n here).0
+    by later (inr rest) = later rest
+
+pub in_side_order_from : (bound : ℕ) (numbers : List Numbered) (n : Numbered)
+    → Contains (in_side_order bound numbers) n → Contains numbers n
+in_side_order_from bound numbers n c = of_sides numbers n (sides_below bound) c
 
 -- Numbers one after another.
 pub record IsBetween (P : ShuffleId → Type 0) (first last : ℕ) (n : Numbered) : Type 0 where

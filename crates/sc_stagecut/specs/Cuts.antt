@@ -9,7 +9,7 @@ use Rattle.sc_lineage.specs.Meaning.{known_of, part_count_by}
 use Rattle.sc_lineage.specs.NodeData.{NodeData}
 use Rattle.sc_lineage.specs.ScriptData.{WorkData}
 use Rattle.sc_stagecut.specs.Carrying.{CarriedData}
-use Rattle.sc_stagecut.specs.Numbering.{AreThose, has_number, is_shuffle, mapped_node, numbered_from, sides_below}
+use Rattle.sc_stagecut.specs.Numbering.{AreThose, has_number, in_side_order, is_shuffle, mapped_node, numbered_from, sides_below}
 use Rattle.sc_stagecut.specs.Reaching.{IsReached, IsWithin}
 use Rattle.sc_stagecut.specs.declared.carried.Numbered.{Numbered}
 
@@ -33,14 +33,16 @@ pub record AreNumbers (nodes : List NodeData) (carried : CarriedData) (node : �
   pub behind : next ≡ carried.next + length fresh
 
 -- A stage whose tasks take the partitions of a node, so many, among the numbers of a job's stages.
--- Its parents are the stages of the shuffles that its tasks read.
+-- Its parents are the stages of the shuffles that its tasks read, in the order of (node, side),
+-- whichever job gave them their numbers.
 pub record IsStage (nodes : List NodeData) (numbers : List Numbered) (id : ℕ) (target : Target)
     (node count : ℕ) (stage : StageData) : Type 0 where
   pub is_numbered : stage.id ≡ id
   pub makes : stage.target ≡ target
   pub counted : stage.tasks ≡ count
   pub read : List Numbered
-  pub are_read : AreThose (λ n. IsWithin nodes node n.shuffle.node) numbers read
+  pub are_read : AreThose (λ n. IsWithin nodes node n.shuffle.node)
+      (in_side_order (node + 1) numbers) read
   pub parents : stage.parents ≡ map (λ n. n.stage) read
 
 -- the map stage of a numbered shuffle has a task for each partition of the parent

@@ -59,3 +59,7 @@ is_of s n = (n.shuffle.node == s.node) && (n.shuffle.side == s.side)
 -- a shuffle has a number
 abbrev pub has_number : List Numbered → ShuffleId → Bool
 has_number stages s = list_any (is_of s) stages
+
+-- numbered shuffles of nodes below a bound, in the order of (node, side)
+abbrev pub in_side_order : ℕ → List Numbered → List Numbered
+in_side_order bound numbers = flat_map (λ s. filter (is_of s) numbers) (sides_below bound)

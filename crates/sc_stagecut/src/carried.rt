@@ -25,7 +25,7 @@ pub struct Numbered {
 
 impl Numbered {
     /// Whether it is the number of that shuffle.
-    fn is_of(&self, shuffle: ShuffleId) -> bool
+    pub(crate) fn is_of(&self, shuffle: ShuffleId) -> bool
         ensures { result ≡ is_of shuffle self.now }
     {
         self.shuffle.node == shuffle.node && self.shuffle.side == shuffle.side
