@@ -1,1 +1,4 @@
+pub mod ChangeLemmas
 pub mod Gathering
+pub mod PathLemmas
+pub mod TreeLemmas

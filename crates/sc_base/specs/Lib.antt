@@ -1,4 +1,6 @@
 pub mod Answers
 pub mod Counts
-pub mod Outside
+pub mod Limits
 pub mod Lists
+pub mod Outside
+pub mod Trees

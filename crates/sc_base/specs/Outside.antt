@@ -1,6 +1,8 @@
 -- What the outside of a run shows at one moment.
-use Rattle.std.specs.Prelude.{ℕ, ◌≡◌, ◌≤◌, List, ◌++◌, Option, option_map}
+use Rattle.std.specs.Prelude.{ℕ, refl, ◌≡◌, ◌≤◌, List, ◌++◌, Option, Some, None, option_map}
+use Rattle.std.specs.Coded.{Coded, code_by, coded×, coded_option, coded_ℕ}
 use Rattle.std.specs.List.{concat}
+use Rattle.sc_base.specs.Trees.{Tree, tree_code}
 
 -- names with their bytes; of two entries of one name the first counts
 abbrev pub Files : Type 0
@@ -23,6 +25,24 @@ pub record SinkState : Type 0 where
   pub pieces : Option (List (List ℕ))
   -- how often a write failed
   pub faults : ℕ
+
+-- directories and files that are written
+pub record FilesState : Type 0 where
+  -- what there is, where it shows
+  pub shown : Option Tree
+  -- how often a call failed
+  pub faults : ℕ
+  -- how often a call found what it asks for absent, or what it makes there
+  pub clashes : ℕ
+
+abbrev pub files_state : Option Tree → ℕ → ℕ → FilesState
+files_state shown faults clashes = record { shown = shown; faults = faults; clashes = clashes }
+
+-- such a state told by what it shows and its counts
+abbrev pub files_state_code : Coded FilesState
+files_state_code =
+    code_by (Option Tree × (ℕ × ℕ)) (coded× (coded_option tree_code) (coded× coded_ℕ coded_ℕ))
+    (λ s. (s.shown, (s.faults, s.clashes))) (λ p. files_state p.0 p.1.0 p.1.1) (λ _. refl)
 
 -- the whole outside
 pub record Outside : Type 0 where
@@ -50,6 +70,24 @@ HasAsked before after names = after.asked ≡ with_more before.asked names
 pub record IsQuietSource (before after : SourceState) : Type 0 where
   pub faults : after.faults ≡ before.faults
   pub misses : after.misses ≡ before.misses
+
+-- what is shown changed so, where it is shown: what shows goes on to show, and nothing else does
+abbrev pub Changes : (Tree → Tree → Type 0) → Option Tree → Option Tree → Type 0
+Changes R None None = Unit {0}
+Changes R (Some before) (Some after) = R before after
+Changes R None (Some after) = ⊥
+Changes R (Some before) None = ⊥
+
+-- files later on: they show as they did, and their counts have not fallen
+pub record IsLaterFiles (before after : FilesState) : Type 0 where
+  pub shown : Changes (λ t u. Unit {0}) before.shown after.shown
+  pub faults : before.faults ≤ after.faults
+  pub clashes : before.clashes ≤ after.clashes
+
+-- no count of the files rose between two moments
+pub record IsQuietFiles (before after : FilesState) : Type 0 where
+  pub faults : after.faults ≡ before.faults
+  pub clashes : after.clashes ≡ before.clashes
 
 -- all bytes that a sink took, where it shows them
 abbrev pub bytes_taken : SinkState → Option (List ℕ)

@@ -11,6 +11,8 @@
 //! It stands below every other crate, and knows nothing of values, scripts or runs.
 #![tactic(auto)]
 
+mod limits;
 mod refusals;
 
+pub use limits::COUNT_LIMIT;
 pub use refusals::OrMemory;
