@@ -1,5 +1,5 @@
 -- Spans of bytes, as more bytes and more spans come.
-use Rattle.std.proofs.Common.{◌≡◌, ℕ, ◌+◌, ◌-◌, ◌<◌, ◌≤◌, ◌^◌, Bool, true, false, cond, List, [], ◌∷◌, ◌++◌, length, map, take, drop, refl, ap, sym, ◌∙◌, subst, arith}
+use Rattle.std.proofs.Common.{◌≡◌, ℕ, ◌+◌, ◌-◌, ◌≤◌, Bool, true, false, cond, List, [], ◌∷◌, ◌++◌, length, map, take, drop, refl, ap, sym, ◌∙◌, subst, arith}
 use Rattle.std.proofs.lemmas.List.{take-append-le, drop_all, drop-append-le, drop-drop, drop-take, take-take, take-map, drop-map, length-append, length-take-le, length-drop, map_push}
 use Rattle.std.proofs.lemmas.List.Elements.{All-head, All-tail, All-push, All-weaker, All-take, All-drop}
 use Rattle.std.proofs.lemmas.Slice.{between_to_end}
@@ -7,6 +7,7 @@ use Rattle.std.proofs.lemmas.Str.{IsUtf8-append, IsUtf8-nil}
 use Rattle.std.specs.List.{All, slice_range}
 use Rattle.std.specs.Str.{IsUtf8}
 use Rattle.sc_value.specs.declared.texts.Span.{Span}
+use Rattle.sc_base.specs.Limits.{count_limit}
 use Rattle.sc_value.specs.Spans.{IsOpen, IsPart, part_at}
 
 -- more bytes behind change no part
@@ -39,7 +40,7 @@ parts-append bytes more (span ∷ spans) parts =
 
 -- a piece of the open text is written, or refused
 pub IsOpen-written : (bytes now more : List ℕ) (spans : List Span) (open_from : ℕ) (written : Bool)
-    → now ≡ cond written (bytes ++ more) bytes → length now < 2 ^ 32 → IsUtf8 more
+    → now ≡ cond written (bytes ++ more) bytes → length now ≤ count_limit → IsUtf8 more
     → IsOpen bytes spans open_from → IsOpen now spans open_from
 IsOpen-written bytes now more spans open_from false is small utf8 was =
     let P : List ℕ → Type 0 = λ b. IsOpen b spans open_from in subst P (sym is) was
@@ -49,7 +50,7 @@ IsOpen-written bytes now more spans open_from true is small utf8 was =
       parts = All-weaker (IsPart bytes) (IsPart (bytes ++ more))
           (λ span part. IsPart-append bytes more span part) spans was.parts;
       within = omega (arith, length-append bytes more, was.within);
-      small = (let fewer : length (bytes ++ more) < 2 ^ 32 = omega (arith, ap length is) in fewer);
+      small = (let fewer : length (bytes ++ more) ≤ count_limit = omega (arith, ap length is) in fewer);
       utf8 = subst IsUtf8 (sym (drop-append-le open_from bytes more was.within))
           (IsUtf8-append (drop open_from bytes) more was.utf8 utf8);
     })

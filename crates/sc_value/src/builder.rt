@@ -1,10 +1,13 @@
 //! Texts that are being made.
 #![tactic(auto)]
 
-ghost use Rattle.std.specs.Prelude.{◌≡◌, ◌==◌, ◌<◌, ◌^◌, ◌++◌, [], ◌∷◌, if◌then◌else◌, IfOk, is_ok, length, take};
+ghost use Rattle.std.specs.Prelude.{◌≡◌, ◌==◌, ◌≤◌, ◌+◌, ◌++◌, [], ◌∷◌, if◌then◌else◌, IfOk, OnOk, is_ok, length, take};
+ghost use Rattle.std.specs.List.{concat};
+ghost use Rattle.sc_base.specs.Limits.{count_limit};
 
 use crate::octets::Octets;
 use crate::texts::{Span, Texts};
+use sc_base::COUNT_LIMIT;
 use std::alloc::{AllocError, Global};
 use std::marker::Model;
 
@@ -17,7 +20,7 @@ pub struct TextsBuilder {
 }
 
 impl Model for TextsBuilder {
-    ghost use Rattle.std.specs.Prelude.{map, drop};
+    ghost use Rattle.std.specs.Prelude.{map, drop, length};
     ghost use Rattle.sc_value.specs.Spans.{IsOpen, part_at, Written};
 
     ghost Value = { Written };
@@ -25,6 +28,7 @@ impl Model for TextsBuilder {
     ghost view = { λ b. record {
       texts = map (part_at b.bytes.items) b.spans.items;
       open_text = drop b.open_from b.bytes.items;
+      taken = length b.bytes.items;
     } };
 
     ghost invariant = { λ b. IsOpen b.bytes.items b.spans.items b.open_from };
@@ -35,6 +39,7 @@ impl TextsBuilder {
     pub fn new(alloc: Global) -> TextsBuilder
         ensures texts { result.texts ≡ [] }
         ensures open_text { result.open_text ≡ [] }
+        ensures taken { result.taken ≡ 0 }
     {
         TextsBuilder {
             bytes: Vec::new(alloc),
@@ -51,6 +56,7 @@ impl TextsBuilder {
     ) -> Result<TextsBuilder, AllocError>
         ensures texts { IfOk result (λ b. b.texts ≡ []) }
         ensures open_text { IfOk result (λ b. b.open_text ≡ []) }
+        ensures taken { IfOk result (λ b. b.taken ≡ 0) }
     {
         Ok(TextsBuilder {
             bytes: Vec::with_capacity(alloc, bytes)?,
@@ -74,10 +80,17 @@ impl TextsBuilder {
     }
 
     /// Writes a piece of the text that is open.
+    ///
+    /// # Errors
+    ///
+    /// Memory is wanting, or the texts would take more than [`COUNT_LIMIT`] bytes in all.
     pub fn write(&mut self, piece: &str) -> Result<(), AllocError>
         ensures texts { self.new.texts ≡ self.old.texts }
         ensures open_text { self.new.open_text
             ≡ (if is_ok result then self.old.open_text ++ piece.now else self.old.open_text) }
+        ensures taken { self.new.taken
+            ≡ (if is_ok result then self.old.taken + length piece.now else self.old.taken) }
+        ensures within { OnOk result (self.new.taken ≤ count_limit) }
     {
         append(&mut self.bytes, piece.as_bytes())
     }
@@ -87,6 +100,7 @@ impl TextsBuilder {
         ensures texts { self.new.texts
             ≡ (if is_ok result then self.old.texts ++ self.old.open_text ∷ [] else self.old.texts) }
         ensures open_text { self.new.open_text ≡ (if is_ok result then [] else self.old.open_text) }
+        ensures taken { self.new.taken ≡ self.old.taken }
     {
         let to = self.bytes.len();
         self.spans.push(Span {
@@ -98,10 +112,17 @@ impl TextsBuilder {
     }
 
     /// Writes a last piece and ends the open text: where nothing is open, a whole text.
+    ///
+    /// # Errors
+    ///
+    /// Memory is wanting, or the texts would take more than [`COUNT_LIMIT`] bytes in all.
     pub fn push(&mut self, piece: &str) -> Result<(), AllocError>
         ensures texts { self.new.texts ≡ (if is_ok result
             then self.old.texts ++ (self.old.open_text ++ piece.now) ∷ [] else self.old.texts) }
         ensures open_text { self.new.open_text ≡ (if is_ok result then [] else self.old.open_text) }
+        ensures taken { self.new.taken
+            ≡ (if is_ok result then self.old.taken + length piece.now else self.old.taken) }
+        ensures within { OnOk result (self.new.taken ≤ count_limit) }
     {
         let written = self.bytes.len();
         append(&mut self.bytes, piece.as_bytes())?;
@@ -123,13 +144,20 @@ impl TextsBuilder {
     }
 
     /// Adds whole texts behind those that were ended, all of them or none.
+    ///
+    /// # Errors
+    ///
+    /// Memory is wanting, or the texts would take more than [`COUNT_LIMIT`] bytes in all.
     pub fn append(&mut self, texts: &Texts) -> Result<(), AllocError>
         requires { self.old.open_text ≡ [] }
         ensures texts { self.new.texts
             ≡ (if is_ok result then self.old.texts ++ texts.now else self.old.texts) }
         ensures open_text { self.new.open_text ≡ [] }
+        ensures taken { OnOk result
+            (self.new.taken ≡ self.old.taken + length (concat texts.now)) }
+        ensures within { OnOk result (self.new.taken ≤ count_limit) }
     {
-        let count = self.len();
+        let count = self.spans.len();
         for i in 0..texts.len() {
             match self.push(texts.get(i)) {
                 Ok(()) => {}
@@ -142,10 +170,11 @@ impl TextsBuilder {
         Ok(())
     }
 
-    // Forgets the texts that were ended behind the first so many.
+    // Forgets the texts that were ended behind the first so many. Their bytes stay taken.
     fn truncate(&mut self, count: usize)
         ensures texts { self.new.texts ≡ take count self.old.texts }
         ensures open_text { self.new.open_text ≡ self.old.open_text }
+        ensures taken { self.new.taken ≡ self.old.taken }
     {
         self.spans.truncate(count);
     }
@@ -159,14 +188,18 @@ impl TextsBuilder {
     }
 }
 
-/// Appends bytes where fewer than 2^32 are then there, so that a place in them is a `u32`.
+/// Appends bytes.
+///
+/// # Errors
+///
+/// Memory is wanting, or there would be more than [`COUNT_LIMIT`] bytes: a place in them is a `u32`.
 fn append(bytes: &mut Vec<u8>, more: &[u8]) -> Result<(), AllocError>
-    requires { length bytes.old.items < 2 ^ 32 }
+    requires { length bytes.old.items ≤ count_limit }
     ensures items { bytes.new.items
         ≡ (if is_ok result then bytes.old.items ++ more.now else bytes.old.items) }
-    ensures small { length bytes.new.items < 2 ^ 32 }
+    ensures within { length bytes.new.items ≤ count_limit }
 {
-    if more.len() > u32::MAX as usize - bytes.len() {
+    if more.len() > COUNT_LIMIT - bytes.len() {
         return Err(AllocError);
     }
     bytes.extend_from_slice(more)

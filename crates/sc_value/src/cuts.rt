@@ -5,6 +5,7 @@ ghost use Rattle.std.specs.Prelude.{◌≡◌, ◌==◌, ◌<◌, ◌≤◌, ◌
 ghost use Rattle.std.specs.Option.{option_map};
 ghost use Rattle.std.specs.Str.{IsUtf8};
 ghost use Rattle.std.specs.List.{All, position_or_len};
+ghost use Rattle.sc_base.specs.Limits.{count_limit};
 ghost use Rattle.sc_value.specs.Spans.{IsPart, part_at, place_at, span_of};
 ghost use Rattle.sc_value.specs.Words.{cut_at, nth_piece as piece_at, range_of, until_none};
 
@@ -45,6 +46,7 @@ pub(crate) fn pieces_at(
     ensures cut { IfOk result (λ p.
         map (range_of (map (part_at text.now) p.items.items)) p.lists.items
         ≡ map (cut_at (separator ∷ [])) (map (part_at text.now) places.now)) }
+    ensures within { IfOk result (λ p. length p.items.items ≤ count_limit) }
 {
     let mut items = Vec::new(alloc);
     let mut lists = Vec::with_capacity(alloc, places.len())?;

@@ -3,7 +3,7 @@
 
 ghost use Rattle.std.specs.Prelude.{◌≡◌, ◌≤◌, IfOk, length, slice_range};
 ghost use Rattle.sc_value.specs.Kept.{kept};
-ghost use Rattle.sc_value.specs.Picked.{picked};
+ghost use Rattle.sc_value.specs.Picked.{ArePlaces, picked};
 
 use std::alloc::{AllocError, Global};
 use std::marker::Model;
@@ -94,21 +94,19 @@ pub fn kept_items<T: Copy>(alloc: Global, items: &[T], marks: &[bool]) -> Result
     Ok(out)
 }
 
-/// The items at some places. A refusal also comes where a place has none.
+/// The items at some places, of which each has one.
 pub fn picked_items<T: Copy>(
     alloc: Global,
     items: &[T],
     places: &[u32],
 ) -> Result<Vec<T>, AllocError>
+    requires { ArePlaces items.now places.now }
     ensures { IfOk result (λ v. v.items ≡ picked items.now places.now) }
 {
     let mut out = Vec::with_capacity(alloc, places.len())?;
     for i in 0..places.len() {
-        let place = places[i];
-        if place as usize >= items.len() {
-            return Err(AllocError);
-        }
-        out.push(items[place as usize])?;
+        let place = places[i] as usize;
+        out.push(items[place])?;
     }
     Ok(out)
 }

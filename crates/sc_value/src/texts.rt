@@ -4,7 +4,8 @@
 ghost use Rattle.std.specs.Prelude.{◌≡◌, ◌==◌, ◌<◌, ◌≤◌, ◌++◌, [], ◌∷◌, IfOk, OnOk, Some, length, map, slice_get, slice_range};
 ghost use Rattle.std.specs.List.{All};
 ghost use Rattle.sc_value.specs.Kept.{kept as items_kept};
-ghost use Rattle.sc_value.specs.Picked.{picked as items_picked};
+ghost use Rattle.sc_base.specs.Limits.{count_limit};
+ghost use Rattle.sc_value.specs.Picked.{ArePlaces, picked as items_picked};
 ghost use Rattle.sc_value.specs.Spans.{IsPart, part_at};
 ghost use Rattle.sc_value.specs.Words.{cut_at, nth_piece as piece_at, nth_word as word_at, range_of, until_none, words_of};
 
@@ -12,6 +13,7 @@ use crate::cuts::{nth_pieces_at, pieces_at};
 use crate::held::{Held, kept_items, picked_items};
 use crate::octets::Octets;
 use crate::words::{nth_words_at, words_at};
+use sc_base::COUNT_LIMIT;
 use std::alloc::{AllocError, Global};
 use std::marker::Model;
 use std::str;
@@ -133,9 +135,9 @@ impl Texts {
         Texts::of_spans(alloc, self.bytes.share()?, spans)
     }
 
-    /// The texts at some places, which copies none of their bytes. A place past the end is answered
-    /// as want of memory.
+    /// The texts at some places, of which each has one. It copies none of their bytes.
     pub fn picked(&self, alloc: Global, places: &[u32]) -> Result<Texts, AllocError>
+        requires { ArePlaces self.now places.now }
         ensures { IfOk result (λ t. t ≡ items_picked self.now places.now) }
     {
         let spans = picked_items(alloc, self.spans.as_slice(), places)?;
@@ -143,8 +145,14 @@ impl Texts {
     }
 
     /// The words of each text, which lie in the same bytes.
+    ///
+    /// # Errors
+    ///
+    /// Memory is wanting, or there are more than [`COUNT_LIMIT`] words in all.
     pub fn words(&self, alloc: Global) -> Result<TextLists, AllocError>
-        ensures { IfOk result (λ w. map (range_of w.items) w.lists.items ≡ map words_of self.now) }
+        ensures words { IfOk result
+            (λ w. map (range_of w.items) w.lists.items ≡ map words_of self.now) }
+        ensures within { IfOk result (λ w. length w.items ≤ count_limit) }
     {
         let bytes = self.bytes.share()?;
         let found = words_at(alloc, self.bytes.as_slice(), self.spans.as_slice())?;
@@ -157,10 +165,15 @@ impl Texts {
 
     /// The pieces of each text between the occurrences of an ASCII character, which lie in the same
     /// bytes. Empty pieces are kept.
+    ///
+    /// # Errors
+    ///
+    /// Memory is wanting, or there are more than [`COUNT_LIMIT`] pieces in all.
     pub fn cut(&self, alloc: Global, separator: u8) -> Result<TextLists, AllocError>
         requires { separator < 128 }
-        ensures { IfOk result (λ w. map (range_of w.items) w.lists.items
+        ensures cut { IfOk result (λ w. map (range_of w.items) w.lists.items
             ≡ map (cut_at (separator ∷ [])) self.now) }
+        ensures within { IfOk result (λ w. length w.items ≤ count_limit) }
     {
         let bytes = self.bytes.share()?;
         let found = pieces_at(
@@ -203,13 +216,18 @@ impl Texts {
     }
 }
 
-/// Adds a range of items as a list, where its places fit.
+/// Adds a range of items as a list.
+///
+/// # Errors
+///
+/// Memory is wanting, or the range ends behind [`COUNT_LIMIT`] items.
 pub(crate) fn push_list(lists: &mut Vec<Span>, from: usize, to: usize) -> Result<(), AllocError>
     requires { from ≤ to }
-    ensures { OnOk result
+    ensures lists { OnOk result
         (lists.new.items ≡ lists.old.items ++ record { from = from; to = to } ∷ []) }
+    ensures within { OnOk result (to ≤ count_limit) }
 {
-    if to > u32::MAX as usize {
+    if to > COUNT_LIMIT {
         return Err(AllocError);
     }
     lists.push(Span {

@@ -5,6 +5,7 @@ ghost use Rattle.std.specs.Prelude.{◌≡◌, ◌<◌, ◌≤◌, ◌^◌, ◌+
 ghost use Rattle.std.specs.Option.{option_map};
 ghost use Rattle.std.specs.Str.{IsUtf8};
 ghost use Rattle.std.specs.List.{All, position_or_len};
+ghost use Rattle.sc_base.specs.Limits.{count_limit};
 ghost use Rattle.sc_value.specs.Spans.{IsPart, part_at, place_at, some_span, span_of};
 ghost use Rattle.sc_value.specs.Words.{is_blank, is_some_piece, nth_word as word_at, range_of, until_none, words_of};
 
@@ -54,6 +55,7 @@ pub(crate) fn words_at(alloc: Global, text: &[u8], places: &[Span]) -> Result<Pi
     ensures words { IfOk result (λ p.
         map (range_of (map (part_at text.now) p.items.items)) p.lists.items
         ≡ map words_of (map (part_at text.now) places.now)) }
+    ensures within { IfOk result (λ p. length p.items.items ≤ count_limit) }
 {
     let mut items = Vec::new(alloc);
     let mut lists = Vec::with_capacity(alloc, places.len())?;
@@ -113,7 +115,7 @@ fn add_words(text: &[u8], part: Span, out: &mut Vec<Span>) -> Result<(), AllocEr
 /// Adds the place of a piece, if it isn't empty.
 #[inline(always)]
 fn push_some(out: &mut Vec<Span>, from: usize, len: usize) -> Result<(), AllocError>
-    requires { from + len < 2 ^ 32 }
+    requires { from + len ≤ count_limit }
     ensures { OnOk result (out.new.items ≡ out.old.items ++ some_span from len) }
 {
     if len == 0 {

@@ -5,4 +5,6 @@ pub loop-i-preserved : goal.loop-i-preserved
 loop-i-preserved c =
     AreAddedTo-more c.args.self.now.texts c.args.texts.now c.loop-i.self.texts
     c.push.new.self.texts c.loop-i.self.open_text c.push.new.self.open_text c.get.result.now
-    c.loop-i.i c.get.ensures c.in-Ok.ensures.texts c.in-Ok.ensures.open_text c.loop-i.invariant
+    c.args.self.now.taken c.loop-i.self.taken c.push.new.self.taken
+    c.loop-i.i c.get.ensures c.in-Ok.ensures.texts c.in-Ok.ensures.open_text c.in-Ok.ensures.taken
+    c.in-Ok.ensures.within c.loop-i.invariant
