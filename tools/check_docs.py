@@ -67,9 +67,6 @@ CONTENTS_PAGE = "docs/GUIDE.md"
 CODE_LINES = 300
 PAGE_LINES = 40
 COLUMNS = 100
-# What a rename made longer, by one column: to break it makes each crate above stale, so it waits
-# for the next change of its crate.
-WIDER = {("crates/sc_plan/proofs/ReaderLemmas.antt", 127)}
 
 Fault = tuple[str, int, str]
 Files = dict[str, str]
@@ -365,7 +362,7 @@ def column_faults(files: Files) -> Iterator[Fault]:
     for name, text in files.items():
         if name.startswith("crates/") and name.endswith((".rt", ".antt")):
             for number, line in enumerate(text.splitlines(), 1):
-                if len(line) > COLUMNS and not IMPORT.match(line) and (name, number) not in WIDER:
+                if len(line) > COLUMNS and not IMPORT.match(line):
                     yield name, number, f"has {len(line)} columns"
 
 

@@ -124,8 +124,8 @@ delay_found p l n is =
     ap (delay_at p) is
     ∙ ap (λ b. if b then Some n else None) (same_self p)
 
-delay_again : (p : AttemptPlace) (l m : PlanLine) (n k : ℕ) → l ≡ lines.Late p n → m ≡ lines.Late p k
-    → repeats m l ≡ true
+delay_again : (p : AttemptPlace) (l m : PlanLine) (n k : ℕ) → l ≡ lines.Late p n
+    → m ≡ lines.Late p k → repeats m l ≡ true
 delay_again p l m n k is has =
     ap (λ x. repeats x l) has ∙ ap (repeats (lines.Late p k)) is ∙ same_self p
 
