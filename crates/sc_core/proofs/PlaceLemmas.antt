@@ -1,46 +1,17 @@
 -- Where a running attempt stands among others.
-use Rattle.std.proofs.Common.{◌≡◌, ℕ, ◌+◌, ◌<◌, ◌≤◌, suc, Bool, true, false, not, cond, List, [], ◌∷◌, length, remove, Some, None, slice_get, nat_lt, inl, inr, refl, ap, sym, ◌∙◌, arith}
-use Rattle.std.specs.List.{All, AllPairs, filter, find, position, position_or_len}
+use Rattle.std.proofs.Common.{◌≡◌, ℕ, ◌<◌, Bool, true, false, cond, List, length, Some, None, slice_get, nat_lt, inl, inr, refl, ◌∙◌, arith}
+use Rattle.std.specs.List.{AllPairs, position, position_or_len}
 use Rattle.std.proofs.lemmas.Bool.Decides.{nat_tests}
-use Rattle.std.proofs.lemmas.List.Elements.{All-head, All-tail}
 use Rattle.std.proofs.lemmas.List.Folds.{find_at}
-use Rattle.std.proofs.lemmas.Option.{slice_get_cases, slice_get_past}
+use Rattle.std.proofs.lemmas.Option.{slice_get_cases}
 use Rattle.sc_ids.specs.declared.attempts.AttemptId.{AttemptId}
-use Rattle.sc_taskset.proofs.FindLemmas.{pairs_head, pairs_tail}
+use Rattle.sc_taskset.proofs.FindLemmas.{removed_alone}
 use Rattle.sc_commit.specs.Committing.{is_same}
 use Rattle.sc_commit.proofs.LawLemmas.{is_same_itself, same_attempt}
 use Rattle.sc_core.specs.CoreData.{is_of}
 use Rattle.sc_core.specs.Rooms.{IsRunningAt}
 use Rattle.sc_core.specs.Sound.{AreTwo}
 use Rattle.sc_core.specs.declared.running.Running.{Running}
-
-module _ {A : Type 0} (R : A → A → Type 0) (p : A → Bool)
-    (clash : (x y : A) → R x y → p x ≡ true → p y ≡ false) where
-  -- behind one that passes none does
-  none_passes : (x : A) (xs : List A) → p x ≡ true → All (R x) xs
-      → filter (λ y. not (p y)) xs ≡ xs
-  none_passes x [] e all = refl
-  none_passes x (y ∷ ys) e all =
-      rw (clash x y (All-head (R x) y ys all) e)
-      (ap (λ zs. y ∷ zs) (none_passes x ys e (All-tail (R x) y ys all)))
-
-  -- so without it those are left that don't pass
-  removed_alone : (xs : List A) → AllPairs R xs → position_or_len p xs < length xs
-      → remove xs (position_or_len p xs) ≡ filter (λ y. not (p y)) xs
-  removed_alone [] pairs lt = absurd (omega (arith, lt))
-  removed_alone (x ∷ xs) pairs lt = by (p x) refl lt (removed_alone xs (pairs_tail R x xs pairs))
-    where
-      place : ℕ
-      place = position_or_len p xs
-
-      by : (b : Bool) → p x ≡ b → cond (not b) (1 + place) 0 < suc (length xs)
-          → (place < length xs → remove xs place ≡ filter (λ y. not (p y)) xs)
-          → remove (x ∷ xs) (cond (not (p x)) (1 + place) 0)
-          ≡ cond (not (p x)) (x ∷ filter (λ y. not (p y)) xs) (filter (λ y. not (p y)) xs)
-      by true e l rest = rw e (sym (none_passes x xs e (pairs_head R x xs pairs)))
-      by false e l rest =
-          let one : 1 + place ≡ suc place = omega arith in
-          rw (e, one) (ap (λ zs. x ∷ zs) (rest (omega (arith, l))))
 
 -- two attempts that are different don't have the same numbers
 pub clash : (a : AttemptId) (q r : Running) → AreTwo q r → is_of a q ≡ true → is_of a r ≡ false
@@ -85,18 +56,3 @@ place_found running a place pairs is = by (nat_lt at (length running)) refl is
           | inr w ↦ absurd (grind (arith, nat_tests, lt, w.0))
         ]
     by false lt e = absurd (cc)
-
--- where none is found, none runs
-pub none_found : (running : List Running) (a : AttemptId)
-    → None ≡ position (is_of a) running → find (is_of a) running ≡ None
-none_found running a is = by (nat_lt at (length running)) refl is
-  where
-    at : ℕ
-    at = position_or_len (is_of a) running
-
-    by : (b : Bool) → nat_lt at (length running) ≡ b → None ≡ cond b (Some at) None
-        → find (is_of a) running ≡ None
-    by true lt e = absurd (cc)
-    by false lt e =
-        let past : length running ≤ at = grind (arith, nat_tests, lt) in
-        find_at (is_of a) running ∙ slice_get_past running at past

@@ -1,7 +1,9 @@
 -- What is found in lists, and lists in order.
-use Rattle.std.proofs.Common.{◌≡◌, ℕ, ◌<◌, ◌≤◌, ◌==◌, Bool, true, false, cond, List, [], ◌∷◌, map, Option, Some, None, suc, refl, arith, rules}
-use Rattle.std.specs.List.{All, AllPairs, find}
+use Rattle.std.proofs.Common.{◌≡◌, ◌∙◌, ℕ, ◌+◌, ◌<◌, ◌≤◌, ◌==◌, Bool, true, false, not, cond, List, [], ◌∷◌, length, map, remove, Option, Some, None, nat_lt, suc, refl, ap, sym, arith, rules}
+use Rattle.std.specs.List.{All, AllPairs, filter, find, position, position_or_len}
 use Rattle.std.proofs.lemmas.List.Elements.{All-head, All-tail}
+use Rattle.std.proofs.lemmas.List.Folds.{find_at}
+use Rattle.std.proofs.lemmas.Option.{slice_get_past}
 use Rattle.std.proofs.lemmas.Bool.Decides.{nat_tests}
 use Rattle.sc_taskset.specs.TaskSetData.{TaskData}
 use Rattle.sc_taskset.specs.Lookups.{is_there_and, task_at}
@@ -44,6 +46,50 @@ found_passes q (y ∷ ys) x found = by (q y) refl found (λ f. found_passes q ys
         let same : y ≡ x = search (rules, f) in
         rw (← same) is
     by false is f rest = rest f
+
+-- where nothing that passes has a place, nothing is found
+pub none_placed :
+    {A : Type 0} (p : A → Bool) (xs : List A) → None ≡ position p xs → find p xs ≡ None
+none_placed p xs is = by (nat_lt at (length xs)) refl is
+  where
+    at : ℕ
+    at = position_or_len p xs
+
+    by : (b : Bool) → nat_lt at (length xs) ≡ b → None ≡ cond b (Some at) None
+        → find p xs ≡ None
+    by true lt e = absurd (cc)
+    by false lt e =
+        let past : length xs ≤ at = grind (arith, nat_tests, lt) in
+        find_at p xs ∙ slice_get_past xs at past
+
+-- a list in which one that passes stands alone: of two that stand to each other so, one passes
+module _ {A : Type 0} (R : A → A → Type 0) (p : A → Bool)
+    (clash : (x y : A) → R x y → p x ≡ true → p y ≡ false) where
+  -- behind one that passes none does
+  none_behind : (x : A) (xs : List A) → p x ≡ true → All (R x) xs
+      → filter (λ y. not (p y)) xs ≡ xs
+  none_behind x [] e all = refl
+  none_behind x (y ∷ ys) e all =
+      rw (clash x y (All-head (R x) y ys all) e)
+      (ap (λ zs. y ∷ zs) (none_behind x ys e (All-tail (R x) y ys all)))
+
+  -- so without it those are left that don't pass
+  pub removed_alone : (xs : List A) → AllPairs R xs → position_or_len p xs < length xs
+      → remove xs (position_or_len p xs) ≡ filter (λ y. not (p y)) xs
+  removed_alone [] pairs lt = absurd (omega (arith, lt))
+  removed_alone (x ∷ xs) pairs lt = by (p x) refl lt (removed_alone xs (pairs_tail R x xs pairs))
+    where
+      place : ℕ
+      place = position_or_len p xs
+
+      by : (b : Bool) → p x ≡ b → cond (not b) (1 + place) 0 < suc (length xs)
+          → (place < length xs → remove xs place ≡ filter (λ y. not (p y)) xs)
+          → remove (x ∷ xs) (cond (not (p x)) (1 + place) 0)
+          ≡ cond (not (p x)) (x ∷ filter (λ y. not (p y)) xs) (filter (λ y. not (p y)) xs)
+      by true e l rest = rw e (sym (none_behind x xs e (pairs_head R x xs pairs)))
+      by false e l rest =
+          let one : 1 + place ≡ suc place = omega arith in
+          rw (e, one) (ap (λ zs. x ∷ zs) (rest (omega (arith, l))))
 
 -- where no task passes, no partition's does
 pub none_found :

@@ -1,6 +1,7 @@
 use Rattle.std.proofs.Common.{◌≡◌, ◌∙◌, None, sym}
-use Rattle.sc_core.specs.CoreData.{running_of}
-use Rattle.sc_core.proofs.PlaceLemmas.{none_found, place_found}
+use Rattle.sc_taskset.proofs.FindLemmas.{none_placed}
+use Rattle.sc_core.specs.CoreData.{is_of, running_of}
+use Rattle.sc_core.proofs.PlaceLemmas.{place_found}
 use Rattle.sc_core.proofs.TellLemmas.{unknown_posted}
 use Rattle.sc_core.proofs.states.State.post.Goals as goal
 
@@ -17,7 +18,7 @@ returns-in-None-clause-answered c =
     let now = c.args.self.now.0 in
     let none : running_of now c.args.attempt ≡ None =
     rw (← c.self.view_is)
-    (none_found c.self.inside.running.items c.args.attempt
+    (none_placed (is_of c.args.attempt) c.self.inside.running.items
     (sym c.in-None.is ∙ (rw c.deref.ensures.value at c.place_of.ensures))) in
     unknown_posted now c.args.attempt c.args.outcome c.plain-in-None.result.answer
     c.count.new.self.0 (sym c.runs.ensures ∙ c.if-not-runs.false) none
