@@ -1,5 +1,5 @@
 -- What happens beside the reports leaves what holds of every core, and as much to do.
-use Rattle.std.proofs.Common.{◌≡◌, ◌≢◌, ℕ, All, Bool, true, false, cond, List, [], ◌∷◌, map, Option, Some, None, find, length, option_map, refl, ap, sym, subst, ◌∙◌, arith, rules, true≢false}
+use Rattle.std.proofs.Common.{◌≡◌, ◌≢◌, ℕ, All, Bool, true, false, cond, List, [], ◌∷◌, map, Option, Some, None, IfSome, find, length, option_map, refl, ap, sym, subst, ◌∙◌, arith, rules, true≢false}
 use Rattle.std.specs.List.{AllPairs, filter}
 use Rattle.std.proofs.lemmas.List.{map-id}
 use Rattle.std.proofs.lemmas.List.Elements.{All-map, All-weaker}
@@ -34,10 +34,14 @@ itself : (r : Running) → IsFurther r r
 itself r = record { hand_out = refl; exec = refl; is_out = refl; phase = λ h. refl }
 
 -- a core where another executor left first
-led_aside : (c : CoreData) (first : Option ℕ) → IsAside c (record c { left_first = first })
-led_aside c first =
+led_aside : (c : CoreData) (first : Option ℕ)
+    → IfSome c.left_first (λ before. first ≡ Some before)
+    → IsAside c (record c { left_first = first })
+led_aside c first leads =
     record {
       told = refl;
+      ticks = omega arith;
+      leaver = leads;
       handed = refl;
       job = refl;
       further = λ r. r;
@@ -53,9 +57,18 @@ led_aside c first =
 sides_aside : (c after : CoreData) (event : SideEvent) (said : SideAnswer)
     → Sides c event said after → IsAside c after
 sides_aside c after (Leave exec) Ignored (runs, is) =
-    subst (IsAside c) (sym is) (led_aside c c.left_first)
+    subst (IsAside c) (sym is) (led_aside c c.left_first (stays c.left_first))
+  where
+    stays : (first : Option ℕ) → IfSome first (λ before. first ≡ Some before)
+    stays None = tt
+    stays (Some before) = refl
 sides_aside c after (Leave exec) Left (runs, is) =
-    subst (IsAside c) (sym is) (led_aside c (first_with c.left_first exec))
+    subst (IsAside c) (sym is)
+    (led_aside c (first_with c.left_first exec) (leads c.left_first))
+  where
+    leads : (first : Option ℕ) → IfSome first (λ before. first_with first exec ≡ Some before)
+    leads None = tt
+    leads (Some before) = refl
 
 pub steps_aside : (c after : CoreData) (event : SideEvent) (answer : Answer)
     → StepsAside c event answer after → IsAside c after

@@ -1,5 +1,5 @@
 -- What happens beside the reports, what it is answered, and what that leaves.
-use Rattle.std.specs.Prelude.{ℕ, ◌≡◌, true, false, Option, Some, None, map}
+use Rattle.std.specs.Prelude.{ℕ, ◌≡◌, ◌≤◌, true, false, Option, Some, None, IfSome, map}
 use Rattle.sc_core.specs.CoreData.{CoreData, job_runs}
 use Rattle.sc_core.specs.Posts.{is_save}
 use Rattle.sc_core.specs.declared.answers.Answer.{Answer}
@@ -36,9 +36,11 @@ pub record IsFurther (r after : Running) : Type 0 where
   pub phase : r.is_out ≡ false → after.phase ≡ r.phase
 
 -- A core, but for how far attempts have come that are out, who may commit, who left first, and the
--- greatest tick.
+-- greatest tick. No tick goes back, and who left first stays so.
 pub record IsAside (c after : CoreData) : Type 0 where
   pub told : after.told ≡ c.told
+  pub ticks : c.now ≤ after.now
+  pub leaver : IfSome c.left_first (λ first. after.left_first ≡ Some first)
   pub handed : after.handed ≡ c.handed
   pub job : after.job ≡ c.job
   pub further : Running → Running
