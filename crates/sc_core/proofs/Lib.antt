@@ -6,6 +6,7 @@ pub mod CoreLemmas
 pub mod OpenLemmas
 pub mod LookupLemmas
 pub mod WaitLemmas
+pub mod OthersLemmas
 pub mod SetLemmas
 pub mod SetCallLemmas
 pub mod StateLemmas

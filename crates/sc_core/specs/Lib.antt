@@ -12,6 +12,7 @@ pub mod Rooms
 pub mod Steps
 pub mod Openings
 pub mod Sound
+pub mod Waits
 pub mod Journals
 pub mod Texts
 pub mod Stories

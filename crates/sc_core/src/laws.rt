@@ -2,6 +2,7 @@
 #![tactic(auto)]
 
 ghost use Rattle.sc_core.specs.Laws.{DoneJobsAreWhole, EventsAreAnswered, NeverStuck, NoExecutorsAreLeft, OpeningsAreSound, ReplaysAgree, ReplaysKeepSound, SideEventsStayAside, StageLimitsAreReached, StepsAgree, StepsAreSpent, StepsKeepSound, TaskLimitsAreReached, WaitsHaveCause};
+ghost use Rattle.sc_core.specs.Waits.{WaitsAreForOthers};
 
 /// An event has one answer and leaves one state, and so a journal does. A call does nothing.
 pub fn steps_have_one_answer()
@@ -17,10 +18,11 @@ pub fn cores_are_sound()
 {}
 
 /// A job never sticks: each event that is enabled has an answer, who waits waits for an attempt
-/// that is under way, and where none is there is a task. A call does nothing.
+/// that is under way elsewhere, and where none is there is a task. A call does nothing.
 pub fn jobs_never_stick()
     ensures answered { EventsAreAnswered }
     ensures waits { WaitsHaveCause }
+    ensures others { WaitsAreForOthers }
     ensures never_stuck { NeverStuck }
     ensures spent { StepsAreSpent }
 {}
