@@ -7,6 +7,7 @@ pub mod OpenLemmas
 pub mod LookupLemmas
 pub mod WaitLemmas
 pub mod OthersLemmas
+pub mod UnsubmittedLemmas
 pub mod SetLemmas
 pub mod SetCallLemmas
 pub mod StateLemmas

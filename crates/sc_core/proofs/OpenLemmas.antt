@@ -1,7 +1,6 @@
 -- The core of a job that begins.
-use Rattle.std.proofs.Common.{◌≡◌, ℕ, List, [], Option, Some, None, IfSome, option_map, replicate, refl}
+use Rattle.std.proofs.Common.{◌≡◌, ℕ, Bool, List, [], Option, Some, None, IfSome, option_map, refl}
 use Rattle.sc_commit.specs.declared.committers.Committer.{Committer}
-use Rattle.sc_commit.specs.declared.committers.Committer.TheVariants.{Nobody}
 use Rattle.sc_dag.specs.DagData.{DagData}
 use Rattle.sc_dag.specs.Openings.{FitsJob, IsJob, Opens}
 use Rattle.sc_dag.specs.Submission.{IsSubmitted, this_stage}
@@ -10,7 +9,7 @@ use Rattle.sc_ids.specs.declared.limits.Limits.{Limits}
 use Rattle.sc_plan.specs.declared.lines.PlanLine.{PlanLine}
 use Rattle.sc_tracker.specs.TrackerData.{TrackerData}
 use Rattle.sc_core.specs.CoreData.{CoreData, core_data, result_stage}
-use Rattle.sc_core.specs.Openings.{BeginsWith, IsOpening, now_before, plan_behind, told_before, tracker_behind}
+use Rattle.sc_core.specs.Openings.{BeginsWith, IsOpening, committers_for, now_before, plan_behind, told_before, tracker_behind}
 use Rattle.sc_core.specs.Sound.{IsSoundCore}
 use Rattle.sc_core.specs.declared.answers.JobState.TheVariants as jobs
 use Rattle.sc_core.proofs.LawLemmas.{openings_are_sound}
@@ -36,12 +35,12 @@ last_stages value (Some l) = refl
 
 -- all else is as where nothing happened
 pub opening_is : {A : Type 0} (value : A → CoreData) (graph : List StageData) (limits : Limits)
-    (saved : ℕ) (last : Option A) (t : TrackerData) (told now : ℕ) (committers : List Committer)
+    (saved : Bool) (last : Option A) (t : TrackerData) (told now : ℕ) (committers : List Committer)
     (dag : DagData) (plan kept : List PlanLine)
     → t ≡ tracker_behind (option_map value last) limits
     → BeginsWith graph limits (option_map (λ l. (value l).dag) last) t dag
     → told ≡ told_before (option_map value last) → now ≡ now_before (option_map value last)
-    → committers ≡ replicate saved Nobody → kept ≡ plan_behind (option_map value last) plan
+    → committers ≡ committers_for saved dag → kept ≡ plan_behind (option_map value last) plan
     → IsOpening graph limits saved plan (option_map value last)
     (core_data told now 0 jobs.Running None [] [] 0 committers dag kept)
 opening_is value graph limits saved last t told now free dag plan kept tracker begins tells time
@@ -64,7 +63,7 @@ opening_is value graph limits saved last t told now free dag plan kept tracker b
     }
 
 -- it is sound
-pub opening_sound : (graph : List StageData) (limits : Limits) (saved : ℕ)
+pub opening_sound : (graph : List StageData) (limits : Limits) (saved : Bool)
     (plan : List PlanLine) (last before : Option CoreData) (c : CoreData) → before ≡ last
     → IsJob graph → FitsJob (tracker_behind last limits) graph → IfSome last IsSoundCore
     → IsOpening graph limits saved plan before c → IsSoundCore c

@@ -52,10 +52,10 @@ ReplaysKeepSound =
 -- the core of a job that begins is sound
 abbrev pub OpeningsAreSound : Type 0
 OpeningsAreSound =
-    (graph : List StageData) (limits : Limits) (saved : ℕ) (plan : List PlanLine)
+    (graph : List StageData) (limits : Limits) (saves : Bool) (plan : List PlanLine)
     (last : Option CoreData) (c : CoreData)
     → IsJob graph → FitsJob (tracker_behind last limits) graph → IfSome last IsSoundCore
-    → IsOpening graph limits saved plan last c → IsSoundCore c
+    → IsOpening graph limits saves plan last c → IsSoundCore c
 
 -- and a journal leaves one state
 abbrev pub ReplaysAgree : Type 0

@@ -40,24 +40,24 @@ impl Model for Core {
 }
 
 impl Core {
-    /// The core of a job with these stages, which saves so many partitions or none, in a run under
-    /// this plan, behind another job of the run or none. What that one's tracker knows of shuffles
-    /// is carried on, and so is its plan.
+    /// The core of a job with these stages, in a run under this plan, behind another job of the run
+    /// or none; `saves` says whether its result tasks commit. What that one's tracker knows of
+    /// shuffles is carried on, and so is its plan.
     pub fn open(
         alloc: Global,
         graph: &StageGraph,
         limits: Limits,
-        saved: u32,
+        saves: bool,
         plan: &Plan,
         last: Option<&Core>,
     ) -> Result<Core, AllocError>
         requires job { IsJob graph.now }
         requires fits { FitsJob (tracker_behind (option_map (λ l. l.now) last) limits) graph.now }
         ensures { IfOk result
-            (λ c. IsOpening graph.now limits saved plan.now (option_map (λ l. l.now) last.entry)
+            (λ c. IsOpening graph.now limits saves plan.now (option_map (λ l. l.now) last.entry)
             c) }
     {
-        let state = State::open(alloc, graph, limits, saved, plan, state_behind(last))?;
+        let state = State::open(alloc, graph, limits, saves, plan, state_behind(last))?;
         Ok(Core { state })
     }
 

@@ -2,6 +2,7 @@
 #![tactic(auto)]
 
 ghost use Rattle.sc_core.specs.Laws.{DoneJobsAreWhole, EventsAreAnswered, NeverStuck, NoExecutorsAreLeft, OpeningsAreSound, ReplaysAgree, ReplaysKeepSound, SideEventsStayAside, StageLimitsAreReached, StepsAgree, StepsAreSpent, StepsKeepSound, TaskLimitsAreReached, WaitsHaveCause};
+ghost use Rattle.sc_core.specs.Openings.{OpeningsAreSubmissions};
 ghost use Rattle.sc_core.specs.Waits.{WaitsAreForOthers};
 
 /// An event has one answer and leaves one state, and so a journal does. A call does nothing.
@@ -15,6 +16,12 @@ pub fn cores_are_sound()
     ensures begins { OpeningsAreSound }
     ensures steps { StepsKeepSound }
     ensures replays { ReplaysKeepSound }
+{}
+
+/// A job begins with its result stage submitted, and before that nothing has happened. A call does
+/// nothing.
+pub fn jobs_begin_unsubmitted()
+    ensures { OpeningsAreSubmissions }
 {}
 
 /// A job never sticks: each event that is enabled has an answer, who waits waits for an attempt

@@ -4,7 +4,7 @@
 ghost use Rattle.std.specs.Prelude.{◌≡◌, IfOk};
 ghost use Rattle.std.specs.Option.{option_map};
 ghost use Rattle.sc_dag.specs.Openings.{FitsJob, IsJob};
-ghost use Rattle.sc_core.specs.Openings.{BeginsWith, IsOpening, now_before, plan_behind, told_before, tracker_behind};
+ghost use Rattle.sc_core.specs.Openings.{BeginsWith, IsOpening, committers_for, now_before, plan_behind, told_before, tracker_behind};
 
 use crate::answers::JobState;
 use crate::stages::Stages;
@@ -16,12 +16,13 @@ use sc_tracker::Tracker;
 use std::alloc::{AllocError, Global};
 
 impl State {
-    /// A job that begins with its result stage submitted, behind another one or none.
+    /// A job that begins with its result stage submitted, behind another one or none; `saves` says
+    /// whether its result tasks commit.
     pub fn open(
         alloc: Global,
         graph: &StageGraph,
         limits: Limits,
-        saved: u32,
+        saves: bool,
         plan: &Plan,
         last: Option<&State>,
     ) -> Result<State, AllocError>
@@ -29,15 +30,15 @@ impl State {
         requires fits { FitsJob (tracker_behind (option_map (λ l. l.now.0) last) limits)
             graph.now }
         ensures { IfOk result
-            (λ s. IsOpening graph.now limits saved plan.now
+            (λ s. IsOpening graph.now limits saves plan.now
             (option_map (λ l. l.now.0) last.entry) s.0) }
     {
         let told = told_before(last);
         let tick = now_before(last);
-        let commit = Commit::begin(alloc, saved)?;
         let plan = plan_behind(plan, last).copied(alloc)?;
         let tracker = tracker_behind(alloc, limits, last)?;
         let stages = submitted(alloc, graph, limits, last, tracker)?;
+        let commit = commit_for(alloc, saves, &stages)?;
         Ok(State {
             told,
             tick,
@@ -52,6 +53,19 @@ impl State {
             plan,
         })
     }
+}
+
+/// A coordinator with nobody granted: a job that saves has a place for each result task.
+fn commit_for(alloc: Global, saves: bool, stages: &Stages) -> Result<Commit, AllocError>
+    ensures { IfOk result (λ c. c ≡ committers_for saves stages.now.0) }
+{
+    let dag = stages.dag();
+    let tasks = if saves {
+        dag.tasks(dag.last_stage())
+    } else {
+        0
+    };
+    Commit::begin(alloc, tasks)
 }
 
 /// The stages with the result stage submitted.

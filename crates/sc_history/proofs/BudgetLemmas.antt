@@ -184,7 +184,7 @@ spent_stays opening end (entry ∷ entries) (mid, step, rest) h =
 
 -- the limits of a job that begins
 pub opening_limits :
-    (graph : List StageData) (limits : Limits) (saved : ℕ) (plan : List PlanLine)
+    (graph : List StageData) (limits : Limits) (saved : Bool) (plan : List PlanLine)
     (last : Option CoreData) (c : CoreData) → IsOpening graph limits saved plan last c
     → c.dag.limits ≡ limits
 opening_limits graph limits saved plan last c o = sent o.submits ∙ o.limits_are

@@ -1,11 +1,10 @@
 -- Two cores of one opening are the same.
-use Rattle.std.proofs.Common.{◌≡◌, ◌⊎◌, inl, inr, ℕ, zero, suc, List, [], ◌∷◌, Contains, length, Option, Some, None, IfSome, option_map, replicate, slice_get, refl, ap, sym, subst, ◌∙◌, arith, rules}
+use Rattle.std.proofs.Common.{◌≡◌, ◌⊎◌, inl, inr, ℕ, zero, suc, Bool, List, [], ◌∷◌, Contains, length, Option, Some, None, IfSome, option_map, replicate, slice_get, refl, ap, sym, subst, ◌∙◌, arith, rules}
 use Rattle.std.proofs.lemmas.List.Elements.{All-contains, All-replicate}
 use Rattle.sc_base.specs.Lists.{at_or}
 use Rattle.sc_ids.specs.Graphs.{StageData}
 use Rattle.sc_ids.specs.declared.limits.Limits.{Limits}
 use Rattle.sc_plan.specs.declared.lines.PlanLine.{PlanLine}
-use Rattle.sc_commit.specs.declared.committers.Committer.TheVariants.{Nobody}
 use Rattle.sc_tracker.specs.TrackerData.{TrackerData}
 use Rattle.sc_tracker.specs.TrackerFacts.{HasMarkBelow, IsSoundTracker}
 use Rattle.sc_tracker.specs.Trust.{untold}
@@ -16,7 +15,7 @@ use Rattle.sc_dag.specs.Submission.{IsSubmitted, this_stage}
 use Rattle.sc_dag.proofs.Looking.{submissions_agree}
 use Rattle.sc_dag.proofs.Opening.{openings_are_sound}
 use Rattle.sc_core.specs.CoreData.{CoreData, core_data, result_stage}
-use Rattle.sc_core.specs.Openings.{IsOpening, now_before, plan_behind, told_before, tracker_behind}
+use Rattle.sc_core.specs.Openings.{IsOpening, committers_for, now_before, plan_behind, told_before, tracker_behind}
 use Rattle.sc_core.specs.Sound.{IsSoundCore}
 use Rattle.sc_core.specs.declared.answers.JobState.TheVariants as jobs
 use Rattle.sc_history.specs.Openings.{OpeningsAgree}
@@ -96,13 +95,13 @@ behind_sound None limits sound =
 behind_sound (Some last) limits sound = sound.job.dag.tracker
 
 -- all of a core that begins but its stages
-opened : Limits → ℕ → List PlanLine → Option CoreData → DagData → CoreData
+opened : Limits → Bool → List PlanLine → Option CoreData → DagData → CoreData
 opened limits saved plan last dag =
     core_data (told_before last) (now_before last) 0 jobs.Running None [] [] 0
-    (replicate saved Nobody) dag (plan_behind last plan)
+    (committers_for saved dag) dag (plan_behind last plan)
 
 opening_is :
-    (graph : List StageData) (limits : Limits) (saved : ℕ) (plan : List PlanLine)
+    (graph : List StageData) (limits : Limits) (saved : Bool) (plan : List PlanLine)
     (last : Option CoreData) (c : CoreData) → IsOpening graph limits saved plan last c
     → c ≡ opened limits saved plan last c.dag
 unfolding opened
@@ -126,7 +125,7 @@ opening_is graph limits saved plan last c o =
     ∙ ap (λ x. core_data (told_before last) (now_before last) 0 jobs.Running None [] [] 0
     x c.dag c.plan) o.committers
     ∙ ap (λ x. core_data (told_before last) (now_before last) 0 jobs.Running None [] [] 0
-    (replicate saved Nobody) c.dag x) o.plan_is
+    (committers_for saved c.dag) c.dag x) o.plan_is
 
 pub openings_agree : OpeningsAgree
 openings_agree graph limits saved plan last x y job fits sound a b =

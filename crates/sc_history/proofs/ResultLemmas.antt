@@ -377,7 +377,7 @@ none_blank last n (stage ∷ stages) zero p =
 none_blank last n (stage ∷ stages) (suc s) p = none_blank last (n + 1) stages s p
 
 begins_empty :
-    (graph : List StageData) (limits : Limits) (saved : ℕ) (plan : List PlanLine)
+    (graph : List StageData) (limits : Limits) (saved : Bool) (plan : List PlanLine)
     (last : Option CoreData) (c : CoreData) → IsOpening graph limits saved plan last c → (s p : ℕ)
     → has_result c.dag s p ≡ false
 begins_empty graph limits saved plan last c o s p =

@@ -1,5 +1,5 @@
 -- The task sets of a job have its limits.
-use Rattle.std.proofs.Common.{◌≡◌, ℕ, List, Option, Some, None, IfSome, slice_get, refl, ap, sym, ◌∙◌, rules}
+use Rattle.std.proofs.Common.{◌≡◌, ℕ, Bool, List, Option, Some, None, IfSome, slice_get, refl, ap, sym, ◌∙◌, rules}
 use Rattle.sc_ids.specs.Graphs.{StageData}
 use Rattle.sc_ids.specs.declared.attempts.AttemptId.{AttemptId}
 use Rattle.sc_ids.specs.declared.limits.Limits.{Limits}
@@ -66,7 +66,7 @@ limits_kept L c after event answer same step have s k =
     by (Some x) (Some y) q h = q ∙ h
 
 pub limits_begin :
-    (graph : List StageData) (limits : Limits) (saved : ℕ) (plan : List PlanLine)
+    (graph : List StageData) (limits : Limits) (saved : Bool) (plan : List PlanLine)
     (last : Option CoreData) (c : CoreData) → IsOpening graph limits saved plan last c
     → HaveLimits limits c.dag
 unfolding SameLimits HasLimits

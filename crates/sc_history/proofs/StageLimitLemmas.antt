@@ -359,7 +359,7 @@ flagged_in (Some state) m e =
 -- ---- the limit
 
 begins_unflagged :
-    (graph : List StageData) (limits : Limits) (saved : ℕ) (plan : List PlanLine)
+    (graph : List StageData) (limits : Limits) (saved : Bool) (plan : List PlanLine)
     (last : Option CoreData) (c : CoreData) → IsOpening graph limits saved plan last c → (s k : ℕ)
     → is_flagged c.dag s k ≡ true → is_missed [] s k ≡ true
 begins_unflagged graph limits saved plan last c o s k e =

@@ -1,5 +1,5 @@
 -- The attempts of a job that begins are new.
-use Rattle.std.proofs.Common.{◌≡◌, ℕ, zero, suc, ◌+◌, List, [], ◌∷◌, Option, None, slice_get, refl, subst}
+use Rattle.std.proofs.Common.{◌≡◌, ℕ, zero, suc, ◌+◌, Bool, List, [], ◌∷◌, Option, None, slice_get, refl, subst}
 use Rattle.sc_ids.specs.Graphs.{StageData}
 use Rattle.sc_ids.specs.declared.limits.Limits.{Limits}
 use Rattle.sc_plan.specs.declared.lines.PlanLine.{PlanLine}
@@ -19,7 +19,7 @@ none_blank last n (stage ∷ stages) zero k = refl
 none_blank last n (stage ∷ stages) (suc s) k = none_blank last (n + 1) stages s k
 
 pub opening_slot : (A : StageAttempt → StageAttempt → Type 0) (New : StageAttempt → Type 0)
-    (graph : List StageData) (limits : Limits) (saved : ℕ) (plan : List PlanLine)
+    (graph : List StageData) (limits : Limits) (saved : Bool) (plan : List PlanLine)
     (last : Option CoreData) (c : CoreData) → IsCalm A New limits
     → IsOpening graph limits saved plan last c → (s k : ℕ)
     → Slot A New None (attempt_among (slice_get c.dag.states s) k)

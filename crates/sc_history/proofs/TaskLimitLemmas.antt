@@ -1,5 +1,5 @@
 -- A job that is aborted for the failures of a partition shows them.
-use Rattle.std.proofs.Common.{◌≡◌, ◌≢◌, ◌⊎◌, inl, inr, ℕ, ◌≤◌, true, List, [], ◌++◌, length, Option, Some, None, refl, ap, sym, subst, ◌∙◌, arith, rules, true≢false, slice_get, false}
+use Rattle.std.proofs.Common.{◌≡◌, ◌≢◌, ◌⊎◌, inl, inr, ℕ, ◌≤◌, true, Bool, List, [], ◌++◌, length, Option, Some, None, refl, ap, sym, subst, ◌∙◌, arith, rules, true≢false, slice_get, false}
 use Rattle.std.specs.List.{AllPairs}
 use Rattle.std.proofs.lemmas.List.{length-map}
 use Rattle.sc_ids.specs.Graphs.{StageData}
@@ -191,7 +191,7 @@ telling_kept L told event answer c after h step =
 
 -- nothing is told where a job begins, and nothing counts
 begins_quiet :
-    (graph : List StageData) (limits : Limits) (saved : ℕ) (plan : List PlanLine)
+    (graph : List StageData) (limits : Limits) (saved : Bool) (plan : List PlanLine)
     (last : Option CoreData) (c : CoreData) → IsOpening graph limits saved plan last c
     → AreTold [] c.dag
 begins_quiet graph limits saved plan last c o s k p n h =

@@ -45,7 +45,7 @@ LimitsStay =
 -- a job that is aborted by its budget has handed out as many tasks as it may
 abbrev pub BudgetsAreShown : Type 0
 BudgetsAreShown =
-    (graph : List StageData) (limits : Limits) (saved : ℕ) (plan : List PlanLine)
+    (graph : List StageData) (limits : Limits) (saves : Bool) (plan : List PlanLine)
     (last : Option CoreData) (opening end : CoreData) (entries : List Entry)
-    → IsOpening graph limits saved plan last opening
+    → IsOpening graph limits saves plan last opening
     → Replays opening entries end → end.job ≡ jobs.Aborted Budget → ShowsBudget limits entries

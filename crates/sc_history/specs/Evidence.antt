@@ -52,9 +52,9 @@ pub record ShowsTaskLimit (limits : Limits) (told : List Telling) (stage number 
 -- a job that is aborted for the failures of a partition shows them
 abbrev pub TaskLimitsAreShown : Type 0
 TaskLimitsAreShown =
-    (graph : List StageData) (limits : Limits) (saved : ℕ) (plan : List PlanLine)
+    (graph : List StageData) (limits : Limits) (saves : Bool) (plan : List PlanLine)
     (last : Option CoreData) (opening end : CoreData) (entries : List Entry)
-    (stage number partition : ℕ) → IsOpening graph limits saved plan last opening
+    (stage number partition : ℕ) → IsOpening graph limits saves plan last opening
     → IsSoundCore opening → (replays : Replays opening entries end)
     → end.job ≡ jobs.Aborted (TaskLimit stage number partition)
     → ShowsTaskLimit limits (tellings opening entries end replays) stage number partition

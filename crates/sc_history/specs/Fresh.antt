@@ -1,5 +1,5 @@
 -- Which attempts a journal hands out.
-use Rattle.std.specs.Prelude.{ℕ, ◌≢◌, List, [], ◌∷◌, Option}
+use Rattle.std.specs.Prelude.{ℕ, ◌≢◌, Bool, List, [], ◌∷◌, Option}
 use Rattle.std.specs.List.{AllPairs, flat_map}
 use Rattle.sc_ids.specs.Graphs.{StageData}
 use Rattle.sc_ids.specs.declared.attempts.AttemptId.{AttemptId}
@@ -31,8 +31,8 @@ attempts_given entries = flat_map (λ e. given_by e.event e.answer) entries
 -- no attempt is handed out twice
 abbrev pub TakesAreFresh : Type 0
 TakesAreFresh =
-    (graph : List StageData) (limits : Limits) (saved : ℕ) (plan : List PlanLine)
+    (graph : List StageData) (limits : Limits) (saves : Bool) (plan : List PlanLine)
     (last : Option CoreData) (opening end : CoreData) (entries : List Entry)
-    → IsOpening graph limits saved plan last opening
+    → IsOpening graph limits saves plan last opening
     → IsSoundCore opening → Replays opening entries end
     → AllPairs (λ a b. a ≢ b) (attempts_given entries)

@@ -1,5 +1,5 @@
 -- What an abort for want of executors shows.
-use Rattle.std.specs.Prelude.{ℕ, ◌≡◌, true, List, Option}
+use Rattle.std.specs.Prelude.{ℕ, ◌≡◌, true, Bool, List, Option}
 use Rattle.sc_ids.specs.Graphs.{StageData}
 use Rattle.sc_ids.specs.declared.limits.Limits.{Limits}
 use Rattle.sc_plan.specs.declared.lines.PlanLine.{PlanLine}
@@ -15,8 +15,8 @@ use Rattle.sc_core.specs.declared.entries.Entry.{Entry}
 -- a job that is aborted for want of executors ends with every executor told lost
 abbrev pub NoExecutorsAreShown : Type 0
 NoExecutorsAreShown =
-    (graph : List StageData) (limits : Limits) (saved : ℕ) (plan : List PlanLine)
+    (graph : List StageData) (limits : Limits) (saves : Bool) (plan : List PlanLine)
     (last : Option CoreData) (opening end : CoreData) (entries : List Entry)
-    → IsOpening graph limits saved plan last opening
+    → IsOpening graph limits saves plan last opening
     → IsSoundCore opening → Replays opening entries end
     → end.job ≡ jobs.Aborted NoExecutor → are_lost end.dag.tracker.trust ≡ true

@@ -1,5 +1,5 @@
 -- How a job begins.
-use Rattle.std.specs.Prelude.{ℕ, ◌≡◌, ◌≢◌, List, All, Option, IfSome, length, true}
+use Rattle.std.specs.Prelude.{ℕ, ◌≡◌, ◌≢◌, Bool, List, All, Option, IfSome, length, true}
 use Rattle.sc_ids.specs.Graphs.{StageData}
 use Rattle.sc_ids.specs.declared.blocks.ShuffleId.{ShuffleId}
 use Rattle.sc_ids.specs.declared.blocks.Target.TheVariants as targets
@@ -16,11 +16,11 @@ use Rattle.sc_history.specs.Rooms.{IsSameRoom}
 -- two cores of one opening are the same
 abbrev pub OpeningsAgree : Type 0
 OpeningsAgree =
-    (graph : List StageData) (limits : Limits) (saved : ℕ) (plan : List PlanLine)
+    (graph : List StageData) (limits : Limits) (saves : Bool) (plan : List PlanLine)
     (last : Option CoreData) (x y : CoreData) → IsJob graph
     → FitsJob (tracker_behind last limits) graph
-    → IfSome last IsSoundCore → IsOpening graph limits saved plan last x
-    → IsOpening graph limits saved plan last y → x ≡ y
+    → IfSome last IsSoundCore → IsOpening graph limits saves plan last x
+    → IsOpening graph limits saves plan last y → x ≡ y
 
 -- there is room for the outputs of a stage, and for no more of its shuffle
 pub record HasItsRoom (u : TrackerData) (stage : StageData) (shuffle : ShuffleId) : Type 0 where
@@ -48,8 +48,8 @@ pub record MakesRoom (graph : List StageData) (t u : TrackerData) : Type 0 where
 -- a job that begins has room for its map stages, and keeps the rest
 abbrev pub OpeningsMakeRoom : Type 0
 OpeningsMakeRoom =
-    (graph : List StageData) (limits : Limits) (saved : ℕ) (plan : List PlanLine)
+    (graph : List StageData) (limits : Limits) (saves : Bool) (plan : List PlanLine)
     (last : Option CoreData) (c : CoreData) → IsJob graph
     → FitsJob (tracker_behind last limits) graph
-    → IsOpening graph limits saved plan last c
+    → IsOpening graph limits saves plan last c
     → MakesRoom graph (tracker_behind last limits) c.dag.tracker

@@ -31,9 +31,9 @@ times_finished told stage partition = count_by (finishes stage partition) told
 -- no partition gets its result twice, and each one of the result stage has it in a job that is done
 abbrev pub ResultsAreOnce : Type 0
 ResultsAreOnce =
-    (graph : List StageData) (limits : Limits) (saved : ℕ) (plan : List PlanLine)
+    (graph : List StageData) (limits : Limits) (saves : Bool) (plan : List PlanLine)
     (last : Option CoreData) (opening end : CoreData) (entries : List Entry)
-    → IsOpening graph limits saved plan last opening → IsSoundCore opening
+    → IsOpening graph limits saves plan last opening → IsSoundCore opening
     → (replays : Replays opening entries end)
     → ((stage partition : ℕ)
     → times_finished (tellings opening entries end replays) stage partition ≤ 1)

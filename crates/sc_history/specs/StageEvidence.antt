@@ -62,8 +62,8 @@ pub record ShowsStageLimit (limits : Limits) (opening : CoreData) (entries : Lis
 -- a job that is aborted for the failed attempts of a stage shows them
 abbrev pub StageLimitsAreShown : Type 0
 StageLimitsAreShown =
-    (graph : List StageData) (limits : Limits) (saved : ℕ) (plan : List PlanLine)
+    (graph : List StageData) (limits : Limits) (saves : Bool) (plan : List PlanLine)
     (last : Option CoreData) (opening end : CoreData) (entries : List Entry) (stage : ℕ)
-    → IsOpening graph limits saved plan last opening → IsSoundCore opening
+    → IsOpening graph limits saves plan last opening → IsSoundCore opening
     → Replays opening entries end → end.job ≡ jobs.Aborted (StageLimit stage)
     → ShowsStageLimit limits opening entries end stage
