@@ -1,42 +1,13 @@
 -- Where a report stands among those that are to be told later.
-use Rattle.std.proofs.Common.{◌≡◌, ◌∙◌, ℕ, ◌+◌, ◌<◌, ◌≤◌, suc, Bool, true, false, not, cond, List, [], ◌∷◌, length, remove, Some, None, get_or, nat_lt, refl, ap, sym, subst, arith}
-use Rattle.std.specs.List.{All, AllPairs, filter, find, position, position_or_len}
+use Rattle.std.proofs.Common.{◌≡◌, ◌∙◌, ℕ, ◌<◌, Bool, true, false, not, cond, List, [], ◌∷◌, length, remove, Some, None, get_or, nat_lt, refl, ap, sym, arith}
+use Rattle.std.specs.List.{AllPairs, filter, find, position, position_or_len}
 use Rattle.std.specs.Option.{option_map}
 use Rattle.std.proofs.lemmas.Bool.Decides.{nat_tests}
-use Rattle.std.proofs.lemmas.List.Elements.{All-filter, All-head, All-tail}
 use Rattle.std.proofs.lemmas.List.Folds.{find_at}
-use Rattle.std.proofs.lemmas.Option.{slice_get_past, slice_get_read}
+use Rattle.std.proofs.lemmas.Option.{slice_get_read}
 use Rattle.sc_net.specs.declared.shelved.ShelvedReport.{ShelvedReport}
 use Rattle.sc_net.specs.Shelves.{IsBefore, is_under}
-use Rattle.sc_taskset.proofs.FindLemmas.{pairs_head, pairs_tail}
-
-module _ {A : Type 0} (P : A → A → Type 0) (p : A → Bool)
-    (clash : (x y : A) → P x y → p x ≡ true → p y ≡ false) where
-  -- behind one that passes none does
-  none_passes : (x : A) (xs : List A) → p x ≡ true → All (P x) xs
-      → filter (λ y. not (p y)) xs ≡ xs
-  none_passes x [] e all = refl
-  none_passes x (y ∷ ys) e all =
-      rw (clash x y (All-head (P x) y ys all) e)
-      (ap (λ zs. y ∷ zs) (none_passes x ys e (All-tail (P x) y ys all)))
-
-  -- so without it those are left that don't pass
-  removed_alone : (xs : List A) → AllPairs P xs → position_or_len p xs < length xs
-      → remove xs (position_or_len p xs) ≡ filter (λ y. not (p y)) xs
-  removed_alone [] pairs lt = absurd (omega (arith, lt))
-  removed_alone (x ∷ xs) pairs lt = by (p x) refl lt (removed_alone xs (pairs_tail P x xs pairs))
-    where
-      place : ℕ
-      place = position_or_len p xs
-
-      by : (b : Bool) → p x ≡ b → cond (not b) (1 + place) 0 < suc (length xs)
-          → (place < length xs → remove xs place ≡ filter (λ y. not (p y)) xs)
-          → remove (x ∷ xs) (cond (not (p x)) (1 + place) 0)
-          ≡ cond (not (p x)) (x ∷ filter (λ y. not (p y)) xs) (filter (λ y. not (p y)) xs)
-      by true e l rest = rw e (sym (none_passes x xs e (pairs_head P x xs pairs)))
-      by false e l rest =
-          let one : 1 + place ≡ suc place = omega arith in
-          rw (e, one) (ap (λ zs. x ∷ zs) (rest (omega (arith, l))))
+use Rattle.sc_taskset.proofs.FindLemmas.{none_placed, removed_alone}
 
 -- where none passes, all are left that don't
 none_removed : {A : Type 0} (p : A → Bool) (xs : List A) → find p xs ≡ None
@@ -92,23 +63,9 @@ module _ {R : Type 0} where
           here (grind (arith, nat_tests, lt)) same
       by false lt e = absurd (cc)
 
-  -- where none is found, there is none
-  pub none_found : (reports : List (ShelvedReport R)) (key : ℕ)
-      → None ≡ position (is_under key) reports → find (is_under key) reports ≡ None
-  none_found reports key is = by (nat_lt at (length reports)) refl is
-    where
-      at : ℕ
-      at = position_or_len (is_under key) reports
-
-      by : (b : Bool) → nat_lt at (length reports) ≡ b → None ≡ cond b (Some at) None
-          → find (is_under key) reports ≡ None
-      by true lt e = absurd (cc)
-      by false lt e =
-          let past : length reports ≤ at = grind (arith, nat_tests, lt) in
-          find_at (is_under key) reports ∙ slice_get_past reports at past
-
-  -- and all stay as they are without one
+  -- where none has a place, all stay as they are without one
   pub none_goes : (reports : List (ShelvedReport R)) (key : ℕ)
       → None ≡ position (is_under key) reports
       → reports ≡ filter (λ r. not (is_under key r)) reports
-  none_goes reports key is = sym (none_removed (is_under key) reports (none_found reports key is))
+  none_goes reports key is =
+      sym (none_removed (is_under key) reports (none_placed (is_under key) reports is))
