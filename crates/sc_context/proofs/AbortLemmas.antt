@@ -102,24 +102,24 @@ module _ (known_causes : AreCauses) (work : WorkData) (sound : IsSoundWork work)
   -- every executor was told lost
   all_lost : h.end.job ≡ jobs.Aborted NoExecutor → are_lost h.end.dag.tracker.trust ≡ true
   all_lost e =
-      no_executors_are_shown is.graph work.limits 0 work.plan p.last h.opening h.end h.entries.items
-      is.opening is.began is.replays e
+      no_executors_are_shown is.graph work.limits false work.plan p.last h.opening h.end
+      h.entries.items is.opening is.began is.replays e
 
   -- the history shows the abort
   pub shows_abort : (abort : Abort) → h.end.job ≡ jobs.Aborted abort
       → ShowsAbort work h is.replays abort
   shows_abort (TaskLimit stage number partition) e =
-      task_limits_are_shown is.graph work.limits 0 work.plan p.last h.opening h.end h.entries.items
-      stage number partition is.opening is.began is.replays e
+      task_limits_are_shown is.graph work.limits false work.plan p.last h.opening h.end
+      h.entries.items stage number partition is.opening is.began is.replays e
   shows_abort (StageLimit stage) e =
-      stage_limits_are_shown is.graph work.limits 0 work.plan p.last h.opening h.end h.entries.items
-      stage is.opening is.began is.replays e
+      stage_limits_are_shown is.graph work.limits false work.plan p.last h.opening h.end
+      h.entries.items stage is.opening is.began is.replays e
   shows_abort NoExecutor e = λ exec within.
       known_causes.losses work.plan h.end exec core fits.plan (all_lost e)
       (subst (λ n. exec < n) (sym fits.execs) within)
   shows_abort Budget e =
-      budgets_are_shown is.graph work.limits 0 work.plan p.last h.opening h.end h.entries.items
-      is.opening is.replays e
+      budgets_are_shown is.graph work.limits false work.plan p.last h.opening h.end
+      h.entries.items is.opening is.replays e
 
   -- Where the plan has no line.
   module _ (carried : IsCarriedFor work.script.nodes p.carried) (known : IsGoal work goal)

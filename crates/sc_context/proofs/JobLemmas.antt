@@ -1,5 +1,5 @@
 -- What a job leaves that went somehow.
-use Rattle.std.proofs.Common.{◌≡◌, ◌∙◌, ℕ, zero, suc, ◌<◌, ◌≤◌, List, [], ◌∷◌, ◌++◌, Option, Some, None, length, replicate, refl, ap, sym, subst}
+use Rattle.std.proofs.Common.{◌≡◌, ◌∙◌, ℕ, zero, suc, ◌<◌, ◌≤◌, false, List, [], ◌∷◌, ◌++◌, Option, Some, None, length, replicate, refl, ap, sym, subst}
 use Rattle.sc_base.specs.Lists.{at_or}
 use Rattle.sc_base.specs.declared.refusals.OrMemory.{OrMemory}
 use Rattle.sc_base.specs.declared.refusals.OrMemory.TheVariants.{Fault, OutOfMemory}
@@ -64,7 +64,7 @@ module _ (work : WorkData) (p : Progress) (goal : Goal) (passed : PassedData)
           graph = begun.desk.job.graph;
           cut = subst (λ c. IsCut work c (goal_node work goal) begun.desk.job.graph) same
               begun.begins.cut;
-          opening = subst (IsOpening begun.desk.job.graph work.limits 0 work.plan p.last)
+          opening = subst (IsOpening begun.desk.job.graph work.limits false work.plan p.last)
               (sym (opening ∙ ap (λ (x : DeskData). x.journal.opening) desk_is))
               begun.begins.opening;
           began = core;

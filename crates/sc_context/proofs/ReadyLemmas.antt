@@ -125,8 +125,9 @@ submitted_tracker : (d after : DagData) (submitted : ℕ → Bool) → IsSubmitt
     → after.tracker ≡ d.tracker
 submitted_tracker d after submitted (looked, are, is) = ap (λ (x : DagData). x.tracker) is
 
-pub opened_tracker : (graph : List StageData) (limits : Limits) (saved : ℕ) (plan : List PlanLine)
-    (last : Option CoreData) (c : CoreData) → IsOpening graph limits saved plan last c
+pub opened_tracker : (graph : List StageData) (limits : Limits) (saved : Bool)
+    (plan : List PlanLine) (last : Option CoreData) (c : CoreData)
+    → IsOpening graph limits saved plan last c
     → c.dag.tracker ≡ sized_for_all (tracker_behind last limits) graph
 opened_tracker graph limits saved plan last c opening =
     submitted_tracker opening.dag c.dag _ opening.submits ∙ opening.opens.tracker
@@ -141,7 +142,7 @@ ready_opening work stores passed last goal desk ready begins =
       many = ready.many;
       own = ready.own;
       tied = subst (AreTied stores)
-          (sym (opened_tracker desk.job.graph work.limits 0 work.plan last desk.journal.opening
+          (sym (opened_tracker desk.job.graph work.limits false work.plan last desk.journal.opening
           begins.opening))
           (sized_tied stores (tracker_behind last work.limits) desk.job.graph ready.tied);
       due = λ exec. subst (λ told. generation_at stores exec ≤ wipes_due work told exec)

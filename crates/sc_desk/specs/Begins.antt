@@ -1,5 +1,5 @@
 -- How a desk begins.
-use Rattle.std.specs.Prelude.{◌≡◌, ◌⊎◌, [], None, Some, List, Option, length, replicate}
+use Rattle.std.specs.Prelude.{◌≡◌, ◌⊎◌, [], None, false, Some, List, Option, length, replicate}
 use Rattle.sc_value.specs.Datum.{Datum}
 use Rattle.sc_ids.specs.Graphs.{StageData}
 use Rattle.sc_ids.specs.declared.limits.Limits.{Limits}
@@ -30,7 +30,7 @@ pub record Begins (work : WorkData) (passed : PassedData) (last : Option CoreDat
   pub cut : IsCut work passed.carried (goal_node work goal) d.job.graph
   pub carried_on : d.carried ≡ after_job passed.carried d.job.graph
   pub ordered : d.ordered ≡ passed.ordered
-  pub opening : IsOpening d.job.graph work.limits 0 work.plan last d.journal.opening
+  pub opening : IsOpening d.job.graph work.limits false work.plan last d.journal.opening
   pub entries : d.journal.entries ≡ []
   pub core : core_of d ≡ d.journal.opening
   pub results : d.results ≡ replicate (result_count (core_of d).dag) None
@@ -68,6 +68,6 @@ FitsLast work (Some last) = FitsRun work last
 -- a journal of a job that begins: nothing has happened
 pub record IsFresh (graph : List StageData) (limits : Limits) (plan : List PlanLine)
     (last : Option CoreData) (j : JournalData) : Type 0 where
-  pub opening_is : IsOpening graph limits 0 plan last j.opening
+  pub opening_is : IsOpening graph limits false plan last j.opening
   pub none : j.entries ≡ []
   pub core_is : j.core ≡ j.opening

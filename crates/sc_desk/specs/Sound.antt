@@ -112,7 +112,7 @@ IsSeenDue work c =
 pub record IsSoundDesk (work : WorkData) (d : DeskData) : Type 0 where
   -- its job began behind another one or none, under the plan of the work, and saves nothing
   pub last : Option CoreData
-  pub opened : IsOpening d.job.graph work.limits 0 work.plan last d.journal.opening
+  pub opened : IsOpening d.job.graph work.limits false work.plan last d.journal.opening
   -- with a core that is sound
   pub began : IsSoundCore d.journal.opening
   -- the core has the job's stages by their numbers, the work's limits and plan, and its executors

@@ -141,8 +141,8 @@ fn journal_of<W: Naming>(
     are_sound(last);
     let limits = work.get().limits();
     let plan = work.get().plan();
-    let opening = Core::open(alloc, job.graph(), limits, 0, plan, last)?;
-    let core = Core::open(alloc, job.graph(), limits, 0, plan, last)?;
+    let opening = Core::open(alloc, job.graph(), limits, false, plan, last)?;
+    let core = Core::open(alloc, job.graph(), limits, false, plan, last)?;
     core.is_sound();
     Ok(Journal::begin(alloc, opening, core))
 }

@@ -87,7 +87,7 @@ word_count_fits_behind c limits last room =
 
 -- once it has begun there is room for both outputs
 pub word_count_room : (limits : Limits) (last : ℕ) (plan : List PlanLine) (c : CoreData)
-    → IsOpening (word_count last) limits 0 plan None c → room_of c ≡ 2
+    → IsOpening (word_count last) limits false plan None c → room_of c ≡ 2
 word_count_room limits last plan c o =
     ap (λ t. length (outputs_of t words_shuffle)) (sent o.submits ∙ o.opens.tracker)
   where

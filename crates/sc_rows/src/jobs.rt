@@ -1,7 +1,7 @@
 //! Jobs whose schedulers are asked, with a journal for each.
 #![tactic(auto)]
 
-ghost use Rattle.std.specs.Prelude.{◌≡◌, ◌<◌, IfSome};
+ghost use Rattle.std.specs.Prelude.{◌≡◌, ◌<◌, IfSome, false};
 ghost use Rattle.std.specs.Option.{option_map};
 ghost use Rattle.sc_dag.specs.Openings.{FitsJob, IsJob};
 ghost use Rattle.sc_core.specs.Openings.{IsOpening, tracker_behind};
@@ -57,12 +57,12 @@ fn begun<R: Abort + AllocGlobal>(
 ) -> Journal
     requires job { IsJob graph.now }
     requires fits { FitsJob (tracker_behind (option_map (λ l. l.now) last) limits) graph.now }
-    ensures { IsOpening graph.now limits 0 plan.now (option_map (λ l. l.now) last.entry)
+    ensures { IsOpening graph.now limits false plan.now (option_map (λ l. l.now) last.entry)
         result.core }
 {
     is_sound_behind(last);
-    let opening = Core::open(rt.alloc(), graph, limits, 0, plan, last).expect(rt, "memory");
-    let core = Core::open(rt.alloc(), graph, limits, 0, plan, last).expect(rt, "memory");
+    let opening = Core::open(rt.alloc(), graph, limits, false, plan, last).expect(rt, "memory");
+    let core = Core::open(rt.alloc(), graph, limits, false, plan, last).expect(rt, "memory");
     Journal::begin(rt.alloc(), opening, core)
 }
 

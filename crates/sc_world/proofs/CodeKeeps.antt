@@ -1,5 +1,5 @@
 -- What every world keeps, it keeps over the steps that calls do.
-use Rattle.std.proofs.Common.{◌≡◌, ℕ, ◌<◌, true, List, Option, Some, None, Result, Ok, Err, IfOk, IfSome, OnErr, OnOk, length, slice_get, refl, ap, ap₂, sym, subst, ◌∙◌, ◌≤◌, arith, rules}
+use Rattle.std.proofs.Common.{◌≡◌, ℕ, ◌<◌, true, false, List, Option, Some, None, Result, Ok, Err, IfOk, IfSome, OnErr, OnOk, length, slice_get, refl, ap, ap₂, sym, subst, ◌∙◌, ◌≤◌, arith, rules}
 use Rattle.sc_base.specs.Lists.{at_or}
 use Rattle.sc_ids.specs.Changes.{change_at}
 use Rattle.sc_ids.specs.declared.attempts.Mark.{Mark}
@@ -226,5 +226,6 @@ pub begun_world : (work : WorkData) (desk : DeskData) (stores : List StoreData)
     → IsWorld work (idle_world work desk stores)
 begun_world work desk stores (passed, last, goal, b) core sound ready =
     worlds_begin work last desk stores core sound
-    (subst (λ x. IsOpening desk.job.graph work.limits 0 work.plan last x) (sym b.core) b.opening)
+    (subst (λ x. IsOpening desk.job.graph work.limits false work.plan last x) (sym b.core)
+    b.opening)
     b.shelf ready

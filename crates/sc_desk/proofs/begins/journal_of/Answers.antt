@@ -1,4 +1,4 @@
-use Rattle.std.proofs.Common.{◌∙◌, ap, subst}
+use Rattle.std.proofs.Common.{◌∙◌, ap, subst, false}
 use Rattle.std.specs.Option.{option_map}
 use Rattle.sc_core.specs.Openings.{IsOpening}
 use Rattle.sc_lineage.specs.ScriptData.{WorkData}
@@ -24,13 +24,13 @@ begin-requires g c =
     opened_alike g.W.Naming.work c.limits-limits.result c.args.job.now
     (option_map (λ l. l.now) c.args.last) c.in_ok-core.core c.in_ok-opening.opening
     c.is_job.ensures c.requires c.are_sound.ensures
-    (subst (λ p. IsOpening c.args.job.now.graph c.limits-limits.result 0 p
+    (subst (λ p. IsOpening c.args.job.now.graph c.limits-limits.result false p
     (option_map (λ l. l.now) c.args.last) c.in_ok-core.core) plan
-    (subst (λ graph. IsOpening graph c.limits-limits.result 0 c.plan-plan.result.now
+    (subst (λ graph. IsOpening graph c.limits-limits.result false c.plan-plan.result.now
     (option_map (λ l. l.now) c.args.last) c.in_ok-core.core) c.graph-2.ensures
     c.in_ok-core.ensures))
-    (subst (λ p. IsOpening c.args.job.now.graph c.limits-limits.result 0 p
+    (subst (λ p. IsOpening c.args.job.now.graph c.limits-limits.result false p
     (option_map (λ l. l.now) c.args.last) c.in_ok-opening.opening) plan
-    (subst (λ graph. IsOpening graph c.limits-limits.result 0 c.plan-plan.result.now
+    (subst (λ graph. IsOpening graph c.limits-limits.result false c.plan-plan.result.now
     (option_map (λ l. l.now) c.args.last) c.in_ok-opening.opening) c.graph.ensures
     c.in_ok-opening.ensures))
