@@ -1,5 +1,5 @@
 -- Which attempts a journal hands out.
-use Rattle.std.specs.Prelude.{ℕ, ◌≢◌, Bool, List, [], ◌∷◌, Option}
+use Rattle.std.specs.Prelude.{◌≢◌, Bool, List, [], ◌∷◌, Option}
 use Rattle.std.specs.List.{AllPairs, flat_map}
 use Rattle.sc_ids.specs.Graphs.{StageData}
 use Rattle.sc_ids.specs.declared.attempts.AttemptId.{AttemptId}

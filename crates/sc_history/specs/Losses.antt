@@ -1,5 +1,5 @@
 -- What an abort for want of executors shows.
-use Rattle.std.specs.Prelude.{ℕ, ◌≡◌, true, Bool, List, Option}
+use Rattle.std.specs.Prelude.{◌≡◌, true, Bool, List, Option}
 use Rattle.sc_ids.specs.Graphs.{StageData}
 use Rattle.sc_ids.specs.declared.limits.Limits.{Limits}
 use Rattle.sc_plan.specs.declared.lines.PlanLine.{PlanLine}

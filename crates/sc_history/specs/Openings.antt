@@ -1,5 +1,5 @@
 -- How a job begins.
-use Rattle.std.specs.Prelude.{ℕ, ◌≡◌, ◌≢◌, Bool, List, All, Option, IfSome, length, true}
+use Rattle.std.specs.Prelude.{◌≡◌, ◌≢◌, Bool, List, All, Option, IfSome, length, true}
 use Rattle.sc_ids.specs.Graphs.{StageData}
 use Rattle.sc_ids.specs.declared.blocks.ShuffleId.{ShuffleId}
 use Rattle.sc_ids.specs.declared.blocks.Target.TheVariants as targets
