@@ -1,5 +1,5 @@
 -- What events come to, as far as journals tell: a report that is heard, one that isn't, or a loss.
-use Rattle.std.proofs.Common.{◌≡◌, ◌⊎◌, inl, inr, ℕ, Bool, true, false, if◌then◌else◌, List, [], ◌∷◌, Option, Some, None, option_map, refl, ap, sym, ◌∙◌}
+use Rattle.std.proofs.Common.{◌≡◌, ◌⊎◌, inl, inr, ℕ, Bool, true, false, if◌then◌else◌, List, [], ◌∷◌, Option, Some, None, option_map, refl, ap, sym, subst, ◌∙◌}
 use Rattle.sc_ids.specs.declared.attempts.AttemptId.{AttemptId}
 use Rattle.sc_taskset.proofs.FindLemmas.{found_is}
 use Rattle.sc_tracker.specs.Trust.{are_lost}
@@ -47,6 +47,11 @@ pub record IsKnown (c : CoreData) (event : Event) (answer : Answer) (r : Running
   pub told : tellings_in c event answer ≡ telling r.hand_out.attempt outcome answer ∷ []
   pub in_set : runner_of c.dag r.hand_out.attempt ≡ Some r.exec
   pub fit : fits c r outcome ≡ true
+  -- it is one of those that run, perhaps not out any more
+  pub ran : Running
+  pub found : running_of c ran.hand_out.attempt ≡ Some ran
+  pub hand : ran.hand_out ≡ r.hand_out
+  pub exec : r.exec ≡ ran.exec
 
 -- a report is told to its attempt
 pub record IsHeard (c after : CoreData) (event : Event) (answer : Answer) : Type 0 where
@@ -77,14 +82,14 @@ quiet c after d answer said dag job handed unheard unfinished told is =
     }
 
 -- an attempt that isn't out any more is the same one
-in_hand : (a : AttemptId) (r : Running) → (as_in a r).hand_out ≡ r.hand_out
+pub in_hand : (a : AttemptId) (r : Running) → (as_in a r).hand_out ≡ r.hand_out
 in_hand a r = by (is_of a r)
   where
     by : (b : Bool) → (if b then record r { is_out = false } else r).hand_out ≡ r.hand_out
     by true = refl
     by false = refl
 
-in_exec : (a : AttemptId) (r : Running) → (as_in a r).exec ≡ r.exec
+pub in_exec : (a : AttemptId) (r : Running) → (as_in a r).exec ≡ r.exec
 in_exec a r = by (is_of a r)
   where
     by : (b : Bool) → (if b then record r { is_out = false } else r).exec ≡ r.exec
@@ -108,6 +113,10 @@ posts_come c after a outcome answer step = by (job_runs c) refl step
           told = ap (λ b. telling b outcome answer ∷ []) (sym (at ∙ p.attempt));
           in_set = ap (λ b. runner_of c.dag b) at ∙ p.well.in_set ∙ ap Some (sym exec);
           fit = same ∙ fit;
+          ran = r;
+          found = subst (λ b. running_of c b ≡ Some r) (sym p.attempt) e;
+          hand = sym hand;
+          exec = exec;
         }
 
     now : (r : Running) → running_of c a ≡ Some r → fits c r outcome ≡ true
@@ -201,6 +210,10 @@ releases_come c after key answer step = by (job_runs c) refl step
                   ∙ ap (λ b. telling b s.outcome answer ∷ []) (sym p.attempt);
               in_set = p.well.in_set;
               fit = (awaits_it c s r well f).fit;
+              ran = r;
+              found = subst (λ b. running_of c b ≡ Some r) (sym p.attempt) f;
+              hand = refl;
+              exec = refl;
             }
 
     of : (o : Option Shelved) → shelved_of c key ≡ o → job_runs c ≡ true

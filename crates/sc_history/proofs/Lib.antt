@@ -20,5 +20,7 @@ pub mod Picking
 pub mod Closing
 pub mod StageLimitLemmas
 pub mod FreshLemmas
+pub mod CauseCases
+pub mod TrackerLemmas
 pub mod ResultCalls
 pub mod ResultLemmas

@@ -41,7 +41,7 @@ left_room c after d h e = subst (λ x. LeavesRoom c.dag x) (sym e) h
 dag_is : (x y : CoreData) → x ≡ y → x.dag ≡ y.dag
 dag_is x y e = ap (λ (z : CoreData). z.dag) e
 
-released_tracker : (c : CoreData) (a : AttemptId) (how : Ending)
+pub released_tracker : (c : CoreData) (a : AttemptId) (how : Ending)
     → (released c a how).dag.tracker ≡ c.dag.tracker
 released_tracker c a how = by (holds a (committer_at c.committers a.partition))
   where
@@ -192,7 +192,7 @@ comes_room c after event answer (inr h) =
     subst (λ (d : DagData). SameRoom d.tracker after.dag.tracker) h.dag
     (tells_room h.mid after h.one h.outcome answer h.tells)
 
-all_tracker : (these : List AttemptId) (c : CoreData)
+pub all_tracker : (these : List AttemptId) (c : CoreData)
     → (all_released these c).dag.tracker ≡ c.dag.tracker
 all_tracker [] c = refl
 all_tracker (a ∷ these) c =

@@ -95,7 +95,7 @@ follows_room successes.Bogus d after s h =
 follows_room successes.Finished d after s h =
     looks_room (is_complete d s) (is_finished_short d s) d after s h
 
-both_tracker : (d : DagData) (a : AttemptId) (now : ℕ)
+pub both_tracker : (d : DagData) (a : AttemptId) (now : ℕ)
     → (succeeded_in_both d a now).tracker ≡ d.tracker
 both_tracker d a now = by (is_of_newest d a)
   where

@@ -3,6 +3,7 @@ pub mod Openings
 pub mod Budgets
 pub mod Losses
 pub mod Tellings
+pub mod Trackers
 pub mod Evidence
 pub mod StageEvidence
 pub mod Fresh

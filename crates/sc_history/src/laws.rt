@@ -10,6 +10,7 @@ ghost use Rattle.sc_history.specs.Results.{ResultsAreOnce};
 ghost use Rattle.sc_history.specs.Rooms.{ReplaysKeepRoom, StepsKeepRoom};
 ghost use Rattle.sc_history.specs.StageEvidence.{StageLimitsAreShown};
 ghost use Rattle.sc_history.specs.Tellings.{ReportsArePosted};
+ghost use Rattle.sc_history.specs.Trackers.{EpochsCount, StepsCountEpochs, StepsTrack};
 
 /// A job begins in one way. A call does nothing.
 pub fn openings_agree()
@@ -48,6 +49,14 @@ pub fn aborts_are_shown()
 /// No attempt is handed out twice. A call does nothing.
 pub fn takes_are_fresh()
     ensures { TakesAreFresh }
+{}
+
+/// What is known of map outputs changes by registrations and by two kinds of events alone, and the
+/// epoch counts these events. A call does nothing.
+pub fn epochs_count()
+    ensures steps { StepsTrack }
+    ensures rises { StepsCountEpochs }
+    ensures journals { EpochsCount }
 {}
 
 /// No partition gets its result twice, and in a job that is done each one of the result stage has

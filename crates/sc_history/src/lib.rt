@@ -10,6 +10,6 @@
 mod laws;
 
 pub use laws::{
-    aborts_are_shown, hand_outs_are_counted, openings_agree, reports_are_posted, results_are_once,
-    room_is_kept, takes_are_fresh,
+    aborts_are_shown, epochs_count, hand_outs_are_counted, openings_agree, reports_are_posted,
+    results_are_once, room_is_kept, takes_are_fresh,
 };
