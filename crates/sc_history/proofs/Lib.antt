@@ -22,5 +22,6 @@ pub mod StageLimitLemmas
 pub mod FreshLemmas
 pub mod CauseCases
 pub mod TrackerLemmas
+pub mod GivenLemmas
 pub mod ResultCalls
 pub mod ResultLemmas

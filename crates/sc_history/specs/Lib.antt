@@ -4,6 +4,7 @@ pub mod Budgets
 pub mod Losses
 pub mod Tellings
 pub mod Trackers
+pub mod Given
 pub mod Evidence
 pub mod StageEvidence
 pub mod Fresh

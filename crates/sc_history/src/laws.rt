@@ -4,6 +4,7 @@
 ghost use Rattle.sc_history.specs.Budgets.{BudgetsAreShown, HandOutsAreCounted, LimitsStay};
 ghost use Rattle.sc_history.specs.Evidence.{TaskLimitsAreShown};
 ghost use Rattle.sc_history.specs.Fresh.{TakesAreFresh};
+ghost use Rattle.sc_history.specs.Given.{HeardAreGiven, RunningAreGiven};
 ghost use Rattle.sc_history.specs.Losses.{NoExecutorsAreShown};
 ghost use Rattle.sc_history.specs.Openings.{OpeningsAgree, OpeningsMakeRoom};
 ghost use Rattle.sc_history.specs.Results.{ResultsAreOnce};
@@ -49,6 +50,13 @@ pub fn aborts_are_shown()
 /// No attempt is handed out twice. A call does nothing.
 pub fn takes_are_fresh()
     ensures { TakesAreFresh }
+{}
+
+/// What runs was handed out to the executor that asked, and so was each attempt of which a report
+/// is heard. A call does nothing.
+pub fn running_are_given()
+    ensures running { RunningAreGiven }
+    ensures heard { HeardAreGiven }
 {}
 
 /// What is known of map outputs changes by registrations and by two kinds of events alone, and the
