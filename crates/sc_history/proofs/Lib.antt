@@ -22,6 +22,7 @@ pub mod StageLimitLemmas
 pub mod FreshLemmas
 pub mod CauseCases
 pub mod TrackerLemmas
+pub mod RulingLemmas
 pub mod GivenLemmas
 pub mod ResultCalls
 pub mod ResultLemmas

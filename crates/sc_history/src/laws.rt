@@ -9,6 +9,7 @@ ghost use Rattle.sc_history.specs.Losses.{NoExecutorsAreShown};
 ghost use Rattle.sc_history.specs.Openings.{OpeningsAgree, OpeningsMakeRoom};
 ghost use Rattle.sc_history.specs.Results.{ResultsAreOnce};
 ghost use Rattle.sc_history.specs.Rooms.{ReplaysKeepRoom, StepsKeepRoom};
+ghost use Rattle.sc_history.specs.Ruling.{BogusStays, EventsForgetAtOne, OthersForgetNone, ReplaysGoForward};
 ghost use Rattle.sc_history.specs.StageEvidence.{StageLimitsAreShown};
 ghost use Rattle.sc_history.specs.Tellings.{ReportsArePosted};
 ghost use Rattle.sc_history.specs.Trackers.{EpochsCount, StepsCountEpochs, StepsTrack};
@@ -65,6 +66,15 @@ pub fn epochs_count()
     ensures steps { StepsTrack }
     ensures rises { StepsCountEpochs }
     ensures journals { EpochsCount }
+{}
+
+/// What is heard of an executor is never taken back: an event that forgets outputs forgets those of
+/// one executor, and rules out for good what was handed out there before. A call does nothing.
+pub fn what_is_heard_stays()
+    ensures forward { ReplaysGoForward }
+    ensures bogus { BogusStays }
+    ensures forgets { EventsForgetAtOne }
+    ensures others { OthersForgetNone }
 {}
 
 /// No partition gets its result twice, and in a job that is done each one of the result stage has
