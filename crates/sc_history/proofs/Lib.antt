@@ -24,5 +24,8 @@ pub mod CauseCases
 pub mod TrackerLemmas
 pub mod RulingLemmas
 pub mod GivenLemmas
+pub mod BirthLemmas
+pub mod LaterLemmas
+pub mod ChargedLemmas
 pub mod ResultCalls
 pub mod ResultLemmas

@@ -5,6 +5,7 @@ pub mod Losses
 pub mod Tellings
 pub mod Trackers
 pub mod Given
+pub mod Charges
 pub mod Ruling
 pub mod Evidence
 pub mod StageEvidence

@@ -2,6 +2,7 @@
 #![tactic(auto)]
 
 ghost use Rattle.sc_history.specs.Budgets.{BudgetsAreShown, HandOutsAreCounted, LimitsStay};
+ghost use Rattle.sc_history.specs.Charges.{FailedAttemptsAreCharged, StepsCharge};
 ghost use Rattle.sc_history.specs.Evidence.{TaskLimitsAreShown};
 ghost use Rattle.sc_history.specs.Fresh.{TakesAreFresh};
 ghost use Rattle.sc_history.specs.Given.{HeardAreGiven, RunningAreGiven};
@@ -75,6 +76,13 @@ pub fn what_is_heard_stays()
     ensures bogus { BogusStays }
     ensures forgets { EventsForgetAtOne }
     ensures others { OthersForgetNone }
+{}
+
+/// Each attempt of a stage that fails is charged to an event of its own, also once it counts no
+/// more. A call does nothing.
+pub fn failures_are_charged()
+    ensures steps { StepsCharge }
+    ensures journals { FailedAttemptsAreCharged }
 {}
 
 /// No partition gets its result twice, and in a job that is done each one of the result stage has
