@@ -80,7 +80,7 @@ impl<V: Drop> BlockCache<V> {
 
     /// Keeps a block, which becomes the most recently used and takes the place of one of its name.
     /// Where the cache was full and lacked the name, the least recently used goes and is answered.
-    /// A refused call changes nothing.
+    /// A refused call changes nothing in the cache, and the block is lost.
     pub fn keep(&mut self, id: CachedId, block: V) -> Result<Option<(CachedId, V)>, AllocError>
         ensures displaced { IfOk result (λ gone. gone ≡ displaced_by self.old id) }
         ensures kept { OnOk result (self.new ≡ with_kept self.old id block) }

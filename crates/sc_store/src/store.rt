@@ -43,7 +43,8 @@ impl<W: Naming> Model for Store<W> {
 }
 
 impl<W: Naming> Store<W> {
-    /// An empty store at generation 0, whose cache takes so many blocks.
+    /// An empty store at generation 0, whose cache takes so many blocks. A refused call lets its
+    /// share of the work go.
     pub fn make(
         alloc: Global,
         work: SharedWork<W>,
@@ -91,7 +92,8 @@ impl<W: Naming> Store<W> {
         let _ = &self.blocks;
     }
 
-    /// Keeps a block, which takes the place of one of its name. A refused call changes nothing.
+    /// Keeps a block, which takes the place of one of its name. A refused call changes nothing in
+    /// the store, and the block is lost.
     pub fn put(&mut self, block: Block<W>) -> Result<PutReceipt, AllocError>
         ensures receipt { IfOk result (λ r. r.generation ≡ self.old.generation) }
         ensures puts { OnOk result (Puts self.old block self.new) }
@@ -171,7 +173,8 @@ impl<W: Naming> Store<W> {
     }
 
     /// Caches a partition, as the most recently used block. Where the cache was full and lacked the
-    /// name, the least recently used goes. A refused call changes nothing.
+    /// name, the least recently used goes. A refused call changes nothing in the store, and the rows
+    /// are lost.
     pub fn keep(&mut self, id: CachedId, rows: Rows) -> Result<(), AllocError>
         requires own { IsOwnPartition W.work id rows }
         ensures kept { OnOk result
