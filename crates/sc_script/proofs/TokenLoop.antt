@@ -3,32 +3,54 @@ use Rattle.std.proofs.Common.{◌≡◌, ◌≢◌, ℕ, ◌<◌, ◌≤◌, max
 use Rattle.std.proofs.lemmas.Bool.{false≢true, eqb-true}
 use Rattle.std.proofs.lemmas.Option.{none-some}
 use Rattle.sc_script.proofs.TokenFronts.{token_at_begun, begun_by_read, BeginsWith-shorter}
-use Rattle.sc_script.proofs.TokenLemmas.{HasTokens-unique, tokens_exist}
+use Rattle.sc_script.proofs.TokenLemmas.{HasTokens-unique, tokens_exist, misplaced}
 use Rattle.sc_script.specs.Lines.{KeepsLimits}
 use Rattle.sc_script.specs.Parsing.{EndsEarly, IsTokensFault, AreTokensOf}
 use Rattle.sc_script.specs.Limits.{depth_limit, line_limit}
-use Rattle.sc_script.specs.Tokens.{TokenData, opening, closing, equals, int_token, text_token, word_token, sign_token, is_blank, HasTokens, at_end, at_no_token, behind_blank, behind_token, depth_of, IsShort, AreShort, IsWithinLimits}
-use Rattle.sc_script.specs.TokenReading.{token_at, without_blanks, begins_with_blank, depth_after, IsShortFront, IsFaultOf, Finds, front_of}
+use Rattle.sc_script.specs.Tokens.{TokenData, opening, closing, equals, int_token, text_token, word_token, sign_token, is_blank, begins_with_blank, stands_behind, BeginsWith, HasTokensBehind, HasTokens, at_end, at_no_token, behind_blank, behind_token, depth_of, IsShort, AreShort, IsWithinLimits}
+use Rattle.sc_script.specs.TokenReading.{token_at, without_blanks, depth_after, IsShortFront, IsFaultOf, Finds, front_of}
 use Rattle.sc_script.specs.declared.tokens.Token.{Token}
 use Rattle.sc_script.specs.declared.faults.FaultKind.{FaultKind}
 use Rattle.sc_script.specs.declared.faults.FaultKind.TheVariants.{NotText, Limit, Syntax, UnknownName, Twice, IllTyped}
 use Rattle.sc_base.specs.declared.refusals.OrMemory.{OrMemory}
 use Rattle.sc_base.specs.declared.refusals.OrMemory.TheVariants.{Fault, OutOfMemory}
 
--- blanks before tokens
-has_behind_blanks : (line rest : List ℕ) (tokens : List TokenData)
-    → HasTokens (without_blanks line) tokens rest → HasTokens line tokens rest
-has_behind_blanks [] rest tokens has = has
-has_behind_blanks (c ∷ cs) rest tokens has = go (is_blank c) refl (has_behind_blanks cs rest tokens)
+-- blanks before tokens, where a blank is before them already
+has_behind_more : (line rest : List ℕ) (tokens : List TokenData)
+    → HasTokensBehind true (without_blanks line) tokens rest → HasTokensBehind true line tokens rest
+has_behind_more [] rest tokens has = has
+has_behind_more (c ∷ cs) rest tokens has = go (is_blank c) refl (has_behind_more cs rest tokens)
   where
     go : (b : Bool) → is_blank c ≡ b
-        → (HasTokens (without_blanks cs) tokens rest → HasTokens cs tokens rest)
-        → HasTokens (c ∷ cs) tokens rest
+        → (HasTokensBehind true (without_blanks cs) tokens rest
+        → HasTokensBehind true cs tokens rest)
+        → HasTokensBehind true (c ∷ cs) tokens rest
     go true blank later =
-        behind_blank c cs rest tokens blank
-        (later (subst (λ b. HasTokens (cond b (without_blanks cs) (c ∷ cs)) tokens rest) blank has))
+        let P : Bool → Type 0 = λ b. HasTokensBehind true (cond b (without_blanks cs) (c ∷ cs))
+        tokens rest in
+        behind_blank true c cs rest tokens blank (later (subst P blank has))
     go false plain later =
-        subst (λ b. HasTokens (cond b (without_blanks cs) (c ∷ cs)) tokens rest) plain has
+        let P : Bool → Type 0 = λ b. HasTokensBehind true (cond b (without_blanks cs) (c ∷ cs))
+        tokens rest in
+        subst P plain has
+
+-- blanks before tokens, where none is before them
+has_behind_blanks : (line rest : List ℕ) (tokens : List TokenData)
+    → HasTokensBehind (begins_with_blank line) (without_blanks line) tokens rest
+    → HasTokensBehind false line tokens rest
+has_behind_blanks [] rest tokens has = has
+has_behind_blanks (c ∷ cs) rest tokens has = go (is_blank c) refl
+  where
+    go : (b : Bool) → is_blank c ≡ b → HasTokensBehind false (c ∷ cs) tokens rest
+    go true blank =
+        let P : Bool → Type 0 =
+        λ b. HasTokensBehind b (cond b (without_blanks cs) (c ∷ cs)) tokens rest in
+        behind_blank false c cs rest tokens blank
+        (has_behind_more cs rest tokens (subst P blank has))
+    go false plain =
+        let P : Bool → Type 0 =
+        λ b. HasTokensBehind b (cond b (without_blanks cs) (c ∷ cs)) tokens rest in
+        subst P plain has
 
 no_blank_left : (line : List ℕ) → begins_with_blank (without_blanks line) ≡ false
 no_blank_left [] = refl
@@ -69,10 +91,12 @@ short_behind : (ts us : List TokenData) → AreShort (ts ++ us) → AreShort us
 short_behind [] us all = all
 short_behind (t ∷ ts) us all = short_behind ts us all.1
 
--- the line up to the bytes that are left is these tokens, which keep the limits and lead so deep
-pub record IsReadTo (line : List ℕ) (tokens : List TokenData) (inside : ℕ) (left : List ℕ) : Type 0
+-- the line up to the bytes that are left is these tokens, which keep the limits and lead so deep;
+-- a blank is right before the bytes that are left, or none
+pub record IsReadTo
+    (line : List ℕ) (tokens : List TokenData) (inside : ℕ) (blank : Bool) (left : List ℕ) : Type 0
   where
-    pub has : (more : List TokenData) (rest : List ℕ) → HasTokens left more rest
+    pub has : (more : List TokenData) (rest : List ℕ) → HasTokensBehind blank left more rest
         → HasTokens line (tokens ++ more) rest
     pub reaches : (more : List TokenData) → depth_of inside more ≤ depth_of 0 (tokens ++ more)
     pub nested : (more : List TokenData) → depth_of inside more ≤ depth_limit
@@ -82,11 +106,13 @@ pub record IsReadTo (line : List ℕ) (tokens : List TokenData) (inside : ℕ) (
     pub bytes : length line ≤ line_limit
     pub starts : begins_with_blank left ≡ false
 
-pub read_nothing_yet : (line left : List ℕ) → left ≡ without_blanks line → length line ≤ line_limit
-    → IsReadTo line [] 0 left
-read_nothing_yet line left is bytes = record {
+pub read_nothing_yet : (line left : List ℕ) (blank : Bool) → left ≡ without_blanks line
+    → blank ≡ begins_with_blank line → length line ≤ line_limit
+    → IsReadTo line [] 0 blank left
+read_nothing_yet line left blank is behind bytes = record {
   has = λ more rest has. has_behind_blanks line rest more
-      (subst (λ l. HasTokens l more rest) is has);
+      (subst (λ b. HasTokensBehind b (without_blanks line) more rest) behind
+      (subst (λ l. HasTokensBehind blank l more rest) is has));
   reaches = λ more. omega arith;
   nested = λ more within. within;
   shallow = omega arith;
@@ -95,19 +121,22 @@ read_nothing_yet line left is bytes = record {
   starts = ap begins_with_blank is ∙ no_blank_left line;
 }
 
-pub read_token : (line : List ℕ) (tokens : List TokenData) (inside : ℕ) (left : List ℕ)
-    (token : TokenData) (after next : List ℕ) (deeper : ℕ) → IsReadTo line tokens inside left
-    → token_at left ≡ Some (token, after)
+pub read_token : (line : List ℕ) (tokens : List TokenData) (inside : ℕ) (blank : Bool)
+    (left : List ℕ) (token : TokenData) (after next : List ℕ) (deeper : ℕ) (behind : Bool)
+    → IsReadTo line tokens inside blank left → token_at left ≡ Some (token, after)
+    → stands_behind blank token ≡ true
     → IsShort token → deeper ≡ depth_after inside token → deeper ≤ depth_limit
-    → next ≡ without_blanks after
-    → IsReadTo line (tokens ++ token ∷ []) deeper next
-read_token line tokens inside left token after next deeper before read short deeper_is within
-    next_is = record {
+    → next ≡ without_blanks after → behind ≡ begins_with_blank after
+    → IsReadTo line (tokens ++ token ∷ []) deeper behind next
+read_token line tokens inside blank left token after next deeper behind before read stands short
+    deeper_is within next_is behind_is = record {
       has = λ more rest has.
           subst (λ ts. HasTokens line ts rest) (sym (append_assoc tokens (token ∷ []) more))
           (before.has (token ∷ more) rest
-          (behind_token left after rest token more (begun_by_read left token after read)
-          (has_behind_blanks after rest more (subst (λ l. HasTokens l more rest) next_is has))));
+          (behind_token blank left after rest token more (begun_by_read left token after read)
+          stands (has_behind_blanks after rest more
+          (subst (λ b. HasTokensBehind b (without_blanks after) more rest) behind_is
+          (subst (λ l. HasTokensBehind behind l more rest) next_is has)))));
       reaches = λ more.
           (let cons = depth_of-cons inside token more in
           let whole = ap (depth_of 0) (append_assoc tokens (token ∷ []) more) in
@@ -127,13 +156,13 @@ read_token line tokens inside left token after next deeper before read short dee
     }
 
 -- at the end the tokens are those of the line
-pub read_all : (line : List ℕ) (tokens : List TokenData) (inside : ℕ) (left : List ℕ)
-    → IsReadTo line tokens inside left
+pub read_all : (line : List ℕ) (tokens : List TokenData) (inside : ℕ) (blank : Bool)
+    (left : List ℕ) → IsReadTo line tokens inside blank left
     → left ≡ [] → HasTokens line tokens [] × IsWithinLimits line tokens
-read_all line tokens inside left before is =
+read_all line tokens inside blank left before is =
     let P : List TokenData → Type 0 = λ ts. HasTokens line ts [] × IsWithinLimits line ts in
     subst P (append-nil tokens) (
-      before.has [] [] (subst (λ l. HasTokens l [] []) (sym is) at_end),
+      before.has [] [] (subst (λ l. HasTokensBehind blank l [] []) (sym is) (at_end blank)),
       record {
         bytes = before.bytes;
         nested = before.nested [] before.shallow;
@@ -142,26 +171,29 @@ read_all line tokens inside left before is =
     )
 
 -- a line with a token next keeps the limits only where its tokens do, that one among them
-kept_tokens : (line : List ℕ) (tokens : List TokenData) (inside : ℕ) (left : List ℕ)
+kept_tokens : (line : List ℕ) (tokens : List TokenData) (inside : ℕ) (blank : Bool) (left : List ℕ)
     (token : TokenData) (after : List ℕ)
-    → IsReadTo line tokens inside left → token_at left ≡ Some (token, after) → KeepsLimits line
+    → IsReadTo line tokens inside blank left → token_at left ≡ Some (token, after)
+    → stands_behind blank token ≡ true → KeepsLimits line
     → (more : List TokenData) × IsWithinLimits line (tokens ++ token ∷ more)
-kept_tokens line tokens inside left token after before read kept =
+kept_tokens line tokens inside blank left token after before read stands kept =
     let later = tokens_exist after in
     let has = before.has (token ∷ later.0) later.1
-    (behind_token left after later.1 token later.0 (begun_by_read left token after read) later.2) in
+    (behind_token blank left after later.1 token later.0 (begun_by_read left token after read)
+    stands later.2) in
     (later.0, subst (IsWithinLimits line) (HasTokens-unique kept.has has).0 kept.within)
 
 pub too_long : (line : List ℕ) → line_limit < length line → KeepsLimits line → ⊥
 too_long line long kept = omega (arith, kept.within.bytes)
 
-pub too_deep : (line : List ℕ) (tokens : List TokenData) (inside : ℕ) (left : List ℕ)
-    (token : TokenData) (after : List ℕ) (deeper : ℕ)
-    → IsReadTo line tokens inside left → token_at left ≡ Some (token, after)
+pub too_deep : (line : List ℕ) (tokens : List TokenData) (inside : ℕ) (blank : Bool)
+    (left : List ℕ) (token : TokenData) (after : List ℕ) (deeper : ℕ)
+    → IsReadTo line tokens inside blank left → token_at left ≡ Some (token, after)
+    → stands_behind blank token ≡ true
     → deeper ≡ depth_after inside token → depth_limit < deeper
     → KeepsLimits line → ⊥
-too_deep line tokens inside left token after deeper before read deeper_is deep kept =
-    let all = kept_tokens line tokens inside left token after before read kept in
+too_deep line tokens inside blank left token after deeper before read stands deeper_is deep kept =
+    let all = kept_tokens line tokens inside blank left token after before read stands kept in
     let cons = depth_of-cons inside token all.0 in
     omega (
       arith,
@@ -173,26 +205,38 @@ too_deep line tokens inside left token after deeper before read deeper_is deep k
           (depth_after inside token) all.0,
     )
 
-not_short : (line : List ℕ) (tokens : List TokenData) (inside : ℕ) (left : List ℕ)
+-- a token that isn't short may stand anywhere
+long_stands : (blank : Bool) (token : TokenData) → (IsShort token → ⊥)
+    → stands_behind blank token ≡ true
+long_stands blank opening long = refl
+long_stands blank closing long = refl
+long_stands blank equals long = absurd (long tt)
+long_stands blank (int_token n) long = refl
+long_stands blank (text_token t) long = refl
+long_stands blank (word_token w) long = refl
+long_stands blank (sign_token s) long = refl
+
+not_short : (line : List ℕ) (tokens : List TokenData) (inside : ℕ) (blank : Bool) (left : List ℕ)
     (token : TokenData) (after : List ℕ)
-    → IsReadTo line tokens inside left → token_at left ≡ Some (token, after) → (IsShort token → ⊥)
-    → KeepsLimits line → ⊥
-not_short line tokens inside left token after before read long kept =
-    let all = kept_tokens line tokens inside left token after before read kept in
+    → IsReadTo line tokens inside blank left → token_at left ≡ Some (token, after)
+    → (IsShort token → ⊥) → KeepsLimits line → ⊥
+not_short line tokens inside blank left token after before read long kept =
+    let stands = long_stands blank token long in
+    let all = kept_tokens line tokens inside blank left token after before read stands kept in
     long (short_behind tokens (token ∷ all.0) all.1.short).0
 
 -- where no token stands the tokens so far are all, and the line is longer
-no_token : (line : List ℕ) (tokens : List TokenData) (inside : ℕ) (left : List ℕ)
-    → IsReadTo line tokens inside left
-    → left ≢ [] → token_at left ≡ None → EndsEarly line
-no_token line tokens inside [] before some none = absurd (some refl)
-no_token line tokens inside (c ∷ cs) before some none = record {
+ends_here : (line : List ℕ) (tokens : List TokenData) (inside : ℕ) (blank : Bool) (left : List ℕ)
+    → IsReadTo line tokens inside blank left → left ≢ []
+    → ((token : TokenData) (after : List ℕ) → BeginsWith left token after
+    → stands_behind blank token ≡ true → ⊥)
+    → EndsEarly line
+ends_here line tokens inside blank [] before some none = absurd (some refl)
+ends_here line tokens inside blank (c ∷ cs) before some none = record {
   tokens = tokens;
   rest = c ∷ cs;
   has = subst (λ ts. HasTokens line ts (c ∷ cs)) (append-nil tokens)
-      (before.has [] (c ∷ cs) (at_no_token c cs before.starts
-      (λ token after begins. none-some (token, after)
-      (sym none ∙ token_at_begun (c ∷ cs) token after begins))));
+      (before.has [] (c ∷ cs) (at_no_token blank c cs before.starts none));
   within = subst (IsWithinLimits line) (append-nil tokens) (record {
     bytes = before.bytes;
     nested = before.nested [] before.shallow;
@@ -201,28 +245,46 @@ no_token line tokens inside (c ∷ cs) before some none = record {
   more = some;
 }
 
--- the fault of a token is that of the line
-pub refused : (line : List ℕ) (tokens : List TokenData) (inside : ℕ) (left : List ℕ)
-    (kind : FaultKind)
-    → IsReadTo line tokens inside left → left ≢ [] → IsFaultOf IsShortFront kind (token_at left)
-    → IsTokensFault line kind
-refused line tokens inside left NotText before some fault = fault
-refused line tokens inside left Limit before some fault =
-    not_short line tokens inside left fault.0.0 fault.0.1 before fault.1 fault.2
-refused line tokens inside left Syntax before some fault =
-    no_token line tokens inside left before some fault
-refused line tokens inside left UnknownName before some fault = fault
-refused line tokens inside left Twice before some fault = fault
-refused line tokens inside left IllTyped before some fault = fault
+no_token : (line : List ℕ) (tokens : List TokenData) (inside : ℕ) (blank : Bool) (left : List ℕ)
+    → IsReadTo line tokens inside blank left
+    → left ≢ [] → token_at left ≡ None → EndsEarly line
+no_token line tokens inside blank left before some none =
+    ends_here line tokens inside blank left before some
+    (λ token after begins stands. none-some (token, after)
+    (sym none ∙ token_at_begun left token after begins))
 
-pub refused_by : (error : OrMemory FaultKind) (line : List ℕ) (tokens : List TokenData) (inside : ℕ)
-    (left : List ℕ)
-    → IsReadTo line tokens inside left → left ≢ []
+-- where the token next may not stand the tokens so far are all, and the line is longer
+pub out_of_place : (line : List ℕ) (tokens : List TokenData) (inside : ℕ) (blank : Bool)
+    (left : List ℕ) (token : TokenData) (after : List ℕ)
+    → IsReadTo line tokens inside blank left → left ≢ [] → token_at left ≡ Some (token, after)
+    → stands_behind blank token ≡ false → EndsEarly line
+out_of_place line tokens inside blank left token after before some read out =
+    ends_here line tokens inside blank left before some
+    (misplaced blank left token after (begun_by_read left token after read) out)
+
+-- the fault of a token is that of the line
+pub refused : (line : List ℕ) (tokens : List TokenData) (inside : ℕ) (blank : Bool)
+    (left : List ℕ) (kind : FaultKind)
+    → IsReadTo line tokens inside blank left → left ≢ []
+    → IsFaultOf IsShortFront kind (token_at left)
+    → IsTokensFault line kind
+refused line tokens inside blank left NotText before some fault = fault
+refused line tokens inside blank left Limit before some fault =
+    not_short line tokens inside blank left fault.0.0 fault.0.1 before fault.1 fault.2
+refused line tokens inside blank left Syntax before some fault =
+    no_token line tokens inside blank left before some fault
+refused line tokens inside blank left UnknownName before some fault = fault
+refused line tokens inside blank left Twice before some fault = fault
+refused line tokens inside blank left IllTyped before some fault = fault
+
+pub refused_by : (error : OrMemory FaultKind) (line : List ℕ) (tokens : List TokenData)
+    (inside : ℕ) (blank : Bool) (left : List ℕ)
+    → IsReadTo line tokens inside blank left → left ≢ []
     → Finds {X = Token × Bor (List ℕ)} front_of IsShortFront (Err error) (token_at left)
     → AreTokensOf line (Err error)
-refused_by (Fault kind) line tokens inside left before some fault =
-    refused line tokens inside left kind before some fault
-refused_by OutOfMemory line tokens inside left before some fault = tt
+refused_by (Fault kind) line tokens inside blank left before some fault =
+    refused line tokens inside blank left kind before some fault
+refused_by OutOfMemory line tokens inside blank left before some fault = tt
 
 -- whether bytes are left
 pub none_left : (left : List ℕ) → eqb (length left) 0 ≡ true → left ≡ []

@@ -9,12 +9,12 @@ use Rattle.std.specs.Str.Parse.{signed_digits_value}
 use Rattle.sc_value.proofs.NumberLemmas.{number_spells}
 use Rattle.sc_script.proofs.TokenSigns.{Decides-is_sign}
 use Rattle.sc_script.proofs.TokenTools.{chosen}
-use Rattle.sc_script.specs.Tokens.{TokenData, equals, int_token, word_token, sign_token, is_blank, is_word_start, is_word_byte, IsWord, SpellsToken, StandsBefore, ends_token, ends_equals}
+use Rattle.sc_script.specs.Tokens.{TokenData, equals, int_token, word_token, sign_token, is_blank, is_word_start, is_word_byte, IsWord, SpellsToken, StandsBefore, ends_token, begins_with_blank}
 use Rattle.sc_script.specs.TokenReading.{is_word, is_sign, is_equals, token_of_piece}
 use Rattle.sc_value.specs.Numbers.{is_number}
 
 -- where `=` may end, a token may
-pub ends_after_equals : (after : List ℕ) → ends_equals after ≡ true → ends_token after ≡ true
+pub ends_after_equals : (after : List ℕ) → begins_with_blank after ≡ true → ends_token after ≡ true
 ends_after_equals [] ends = refl
 ends_after_equals (c ∷ cs) ends = or_left (is_blank c) _ ends
 
@@ -36,7 +36,7 @@ pub piece_is_sign : (spelling after : List ℕ) → is_word spelling ≡ false
 unfolding token_of_piece
 piece_is_sign spelling after word number sign = rw (word, number, sign) refl
 
-pub piece_is_equals : (after : List ℕ) → ends_equals after ≡ true
+pub piece_is_equals : (after : List ℕ) → begins_with_blank after ≡ true
     → token_of_piece (61 ∷ []) after ≡ Some equals
 unfolding token_of_piece
 piece_is_equals after ends = rw ends refl
@@ -62,7 +62,7 @@ word_passes (c ∷ cs) word = and_from (is_word_start c) (list_all is_word_byte 
 equals_spelled : (spelling after : List ℕ) → is_equals spelling after ≡ true
     → IsPieceToken spelling after equals
 equals_spelled spelling after is =
-    let parts = and_parts (bytes_eq spelling (61 ∷ [])) (ends_equals after) is in
+    let parts = and_parts (bytes_eq spelling (61 ∷ [])) (begins_with_blank after) is in
     record { spells = (bytes_decides spelling (61 ∷ [])).0 parts.0; stands = parts.1 }
 
 pub piece_spells : (spelling after : List ℕ) (token : TokenData) → ends_token after ≡ true

@@ -5,7 +5,7 @@ use Rattle.std.specs.List.{list_all, list_any}
 use Rattle.std.specs.Str.{bytes_eq}
 use Rattle.std.specs.Str.Parse.{signed_digits_value}
 use Rattle.sc_value.specs.Numbers.{is_number}
-use Rattle.sc_script.specs.Tokens.{TokenData, opening, closing, equals, int_token, text_token, word_token, sign_token, is_blank, is_word_start, is_word_byte, signs, escaped_byte, ends_token, ends_equals, IsShort}
+use Rattle.sc_script.specs.Tokens.{TokenData, opening, closing, equals, int_token, text_token, word_token, sign_token, is_blank, is_word_start, is_word_byte, signs, escaped_byte, ends_token, begins_with_blank, IsShort}
 use Rattle.sc_script.specs.declared.faults.FaultKind.{FaultKind}
 use Rattle.sc_script.specs.declared.faults.FaultKind.TheVariants.{NotText, Limit, Syntax, UnknownName, Twice, IllTyped}
 use Rattle.std.specs.Borrow.{Bor}
@@ -24,11 +24,6 @@ is_token_end c = is_blank c || ((c == 40) || (c == 41))
 abbrev pub without_blanks : List ℕ → List ℕ
 without_blanks [] = []
 without_blanks (c ∷ cs) = if is_blank c then without_blanks cs else c ∷ cs
-
--- the bytes begin with a blank
-abbrev pub begins_with_blank : List ℕ → Bool
-begins_with_blank [] = false
-begins_with_blank (c ∷ cs) = is_blank c
 
 -- the bytes before the first blank or parenthesis
 abbrev pub piece_of : List ℕ → List ℕ
@@ -49,9 +44,9 @@ is_word (c ∷ cs) = is_word_start c && list_all is_word_byte cs
 abbrev pub is_sign : List ℕ → Bool
 is_sign spelling = list_any (bytes_eq spelling) signs
 
--- whether bytes are `=`, with the line's end or a blank behind them
+-- whether bytes are `=`, with a blank behind them
 abbrev pub is_equals : List ℕ → List ℕ → Bool
-is_equals spelling after = bytes_eq spelling (61 ∷ []) && ends_equals after
+is_equals spelling after = bytes_eq spelling (61 ∷ []) && begins_with_blank after
 
 -- the token that a piece of the line writes before the bytes after it
 unfoldable pub token_of_piece : List ℕ → List ℕ → Option TokenData

@@ -68,16 +68,16 @@ abbrev pub ends_token : List ℕ → Bool
 ends_token [] = true
 ends_token (c ∷ cs) = is_blank c || ((c == 40) || (c == 41))
 
--- `=` may end before these bytes: at the line's end or a blank
-abbrev pub ends_equals : List ℕ → Bool
-ends_equals [] = true
-ends_equals (c ∷ cs) = is_blank c
+-- the bytes begin with a blank
+abbrev pub begins_with_blank : List ℕ → Bool
+begins_with_blank [] = false
+begins_with_blank (c ∷ cs) = is_blank c
 
 -- the token may stand before these bytes
 abbrev pub StandsBefore : TokenData → List ℕ → Type 0
 StandsBefore opening after = Unit {0}
 StandsBefore closing after = Unit {0}
-StandsBefore equals after = IsTrue (ends_equals after)
+StandsBefore equals after = IsTrue (begins_with_blank after)
 StandsBefore (int_token n) after = IsTrue (ends_token after)
 StandsBefore (text_token t) after = IsTrue (ends_token after)
 StandsBefore (word_token w) after = IsTrue (ends_token after)
@@ -90,17 +90,35 @@ pub record BeginsWith (line : List ℕ) (token : TokenData) (after : List ℕ) :
   pub spells : SpellsToken spelling token
   pub stands : StandsBefore token after
 
+-- whether the token may stand here, where a blank is right before it or none: `=` wants one
+abbrev pub stands_behind : Bool → TokenData → Bool
+stands_behind blank opening = true
+stands_behind blank closing = true
+stands_behind blank equals = blank
+stands_behind blank (int_token n) = true
+stands_behind blank (text_token t) = true
+stands_behind blank (word_token w) = true
+stands_behind blank (sign_token s) = true
+
+-- the tokens of bytes from the left as far as they go, and the bytes where none stands, where a
+-- blank is right before the first byte or none
+pub data HasTokensBehind : Bool → List ℕ → List TokenData → List ℕ → Type 0 where
+  at_end : (blank : Bool) → HasTokensBehind blank [] [] []
+  at_no_token : (blank : Bool) (c : ℕ) (cs : List ℕ) → is_blank c ≡ false
+      → ((token : TokenData) (after : List ℕ) → BeginsWith (c ∷ cs) token after
+      → IsTrue (stands_behind blank token) → ⊥)
+      → HasTokensBehind blank (c ∷ cs) [] (c ∷ cs)
+  behind_blank : (blank : Bool) (c : ℕ) (cs rest : List ℕ) (tokens : List TokenData)
+      → is_blank c ≡ true → HasTokensBehind true cs tokens rest
+      → HasTokensBehind blank (c ∷ cs) tokens rest
+  behind_token : (blank : Bool) (line after rest : List ℕ) (token : TokenData)
+      (tokens : List TokenData) → BeginsWith line token after → IsTrue (stands_behind blank token)
+      → HasTokensBehind false after tokens rest
+      → HasTokensBehind blank line (token ∷ tokens) rest
+
 -- the tokens of a line from the left as far as they go, and the bytes where none stands
-pub data HasTokens : List ℕ → List TokenData → List ℕ → Type 0 where
-  at_end : HasTokens [] [] []
-  at_no_token : (c : ℕ) (cs : List ℕ) → is_blank c ≡ false
-      → ((token : TokenData) (after : List ℕ) → BeginsWith (c ∷ cs) token after → ⊥)
-      → HasTokens (c ∷ cs) [] (c ∷ cs)
-  behind_blank : (c : ℕ) (cs rest : List ℕ) (tokens : List TokenData) → is_blank c ≡ true
-      → HasTokens cs tokens rest → HasTokens (c ∷ cs) tokens rest
-  behind_token : (line after rest : List ℕ) (token : TokenData) (tokens : List TokenData)
-      → BeginsWith line token after → HasTokens after tokens rest
-      → HasTokens line (token ∷ tokens) rest
+abbrev pub HasTokens : List ℕ → List TokenData → List ℕ → Type 0
+HasTokens line tokens rest = HasTokensBehind false line tokens rest
 
 -- how deep parentheses are nested in tokens that stand inside so many; a closing one too many
 -- closes nothing

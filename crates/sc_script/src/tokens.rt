@@ -4,7 +4,8 @@
 ghost use Rattle.std.specs.Prelude.{◌≡◌, ◌≤◌, map, not, false};
 ghost use Rattle.std.specs.List.{position_or_len};
 ghost use Rattle.sc_script.specs.Limits.{depth_limit};
-ghost use Rattle.sc_script.specs.Tokens.{ends_token, ends_equals, is_blank, IsShort};
+ghost use Rattle.sc_script.specs.Tokens.{begins_with_blank, ends_token, is_blank, stands_behind};
+ghost use Rattle.sc_script.specs.Tokens.{IsShort};
 ghost use Rattle.sc_script.specs.TokenReading.{Finds, IsShortFront, front_of, depth_after};
 ghost use Rattle.sc_script.specs.TokenReading.{is_token_end, piece_at, text_at, text_token_of};
 ghost use Rattle.sc_script.specs.TokenReading.{token_at, token_of_piece, without_blanks};
@@ -53,13 +54,13 @@ fn ends_token(after: &[u8]) -> bool
     }
 }
 
-/// Whether `=` may end before these bytes: at the line's end or a blank.
-fn ends_equals(after: &[u8]) -> bool
-    ensures { result ≡ ends_equals after.now }
+/// Whether these bytes begin with a blank.
+fn begins_with_blank(bytes: &[u8]) -> bool
+    ensures { result ≡ begins_with_blank bytes.now }
 {
-    match after {
+    match bytes {
         [byte, ..] => is_blank(*byte),
-        [] => true,
+        [] => false,
     }
 }
 
@@ -109,7 +110,7 @@ fn token_of_piece(alloc: Global, piece: &str, after: &str) -> Result<Token, Line
     if is_sign(piece) {
         return Ok(Token::Sign(Text::new(alloc, piece)?));
     }
-    if piece == "=" && ends_equals(after.as_bytes()) {
+    if piece == "=" && begins_with_blank(after.as_bytes()) {
         return Ok(Token::Equals);
     }
     Err(LineError::Fault(FaultKind::Syntax))
@@ -162,6 +163,16 @@ fn token_at(alloc: Global, line: &str) -> Result<(Token, &str), LineError>
     piece_token(alloc, line)
 }
 
+/// Whether a token may stand where a blank is right before it, or where none is.
+fn stands_behind(blank: bool, token: &Token) -> bool
+    ensures { result ≡ stands_behind blank (token_data_of token.now) }
+{
+    match token {
+        Token::Equals => blank,
+        _ => true,
+    }
+}
+
 /// How many parentheses are open behind a token, where so many are open before it. One too many
 /// closes nothing.
 fn depth_after(inside: usize, token: &Token) -> usize
@@ -190,14 +201,19 @@ pub fn tokens_of(alloc: Global, line: &str) -> Result<Vec<Token>, LineError>
     let mut tokens = Vec::new(alloc);
     let mut inside = 0;
     let mut rest = skip_blanks(line);
+    let mut is_behind_blank = begins_with_blank(line.as_bytes());
     while !rest.is_empty() {
         let (token, after) = token_at(alloc, rest)?;
+        if !stands_behind(is_behind_blank, &token) {
+            return Err(LineError::Fault(FaultKind::Syntax));
+        }
         inside = depth_after(inside, &token);
         if inside > DEPTH_LIMIT {
             return Err(LineError::Fault(FaultKind::Limit));
         }
         tokens.push(token)?;
         rest = skip_blanks(after);
+        is_behind_blank = begins_with_blank(after.as_bytes());
     }
     Ok(tokens)
 }

@@ -7,7 +7,8 @@ use Rattle.sc_script.proofs.tokens.tokens_of.Given as goal
 
 abbrev pub invariant-loop-rest : goal.invariant-loop-rest
 invariant-loop-rest l =
-    shadow (Utf8 l.rest) × IsReadTo l.line (map token_data_of l.tokens.items) l.inside l.rest
+    shadow (Utf8 l.rest)
+    × IsReadTo l.line (map token_data_of l.tokens.items) l.inside l.is_behind_blank l.rest
 
 abbrev pub decreases-loop-rest : goal.decreases-loop-rest
 decreases-loop-rest l = length l.rest
