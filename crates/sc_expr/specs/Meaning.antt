@@ -51,11 +51,13 @@ abbrev pub chosen : Outcome → Outcome → Outcome → Outcome
 chosen (Err r) x y = Err r
 chosen (Ok d) x y = if truth_in d then x else y
 
--- what a head gives that doesn't evaluate all its arguments
+-- what a head gives that doesn't evaluate all its arguments, a line for each of them; any other
+-- head gives what it makes of all values
 abbrev pub lazy_outcome : Head → List Outcome → Outcome
 lazy_outcome heads.And os = chosen (outcome_at os 0) (outcome_at os 1) (Ok (truth false))
 lazy_outcome heads.Or os = chosen (outcome_at os 0) (Ok (truth true)) (outcome_at os 1)
-lazy_outcome h os = chosen (outcome_at os 0) (outcome_at os 1) (outcome_at os 2)
+lazy_outcome heads.If os = chosen (outcome_at os 0) (outcome_at os 1) (outcome_at os 2)
+lazy_outcome h os = strict_outcome (head_value h) (all_values os)
 
 -- what a head gives, from the outcomes of all its arguments
 abbrev pub call_outcome : Head → List Outcome → Outcome

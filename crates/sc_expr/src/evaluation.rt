@@ -1,10 +1,10 @@
 //! The value of an expression.
 #![tactic(auto)]
 
-ghost use Rattle.std.specs.Prelude.{◌≡◌, [], ◌∷◌, map};
+ghost use Rattle.std.specs.Prelude.{◌≡◌, true, [], ◌∷◌, map};
 ghost use Rattle.sc_base.specs.Answers.{Answers};
 ghost use Rattle.sc_value.specs.Views.{datum_of};
-ghost use Rattle.sc_expr.specs.Heads.{head_value};
+ghost use Rattle.sc_expr.specs.Heads.{head_value, is_lazy as lazy};
 ghost use Rattle.sc_expr.specs.Meaning.{value_of_expr, outcomes_of, all_values, strict_outcome, lazy_outcome, outcome_at, variable_value};
 ghost use Rattle.sc_expr.specs.ExprData.{exprs_of};
 ghost use Rattle.sc_expr.specs.Views.{argument_of, expr_data_of, env_data_of};
@@ -98,6 +98,7 @@ fn eval_many(alloc: Global, head: Head, args: &Vec<Expr>, env: Env<'_>) -> Resul
 /// The value of a head that doesn't evaluate all its arguments.
 #[cycle(evaluating)]
 fn eval_lazy(alloc: Global, head: Head, args: &Vec<Expr>, env: Env<'_>) -> Result<Value, EvalError>
+    requires { lazy head ≡ true }
     ensures { Answers datum_of (λ r. r) result (lazy_outcome head
         (outcomes_of (env_data_of env.entry) (exprs_of (map expr_data_of args.now.items)))) }
 {
@@ -118,13 +119,14 @@ fn eval_lazy(alloc: Global, head: Head, args: &Vec<Expr>, env: Env<'_>) -> Resul
                 eval_at(alloc, args, 1, env)
             }
         }
-        _ => {
+        Head::If => {
             if holds {
                 eval_at(alloc, args, 1, env)
             } else {
                 eval_at(alloc, args, 2, env)
             }
         }
+        _ => unreachable!(),
     }
 }
 
