@@ -12,7 +12,7 @@ use Rattle.sc_columns.specs.Finding.{IsFound, IsPast}
 use Rattle.sc_columns.specs.declared.columns.Column.{Column}
 use Rattle.sc_columns.specs.declared.gets.Found.{Found}
 use Rattle.sc_columns.specs.declared.gets.Found.TheVariants.{Past, Row}
-use Rattle.sc_columns.proofs.ListLemmas.{length-zip_with, past_end, slice_get-append_first, slice_get-append_second, slice_get-replicate, slice_get-zip_with}
+use Rattle.sc_columns.proofs.ListLemmas.{length-zip_with, past_end, slice_get-append_second}
 
 -- what a call that looked into a column within another one found
 pub row_inside : (x y : Column) (i : ℕ) (found : Found) (value : Value) → x ≡ y

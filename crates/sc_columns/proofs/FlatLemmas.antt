@@ -1,11 +1,11 @@
 -- The items of lists, one list's behind another's.
-use Rattle.std.proofs.Common.{◌≡◌, ◌∙◌, ◌⊎◌, ℕ, zero, suc, ◌+◌, ◌-◌, ◌<◌, ◌≤◌, List, [], ◌∷◌, ◌++◌, Some, length, map, min, take, drop, get_or, refl, ap, ap₂, sym, subst, arith}
-use Rattle.std.proofs.lemmas.List.{append_assoc, append-nil, drop-drop, drop_more, length-drop, take_more}
+use Rattle.std.proofs.Common.{◌≡◌, ◌∙◌, ℕ, zero, suc, ◌+◌, ◌-◌, ◌<◌, ◌≤◌, List, [], ◌∷◌, ◌++◌, length, map, min, take, drop, get_or, refl, ap, ap₂, sym, arith}
+use Rattle.std.proofs.lemmas.List.{append-nil, drop-drop, drop_more, length-drop, take_more}
 use Rattle.std.proofs.lemmas.List.Concat.{flat_map-append}
 use Rattle.std.proofs.lemmas.List.Elements.{All-append, All-cons, All-nil, filter_map-append}
 use Rattle.std.proofs.lemmas.Option.{slice_get-get_or}
 use Rattle.std.specs.List.{All, cons_option, flat_map, range_with_len, slice_get, slice_range}
-use Rattle.sc_value.specs.Datum.{Datum, group, items_of, list_of, pair}
+use Rattle.sc_value.specs.Datum.{Datum, items_of, list_of, pair}
 use Rattle.sc_value.specs.Picked.{ArePlaces, picked}
 use Rattle.sc_value.specs.Words.{range_of}
 use Rattle.sc_value.specs.declared.texts.Span.{Span}

@@ -1,5 +1,5 @@
 -- Rows that come behind others, or don't.
-use Rattle.std.proofs.Common.{◌≡◌, ◌∙◌, ℕ, Bool, true, false, cond, List, ◌++◌, length, map, replicate, ap, ap₂, sym}
+use Rattle.std.proofs.Common.{◌≡◌, ◌∙◌, Bool, true, false, cond, List, ◌++◌, length, ap₂, sym}
 use Rattle.sc_value.specs.Datum.{Datum, pair}
 use Rattle.sc_columns.specs.Columns.{zip_with}
 use Rattle.sc_columns.proofs.ListLemmas.{zip_with-append, zip_with-append_first}

@@ -3,6 +3,7 @@ pub mod ListLemmas
 pub mod RangeLemmas
 pub mod MarkLemmas
 pub mod PlaceLemmas
+pub mod PickLemmas
 pub mod ViewLemmas
 pub mod RunLemmas
 pub mod JoinLemmas

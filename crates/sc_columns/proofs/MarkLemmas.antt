@@ -1,5 +1,5 @@
 -- The marked rows of a column of each form.
-use Rattle.std.proofs.Common.{◌≡◌, ◌∙◌, ℕ, zero, suc, ◌+◌, ◌<◌, Bool, true, false, List, [], ◌∷◌, ◌++◌, length, map, min, take, drop, get_or, refl, ap, sym, arith}
+use Rattle.std.proofs.Common.{◌≡◌, ◌∙◌, ℕ, zero, suc, ◌<◌, Bool, true, false, List, [], ◌∷◌, ◌++◌, length, map, min, take, drop, get_or, refl, ap, arith}
 use Rattle.sc_value.specs.Kept.{kept}
 use Rattle.sc_columns.specs.Columns.{zip_with}
 use Rattle.sc_columns.proofs.ListLemmas.{zip_with-nil}

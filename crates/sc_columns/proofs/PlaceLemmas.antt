@@ -1,10 +1,8 @@
 -- The rows of a column of each form at some places.
-use Rattle.std.proofs.Common.{◌≡◌, ◌∙◌, ℕ, zero, suc, ◌<◌, List, [], ◌∷◌, ◌++◌, Option, Some, None, length, map, drop, get_or, ap, ap₂, refl, sym, arith, replicate}
-use Rattle.std.proofs.lemmas.List.{length-replicate, map_push}
+use Rattle.std.proofs.Common.{◌≡◌, ◌∙◌, ℕ, ◌<◌, List, [], ◌∷◌, Option, Some, length, map, ap, ap₂, refl, subst, sym, arith, replicate}
+use Rattle.std.proofs.lemmas.List.{length-map, length-replicate}
 use Rattle.std.proofs.lemmas.List.Elements.{All-cons, All-head, All-nil, All-tail}
-use Rattle.std.proofs.lemmas.Option.{slice_get_within}
 use Rattle.std.specs.List.{All, cons_option, slice_get}
-use Rattle.sc_value.specs.Datum.{Datum}
 use Rattle.sc_value.specs.Picked.{ArePlaces, picked}
 use Rattle.sc_columns.specs.Columns.{zip_with}
 use Rattle.sc_columns.proofs.ListLemmas.{length-zip_with, slice_get-replicate, slice_get-zip_with, there}
@@ -64,3 +62,8 @@ picked-replicate n x (p ∷ ps) all =
     (picked-replicate n x ps (All-tail (λ i. i < length (replicate n x)) p ps all))
     ∙ ap (λ o. cons_option o (picked (replicate n x) ps))
     (sym (slice_get-replicate n p x (omega (arith, e))))
+
+-- places of what a function gives of items are places of the items
+pub places_before : {X Y : Type 0} (f : X → Y) (xs : List X) (ps : List ℕ) → ArePlaces (map f xs) ps
+    → ArePlaces xs ps
+places_before f xs ps all = subst (λ n. All (λ p. p < n) ps) (length-map xs f) all

@@ -1,6 +1,6 @@
 -- Rows as they are held.
-use Rattle.std.proofs.Common.{◌≡◌, ◌∙◌, ℕ, ◌-◌, ◌≤◌, List, [], ◌∷◌, length, map, take, ap, refl, sym, arith}
-use Rattle.std.proofs.lemmas.List.{length-take-le, take_all, take-map, drop-map}
+use Rattle.std.proofs.Common.{◌≡◌, ◌∙◌, ℕ, ◌-◌, ◌≤◌, List, [], ◌∷◌, length, map, ap, refl, sym, arith}
+use Rattle.std.proofs.lemmas.List.{length-take-le, take_all}
 use Rattle.std.specs.List.{slice_range}
 use Rattle.sc_value.specs.Datum.{Datum, group, items_of, pair, text}
 use Rattle.sc_value.specs.Words.{range_of}

@@ -1,5 +1,5 @@
 -- The items of lists, one list's behind another's.
-use Rattle.std.specs.Prelude.{◌≡◌, ◌-◌, List, [], min, slice_range, ℕ}
+use Rattle.std.specs.Prelude.{◌≡◌, ◌-◌, List, [], min, ℕ}
 use Rattle.std.specs.List.{flat_map, range_with_len}
 use Rattle.sc_value.specs.Datum.{Datum, group, list_of}
 use Rattle.sc_value.specs.Words.{range_of}

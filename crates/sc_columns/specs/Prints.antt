@@ -1,5 +1,5 @@
 -- Printed rows as they are written.
-use Rattle.std.specs.Prelude.{◌≡◌, Bool, List, Option, Result, Some, None, Ok, Err, [], ◌++◌, codes, length, slice_get, suc, take, zero, ℕ}
+use Rattle.std.specs.Prelude.{◌≡◌, List, Option, Result, Some, None, Ok, Err, [], ◌++◌, codes, length, slice_get, suc, take, zero, ℕ}
 use Rattle.std.specs.Str.{IsUtf8}
 use Rattle.sc_value.specs.Datum.{Datum}
 use Rattle.sc_value.specs.Printing.{printed}

@@ -1,11 +1,11 @@
 //! The items of lists, one list's behind another's.
 #![tactic(auto)]
 
-ghost use Rattle.std.specs.Prelude.{◌≡◌, ◌++◌, [], ◌-◌, ◌^◌, IfOk, IfSome, OnOk, map, replicate};
+ghost use Rattle.std.specs.Prelude.{◌≡◌, ◌++◌, [], ◌-◌, IfOk, IfSome, OnOk, length, map, min, replicate};
 ghost use Rattle.std.specs.List.{flat_map, range_with_len};
 ghost use Rattle.sc_value.specs.Views.{datum_of};
 ghost use Rattle.sc_value.specs.Words.{range_of};
-ghost use Rattle.sc_columns.specs.Columns.{shared_rows};
+ghost use Rattle.sc_columns.specs.Columns.{rows_in, shared_rows};
 ghost use Rattle.sc_columns.specs.Flat.{IsExtent, items_in, places_of};
 
 use crate::builder::RowsBuilder;
@@ -61,11 +61,7 @@ fn flat_lists(alloc: Global, spans: &[Span], items: &Shared) -> Result<Shared, A
         Some(all) => part(alloc, items, all.from as usize, all.to as usize),
         None => {
             let items = joined(alloc, items)?;
-            let n = len(&items);
-            if n == usize::MAX {
-                return Err(AllocError);
-            }
-            let places = places_in(alloc, spans, n)?;
+            let places = places_in(alloc, spans, &items)?;
             picked(alloc, &items, &places)
         }
     }
@@ -99,17 +95,24 @@ fn first_place(spans: &[Span]) -> Span
     }
 }
 
-/// The places of the items at each range, of so many items.
-fn places_in(alloc: Global, spans: &[Span], n: usize) -> Result<Vec<u32>, AllocError>
-    ensures { IfOk result (λ v. v.items ≡ flat_map (places_of n) spans.now) }
+/// The places of the items at each range, as far as there are items.
+fn places_in(alloc: Global, spans: &[Span], items: &Column) -> Result<Vec<u32>, AllocError>
+    ensures { IfOk result
+        (λ v. v.items ≡ flat_map (places_of (length (rows_in items.now))) spans.now) }
 {
     let mut out = Vec::new(alloc);
     for i in 0..spans.len() {
         let span = spans[i];
-        let end = n.min(span.to as usize);
-        push_range(span.from, end as u32, &mut out)?;
+        push_range(span.from, end_in(items, span.to), &mut out)?;
     }
     Ok(out)
+}
+
+/// Where a range ends, as far as there are items.
+fn end_in(items: &Column, to: u32) -> u32
+    ensures { result ≡ min (length (rows_in items.now)) to }
+{
+    len(items).min(to as usize) as u32
 }
 
 /// Adds the numbers from one up to, not including, another.

@@ -13,11 +13,12 @@ use sc_value::{Held, Value, picked_items};
 use std::alloc::{AllocError, Global};
 use std::sync::Arc;
 
-/// The rows at some places. A refusal also comes where a place has none. Of a chain each row is
-/// looked up by itself: join its runs first.
+/// The rows at some places, of which each has one. Of a chain each row is looked up by itself: join
+/// its runs first.
 pub fn picked(alloc: Global, column: &Column, places: &[u32]) -> Result<Shared, AllocError>
-    ensures { IfOk result (λ c. ArePlaces (rows_in column.now) places.now
-        → rows_in (arc_value c) ≡ items_picked (rows_in column.now) places.now) }
+    requires { ArePlaces (rows_in column.now) places.now }
+    ensures { IfOk result
+        (λ c. rows_in (arc_value c) ≡ items_picked (rows_in column.now) places.now) }
 {
     match column {
         Column::Ints(v) => ints(alloc, held_picked(alloc, v, places)?),
@@ -45,14 +46,16 @@ fn held_picked<T: Copy + Drop>(
     held: &Held<T>,
     places: &[u32],
 ) -> Result<Held<T>, AllocError>
+    requires { ArePlaces held.now places.now }
     ensures { IfOk result (λ h. h ≡ items_picked held.now places.now) }
 {
     let items = picked_items(alloc, held.as_slice(), places)?;
     Held::new(alloc, items)
 }
 
-/// Copies of the rows at some places. A refusal also comes where a place has none.
+/// Copies of the rows at some places, of which each has one.
 fn picked_values(alloc: Global, column: &Column, places: &[u32]) -> Result<Vec<Value>, AllocError>
+    requires { ArePlaces (rows_in column.now) places.now }
     ensures { IfOk result
         (λ v. map datum_of v.items ≡ items_picked (rows_in column.now) places.now) }
 {
@@ -60,7 +63,7 @@ fn picked_values(alloc: Global, column: &Column, places: &[u32]) -> Result<Vec<V
     for i in 0..places.len() {
         match find(alloc, column, places[i] as usize)? {
             Found::Row(value) => out.push(value)?,
-            Found::Past(_) => return Err(AllocError),
+            Found::Past(_) => unreachable!(),
         }
     }
     Ok(out)

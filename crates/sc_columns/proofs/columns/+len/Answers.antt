@@ -1,4 +1,4 @@
-use Rattle.std.proofs.Common.{◌≡◌, ◌∙◌, ap, length, arith, replicate}
+use Rattle.std.proofs.Common.{◌∙◌, ap, length, arith}
 use Rattle.std.proofs.lemmas.List.{length-map, length-append}
 use Rattle.sc_value.specs.Datum.{pair}
 use Rattle.sc_value.specs.Views.{datum_of}

@@ -1,4 +1,4 @@
-use Rattle.std.proofs.Common.{◌∙◌, ◌++◌, ap, arith, drop, length, map, sym, take, replicate}
+use Rattle.std.proofs.Common.{◌∙◌, ◌++◌, ap, arith, length, map, sym, take, replicate}
 use Rattle.std.proofs.lemmas.Result.{IfOk-weaker}
 use Rattle.sc_value.specs.Datum.{number, truth, text, pair}
 use Rattle.sc_value.specs.Kept.{kept}

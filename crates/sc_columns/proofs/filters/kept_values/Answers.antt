@@ -1,4 +1,4 @@
-use Rattle.std.proofs.Common.{◌≡◌, ◌∙◌, ap, sym, length, map, ◌<◌, arith}
+use Rattle.std.proofs.Common.{◌∙◌, ap, length, map, ◌<◌, arith}
 use Rattle.std.proofs.lemmas.List.{length-map, map_push}
 use Rattle.sc_value.specs.Views.{datum_of}
 use Rattle.sc_value.proofs.KeptLemmas.{kept_yes, kept_no, kept_all}

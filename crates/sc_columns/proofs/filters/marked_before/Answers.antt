@@ -1,4 +1,4 @@
-use Rattle.std.proofs.Common.{◌≡◌, ◌∙◌, ◌+◌, ap, sym, length, ◌<◌, arith, replicate}
+use Rattle.std.proofs.Common.{◌∙◌, ap, sym, length, ◌<◌, arith, replicate}
 use Rattle.sc_value.proofs.KeptLemmas.{kept_yes, kept_no, kept_all}
 use Rattle.std.proofs.lemmas.List.{get_or-replicate, length-replicate, replicate_more}
 use Rattle.sc_columns.proofs.filters.marked_before.Goals as goal

@@ -1,8 +1,8 @@
-use Rattle.std.proofs.Common.{◌≡◌, ◌∙◌, ◌++◌, [], ap, ap₂, map, refl, sym}
+use Rattle.std.proofs.Common.{◌∙◌, ◌++◌, ap, ap₂, refl, sym}
 use Rattle.std.proofs.lemmas.List.Concat.{flat_map-append}
 use Rattle.std.proofs.lemmas.Result.{IfOk-weaker}
 use Rattle.std.specs.List.{flat_map}
-use Rattle.sc_value.specs.Datum.{Datum, number, text, truth}
+use Rattle.sc_value.specs.Datum.{number, text, truth}
 use Rattle.sc_value.specs.Words.{range_of}
 use Rattle.sc_columns.specs.Columns.{rows_in, shared_rows}
 use Rattle.sc_columns.specs.Flat.{items_in}

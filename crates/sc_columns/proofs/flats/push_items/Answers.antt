@@ -1,4 +1,4 @@
-use Rattle.std.proofs.Common.{◌≡◌, ◌∙◌, ◌++◌, ap, map, sym}
+use Rattle.std.proofs.Common.{◌∙◌, ◌++◌, ap, map, sym}
 use Rattle.sc_value.proofs.ViewLemmas.{datum_of-List}
 use Rattle.sc_value.specs.Views.{datum_of}
 use Rattle.sc_columns.specs.Flat.{items_in}

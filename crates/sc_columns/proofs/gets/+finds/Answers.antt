@@ -1,13 +1,12 @@
-use Rattle.std.proofs.Common.{◌≡◌, ◌∙◌, ◌-◌, ◌+◌, ◌^◌, min, length, ap, sym, subst, Some, List, arith, slice_get, slice_range, map, refl, take, drop, replicate}
-use Rattle.std.specs.Option.{option_map}
+use Rattle.std.proofs.Common.{◌∙◌, ◌-◌, ◌+◌, ◌^◌, min, length, ap, sym, subst, Some, List, arith, slice_get, slice_range, refl}
 use Rattle.sc_value.specs.Datum.{Datum, pair, group, items_of}
 use Rattle.sc_value.specs.Views.{datum_of}
 use Rattle.sc_value.proofs.ViewLemmas.{datum_of-List}
-use Rattle.sc_columns.specs.Columns.{rows_in, group_at, zip_with}
+use Rattle.sc_columns.specs.Columns.{rows_in, group_at}
 use Rattle.sc_columns.specs.Finding.{IsPast}
 use Rattle.sc_columns.proofs.FindingLemmas.{found-behind, found-map, past-both, past-first, past-map, past-replicate, past-second, past_inside, row_inside}
 use Rattle.sc_columns.proofs.ListLemmas.{slice_get-append_first, slice_get-replicate, slice_get-zip_with}
-use Rattle.sc_columns.proofs.RangeLemmas.{range_more, range_end}
+use Rattle.sc_columns.proofs.RangeLemmas.{range_more}
 use Rattle.sc_columns.proofs.VariantLemmas.{at-Pairs, at-Chain, at-Lists, at-Same}
 use Rattle.sc_columns.proofs.gets.+finds.Goals as goal
 

@@ -1,11 +1,11 @@
-use Rattle.std.proofs.Common.{rules, ◌≡◌, ◌∙◌, ◌++◌, [], ap, map, refl, replicate, sym}
+use Rattle.std.proofs.Common.{rules, ◌∙◌, ◌++◌, ap, map, refl, replicate, sym}
 use Rattle.std.proofs.lemmas.Int.{to_z-of_z}
 use mir.Syntax.{w64}
 use mir.Val.{SFits, of_z, to_z}
 use Rattle.sc_value.specs.Datum.{number, pair, text, truth}
 use Rattle.sc_value.specs.Views.{datum_of}
 use Rattle.sc_value.proofs.ViewLemmas.{datum_of-Pair}
-use Rattle.sc_columns.specs.Columns.{rows_in, zip_with}
+use Rattle.sc_columns.specs.Columns.{zip_with}
 use Rattle.sc_columns.specs.Runs.{run_rows}
 use Rattle.sc_columns.proofs.ListLemmas.{map-replicate, zip_with-replicate}
 use Rattle.sc_columns.proofs.RunLemmas.{run-Bools, run-Ints, run-Pairs, run-Texts}

@@ -1,6 +1,6 @@
-use Rattle.std.proofs.Common.{◌≡◌, ◌∙◌, ◌++◌, ap, cond, false, length, refl, sym}
+use Rattle.std.proofs.Common.{◌∙◌, ◌++◌, ap, cond, false, length, refl, sym}
 use Rattle.std.specs.Arc.{arc_value}
-use Rattle.sc_value.specs.Datum.{Datum, pair}
+use Rattle.sc_value.specs.Datum.{pair}
 use Rattle.sc_columns.specs.Columns.{rows_in, zip_with}
 use Rattle.sc_columns.specs.Runs.{is_yes, run_rows}
 use Rattle.sc_columns.proofs.JoinLemmas.{pairs_extended}

@@ -2,8 +2,8 @@ use Rattle.std.proofs.Common.{◌∙◌, ◌++◌, ap, arith, map, min, length, 
 use Rattle.std.proofs.lemmas.Result.{IfOk-weaker}
 use Rattle.sc_value.specs.Datum.{number, truth, text, pair}
 use Rattle.sc_value.specs.Views.{datum_of}
-use Rattle.sc_columns.specs.Columns.{group_at, rows_in, zip_with}
-use Rattle.sc_columns.proofs.RangeLemmas.{part-both, part-first, part-map, part-replicate, part-second, part-zip_with}
+use Rattle.sc_columns.specs.Columns.{group_at, rows_in}
+use Rattle.sc_columns.proofs.RangeLemmas.{part-both, part-map, part-replicate, part-second, part-zip_with}
 use Rattle.sc_columns.proofs.VariantLemmas.{at-Bools, at-Chain, at-Ints, at-Lists, at-Pairs, at-Same, at-Texts, at-Values}
 use Rattle.sc_columns.proofs.parts.+part.Goals as goal
 

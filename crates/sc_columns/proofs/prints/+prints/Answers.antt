@@ -1,16 +1,16 @@
-use Rattle.std.proofs.Common.{◌≡◌, ◌∙◌, ◌++◌, ◌+◌, ◌-◌, ◌<◌, ◌≤◌, append-nil, append_assoc, ap, arith, codes, drop, length, List, map, min, subst, sym, take, ℕ}
+use Rattle.std.proofs.Common.{◌≡◌, ◌∙◌, ◌-◌, ◌<◌, append-nil, ap, arith, drop, length, List, subst, sym, take, ℕ}
 use Rattle.std.proofs.lemmas.List.{length-drop, length-replicate}
 use Rattle.std.proofs.lemmas.Str.{IsUtf8-nil}
 use Rattle.std.specs.List.{slice_get, slice_range}
 use Rattle.sc_value.specs.Datum.{items_of, pair}
 use Rattle.sc_value.specs.Printing.{printed, printed_items}
 use Rattle.sc_value.specs.Views.{datum_of}
-use Rattle.sc_value.proofs.PrintingLemmas.{kept_behind, kept_more, utf8_list, utf8_pair}
-use Rattle.sc_columns.specs.Columns.{group_at, rows_in, zip_with}
+use Rattle.sc_value.proofs.PrintingLemmas.{kept_behind, kept_more}
+use Rattle.sc_columns.specs.Columns.{group_at, rows_in}
 use Rattle.sc_columns.specs.declared.columns.Column.{Column}
-use Rattle.sc_columns.specs.Prints.{IsWritten, Writes, printed_at, separator}
+use Rattle.sc_columns.specs.Prints.{IsWritten, printed_at}
 use Rattle.sc_columns.proofs.ListLemmas.{length-zip_with, there}
-use Rattle.sc_columns.proofs.PrintLemmas.{items_written, list_written, pair_written, printed-copies, printed-list, printed-missing, printed-pair, refused, writes-text, written-there, wrote_last}
+use Rattle.sc_columns.proofs.PrintLemmas.{items_written, list_written, pair_written, printed-copies, printed-list, printed-missing, printed-pair, refused, writes-text, written-there}
 use Rattle.sc_columns.proofs.RangeLemmas.{take_same}
 use Rattle.sc_columns.proofs.VariantLemmas.{at-Lists, at-Pairs, at-Same}
 use Rattle.sc_columns.proofs.prints.+prints.Goals as goal

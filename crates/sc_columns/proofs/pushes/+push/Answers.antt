@@ -1,6 +1,6 @@
-use Rattle.std.proofs.Common.{◌≡◌, ◌∙◌, ◌++◌, [], ◌∷◌, ap, cond, length, map, refl, sym}
+use Rattle.std.proofs.Common.{◌∙◌, ◌++◌, [], ◌∷◌, ap, cond, length, map, refl, sym}
 use Rattle.std.proofs.lemmas.List.{map_push}
-use Rattle.sc_value.specs.Datum.{Datum, pair}
+use Rattle.sc_value.specs.Datum.{pair}
 use Rattle.sc_value.specs.Views.{datum_of}
 use Rattle.sc_value.proofs.ViewLemmas.{datum_of-Pair}
 use Rattle.sc_columns.specs.Columns.{zip_with}

@@ -1,4 +1,4 @@
-use Rattle.std.proofs.Common.{◌≡◌, ◌∙◌, ◌++◌, ap, cond, false, length, refl, slice_range, sym}
+use Rattle.std.proofs.Common.{◌∙◌, ◌++◌, ap, cond, false, length, refl, slice_range, sym}
 use Rattle.sc_value.specs.Datum.{pair}
 use Rattle.sc_columns.specs.Columns.{rows_in, zip_with}
 use Rattle.sc_columns.specs.Runs.{is_yes, run_rows}
