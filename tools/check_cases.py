@@ -16,7 +16,10 @@ lines at the end of a case belong to nothing. Lines with '#' above parts and in 
 
 '-- NAME = LITERALS' gives the exact bytes of a file or an output. A literal, as words and names may
 be, is "text", or "text"*N for N times that text; several are put together. Escapes are \n \r \t \0
-\" \\, a byte \xFF, a character \u{A0}, and in what is repeated \# for its number, \+ for the next.
+\" \\, a byte \xFF, a character \u{A0}, and in what is repeated \# for its number, from 0 on, \+ for
+the next, and \(A,B) for A times the number and B more. So a file of any size stands on one line:
+'-- in.txt = "\+\n"*20001' has the lines 1 to 20001, '-- plan.txt = "drop 0 \(7,2)\n"*3' wipes
+behind the reports 2, 9 and 16.
 
 In the parts {NAME} stands for the cell of a row, and the last cell takes the rest of the row. Where
 its column is called NAME.. it has lines: each ' | ' in it ends one, an empty cell has none, and
@@ -32,6 +35,7 @@ import argparse
 import concurrent.futures
 import dataclasses
 import difflib
+import functools
 import itertools
 import os
 import pathlib
@@ -43,7 +47,8 @@ from collections.abc import Iterator
 
 LITERAL = re.compile(rb'"((?:[^"\\]|\\.)*)"(?:\*(\d+))?')
 LITERALS = re.compile(rb'(?:"(?:[^"\\]|\\.)*"(?:\*\d+)? *)+')
-ESCAPE = re.compile(rb"\\(x([0-9a-fA-F]{2})|u\{([0-9a-fA-F]+)\}|.)", re.DOTALL)
+ESCAPE = re.compile(rb"\\(x([0-9a-fA-F]{2})|u\{([0-9a-fA-F]+)\}|\((\d+),(\d+)\)|.)", re.DOTALL)
+NUMBERED = re.compile(rb"\\[#+(]")
 ESCAPED = {b"n": b"\n", b"r": b"\r", b"t": b"\t", b"0": b"\0", b'"': b'"', b"\\": b"\\"}
 CLAIM = re.compile(rb"== (\w+)")
 SETTING = re.compile(rb"-- (status|words|more words|rows)(?: (.*))?")
@@ -90,7 +95,15 @@ def meant(literals: bytes) -> bytes:
     if not LITERALS.fullmatch(literals):
         raise Malformed(f"?: no literals: {literals!r}")
     found = [(text, int(count or 1)) for text, count in LITERAL.findall(literals)]
-    return b"".join(unescaped(text, number) for text, count in found for number in range(count))
+    return b"".join(repeated(text, count) for text, count in found)
+
+
+@functools.cache
+def repeated(text: bytes, count: int) -> bytes:
+    """The text of a literal so many times."""
+    if NUMBERED.search(text):
+        return b"".join(unescaped(text, number) for number in range(count))
+    return unescaped(text, 0) * count
 
 
 def unescaped(text: bytes, number: int) -> bytes:
@@ -98,7 +111,9 @@ def unescaped(text: bytes, number: int) -> bytes:
     known = {**ESCAPED, b"#": b"%d" % number, b"+": b"%d" % (number + 1)}
 
     def meaning(escape: re.Match[bytes]) -> bytes:
-        code, byte, character = escape.groups()
+        code, byte, character, step, first = escape.groups()
+        if step:
+            return b"%d" % (int(step) * number + int(first))
         if byte or character:
             return bytes([int(byte, 16)]) if byte else chr(int(character, 16)).encode()
         if code not in known:
