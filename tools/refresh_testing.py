@@ -1,15 +1,17 @@
 #!/usr/bin/env python3
-"""Brings the lists of docs/TESTING.md up to date: cases, tests, and edits that must fail.
+"""Brings the lists of docs/TESTING.md up to date: cases, tests, edits that must fail, give-ups.
 
     tools/refresh_testing.py [--check]
 
 The claims of cases/*.txt are listed by file and the tests of sc_rows by module, each with what the
 file or the module says that it is about. An edit is a file crates/NAME/must-fail/DEED.edit, or
 edits/NAME/DEED.edit where it is tried by hand. Its row names the function whose body it changes and
-the clauses of that function, which the changed body can't keep.
+the clauses of that function, which the changed body can't keep. The bodies that give up too early
+are those of edits/give_ups.txt.
 
-Prints a line for an edit whose old text doesn't stand in its file exactly once, and for a crate
-with more than EDITS of them, and ends with 1 where it printed one. With --check it writes nothing,
+Prints a line for an edit whose old text doesn't stand in its file exactly once, for a crate with
+more than EDITS of them, and for what tools/try_give_ups.py finds, and ends with 1 where it printed
+one. With --check it writes nothing,
 and tells whether the page would change.
 """
 import argparse
@@ -19,6 +21,7 @@ import sys
 import textwrap
 from collections.abc import Iterator
 
+import try_give_ups
 from crate_files import Crates, between
 
 PAGE = "docs/TESTING.md"
@@ -139,6 +142,8 @@ def refreshed(crates: Crates, page: str, faults: list[str]) -> str:
     """The page as it should be."""
     page = between(page, "cases", case_lists(crates))
     page = between(page, "tests", test_lists(crates))
+    faults += try_give_ups.faults(crates.root)
+    page = between(page, "give-ups", list(try_give_ups.table(crates.root)))
     return between(page, "edits", edit_tables(crates, faults))
 
 
