@@ -29,3 +29,4 @@ pub mod LaterLemmas
 pub mod ChargedLemmas
 pub mod ResultCalls
 pub mod ResultLemmas
+pub mod ToldLosses

@@ -6,7 +6,7 @@ ghost use Rattle.sc_history.specs.Charges.{FailedAttemptsAreCharged, StepsCharge
 ghost use Rattle.sc_history.specs.Evidence.{TaskLimitsAreShown};
 ghost use Rattle.sc_history.specs.Fresh.{TakesAreFresh};
 ghost use Rattle.sc_history.specs.Given.{HeardAreGiven, RunningAreGiven};
-ghost use Rattle.sc_history.specs.Losses.{NoExecutorsAreShown};
+ghost use Rattle.sc_history.specs.Losses.{LossesAreShown, NoExecutorsAreShown};
 ghost use Rattle.sc_history.specs.Openings.{OpeningsAgree, OpeningsMakeRoom};
 ghost use Rattle.sc_history.specs.Results.{ResultsAreOnce};
 ghost use Rattle.sc_history.specs.Rooms.{ReplaysKeepRoom, StepsKeepRoom};
@@ -47,6 +47,12 @@ pub fn aborts_are_shown()
     ensures task_limit { TaskLimitsAreShown }
     ensures stage_limit { StageLimitsAreShown }
     ensures no_executor { NoExecutorsAreShown }
+{}
+
+/// An executor that is lost in the end was lost where the job began, or an entry tells it. A call
+/// does nothing.
+pub fn losses_are_shown()
+    ensures { LossesAreShown }
 {}
 
 /// No attempt is handed out twice. A call does nothing.
