@@ -1,6 +1,6 @@
 -- What a node reads: the nodes that it depends on, and for each of its partitions the partitions of
 -- those. A further operation is a line in `dependencies_of`, or a further kind of dependency.
-use Rattle.std.specs.Prelude.{ℕ, ◌+◌, ◌-◌, ◌&&◌, nat_le, nat_lt, List, [], ◌∷◌, map, min, if◌then◌else◌}
+use Rattle.std.specs.Prelude.{ℕ, ◌+◌, ◌-◌, ◌&&◌, nat_le, nat_lt, List, [], ◌∷◌, map, min, option_map, slice_get, unwrap_or, if◌then◌else◌}
 use Rattle.std.specs.List.{flat_map, sum}
 use Rattle.sc_base.specs.Lists.{at_or, numbers_from}
 use Rattle.sc_input.specs.Slices.{slice_start}
@@ -57,6 +57,10 @@ dependencies_by known node = map (unless_parted known) (dependencies_of node)
 -- the nodes that a node reads, in order
 abbrev pub parents_of : NodeData → List ℕ
 parents_of node = map parent_of (dependencies_of node)
+
+-- the nodes that the node of a number reads; none, where no node has the number
+abbrev pub parents_at : List NodeData → ℕ → List ℕ
+parents_at nodes k = unwrap_or (option_map parents_of (slice_get nodes k)) []
 
 -- a partition of a node
 pub record PlaceData : Type 0 where

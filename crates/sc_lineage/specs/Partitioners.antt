@@ -47,6 +47,10 @@ partitioner_step before (meet_node kind left right n) = hash_partitioner n
 abbrev pub partitioners_of : List NodeData → List PartitionerData
 partitioners_of = by_nodes partitioner_step
 
+-- the partitioner of the node of a number; none, where no node has the number
+abbrev pub partitioner_at : List NodeData → ℕ → PartitionerData
+partitioner_at nodes k = at_or (partitioners_of nodes) k no_partitioner
+
 -- rows that lie by the second already lie as the first asks: both are by the hash, with the same
 -- number of buckets
 abbrev pub is_parted_by : PartitionerData → PartitionerData → Bool

@@ -3,7 +3,7 @@
 
 ghost use Rattle.std.specs.Prelude.{◌≡◌, ◌<◌, ◌≤◌, [], ◌∷◌, IfOk, map};
 ghost use Rattle.sc_base.specs.Lists.{at_or};
-ghost use Rattle.sc_lineage.specs.Dependencies.{IsNarrow, place, places_from, reads_of};
+ghost use Rattle.sc_lineage.specs.Dependencies.{IsNarrow, parents_of, place, places_from, reads_of};
 ghost use Rattle.sc_lineage.specs.ScriptData.{count_step};
 ghost use Rattle.sc_lineage.specs.Views.{node_data_of, place_data_of};
 
@@ -49,6 +49,39 @@ pub fn reads(alloc: Global, node: &Node, counts: &[u32], p: u32) -> Result<Vec<P
         }
         Node::Shuffle { .. } | Node::Meet { .. } => unreachable!(),
     }
+}
+
+/// The nodes that a node reads, in order.
+pub(crate) fn parents(alloc: Global, node: &Node) -> Result<Vec<NodeId>, AllocError>
+    ensures { IfOk result (λ v. v.items ≡ parents_of (node_data_of node.now)) }
+{
+    match node {
+        Node::Text { .. } | Node::Parallelize { .. } => Ok(Vec::new(alloc)),
+        Node::Each { parent, .. } | Node::Coalesce { parent, .. } => one_parent(alloc, *parent),
+        Node::Cache { parent } | Node::Shuffle { parent, .. } => one_parent(alloc, *parent),
+        Node::Union { left, right } | Node::Meet { left, right, .. } => {
+            two_parents(alloc, *left, *right)
+        }
+    }
+}
+
+/// One node.
+fn one_parent(alloc: Global, parent: NodeId) -> Result<Vec<NodeId>, AllocError>
+    ensures { IfOk result (λ v. v.items ≡ parent ∷ []) }
+{
+    let mut parents = Vec::with_capacity(alloc, 1)?;
+    parents.push(parent)?;
+    Ok(parents)
+}
+
+/// Two nodes.
+fn two_parents(alloc: Global, left: NodeId, right: NodeId) -> Result<Vec<NodeId>, AllocError>
+    ensures { IfOk result (λ v. v.items ≡ left ∷ right ∷ []) }
+{
+    let mut parents = Vec::with_capacity(alloc, 2)?;
+    parents.push(left)?;
+    parents.push(right)?;
+    Ok(parents)
 }
 
 /// The number of partitions of a node, where `counts` has it; else none.

@@ -2,8 +2,9 @@
 //!
 //! A [`Script`] is a list of [`Node`]s, each of which reads only nodes before it, and of
 //! [`Action`]s. A [`Work`] is a script with the inputs that it names; by its type each of them is
-//! there and is text. What a node depends on is data (`specs/Dependencies.antt`), and
-//! [`Work::places_read`] gives the partitions that a partition reads, each of an earlier node.
+//! there and is text. What a node depends on is data (`specs/Dependencies.antt`): [`Work::parents`]
+//! gives the nodes that it reads, [`reads`] the partitions that a partition of it reads where it is
+//! narrow, each of an earlier node, and [`Work::partitioner`] by which rule its rows lie.
 //! `specs/Meaning.antt` gives the sequential meaning: the [`Stream`] of each partition by one fold
 //! over the list of nodes, where `narrow_stream` of `specs/Narrow.antt` says what a node makes of
 //! the streams that it reads. `specs/Actions.antt` says what an action gives, `specs/RowTypes.antt`

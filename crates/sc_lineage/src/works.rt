@@ -1,19 +1,26 @@
 //! A script with its inputs, and under what it is run.
 #![tactic(auto)]
 
-ghost use Rattle.std.specs.Prelude.{◌≡◌, map};
+ghost use Rattle.std.specs.Prelude.{◌≡◌, IfOk, map};
 ghost use Rattle.std.specs.Option.{option_map};
 ghost use Rattle.sc_base.specs.Lists.{content_of};
 ghost use Rattle.sc_value.specs.Lines.{text_lines};
 ghost use Rattle.sc_ids.specs.LimitRanges.{AreLimits};
+ghost use Rattle.sc_lineage.specs.Dependencies.{parents_at};
+ghost use Rattle.sc_lineage.specs.Partitioners.{partitioner_at};
+ghost use Rattle.sc_lineage.specs.Views.{partitioner_data_of};
 ghost use Rattle.sc_lineage.specs.ScriptData.{name_of_input, input_names, work_data, AreTexts, IsSoundWork};
 ghost use Rattle.sc_plan.specs.PlanLines.{AreBelow};
 
+use crate::dependencies::parents;
 use crate::inputs::Input;
+use crate::nodes::NodeId;
+use crate::partitioners::{Partitioner, known_at};
 use crate::scripts::Script;
 use sc_ids::Limits;
 use sc_plan::Plan;
 use sc_value::{Name, Texts};
+use std::alloc::{AllocError, Global};
 use std::marker::Model;
 
 /// A script with the inputs that it names, the faults that are planned for its run, and the limits
@@ -88,6 +95,23 @@ impl Work {
             ≡ option_map text_lines (content_of self.now.inputs name.now) }
     {
         find(&self.inputs, name)
+    }
+
+    /// The nodes that a node reads, in order: none, where no node has the number.
+    pub fn parents(&self, alloc: Global, node: NodeId) -> Result<Vec<NodeId>, AllocError>
+        ensures { IfOk result (λ v. v.items ≡ parents_at self.now.script.nodes node) }
+    {
+        match self.script.nodes().get(node as usize) {
+            Some(node) => parents(alloc, node),
+            None => Ok(Vec::new(alloc)),
+        }
+    }
+
+    /// By which rule the rows of a node lie: by none, where no node has the number.
+    pub fn partitioner(&self, node: NodeId) -> Partitioner
+        ensures { partitioner_data_of result ≡ partitioner_at self.now.script.nodes node }
+    {
+        known_at(self.script.partitioners(), node)
     }
 
     /// What every work keeps.
