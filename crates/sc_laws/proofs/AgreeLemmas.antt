@@ -1,6 +1,7 @@
 -- Both meanings of each node agree, by the nodes before it.
 use Rattle.std.proofs.Common.{◌≡◌, ◌∙◌, ℕ, zero, suc, ◌<◌, inl, inr, Bool, true, false, if◌then◌else◌, List, [], Some, length, map, flat_map, refl, ap, sym, arith}
 use Rattle.std.proofs.lemmas.List.Elements.{All-from_recursion, recursion_from_All, All-weaker}
+use Rattle.std.proofs.lemmas.Option.{slice_get_within}
 use Rattle.std.specs.List.{list_any, slice_get, AllByRecursion}
 use Rattle.sc_base.specs.Lists.{at_or}
 use Rattle.sc_value.specs.Keys.{KeyData}
@@ -16,6 +17,7 @@ use Rattle.sc_lineage.proofs.MeaningLemmas.{part_count-step, parts_by_parents, r
 use Rattle.sc_lineage.proofs.PlaceLemmas.{at_or-map_any, slice_get-at_or}
 use Rattle.sc_lineage.proofs.ShuffleLemmas.{hash_count}
 use Rattle.sc_laws.specs.Skips.{Agree, OutcomeLaw, SkipLaw}
+use Rattle.sc_laws.specs.SortBounds.{BoundsLaw}
 use Rattle.sc_laws.proofs.EachLemmas.{each_both}
 use Rattle.sc_laws.proofs.OutcomeLemmas.{outcomes_agree}
 use Rattle.sc_laws.proofs.QuietLemmas.{TellCounts, parents_quiet}
@@ -147,3 +149,13 @@ outcomes_are_same work action sound at =
     let node = node_of_action action in
     outcomes_agree action (node_streams work node) (local_streams work node)
     (skips_agree work node sound at)
+
+pub bounds_are_same : BoundsLaw
+bounds_are_same work k node sound is =
+    let there = slice_get_within work.script.nodes k node is in
+    let P : ℕ → Type 0 = λ q. q < k in
+    let A : ℕ → Type 0 = λ q. Agree (node_streams work q) (local_streams work q) in
+    bounds_agree work sound node
+    (recursion_from_All A (parents_of node)
+    (All-weaker P A (λ q before. skips_agree work q sound (omega (arith, before, there)))
+    (parents_of node) (reads_before work.script k node sound is)))

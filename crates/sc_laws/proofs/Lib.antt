@@ -13,3 +13,6 @@ mod AgreeLemmas
 mod OutcomeLemmas
 pub mod SpreadLemmas
 pub mod NeverLemmas
+mod FilterLemmas
+mod CombineLemmas
+mod LeaderLemmas

@@ -2,7 +2,9 @@
 #![tactic(auto)]
 
 ghost use Rattle.sc_laws.specs.Coalesces.{CoalesceLaw};
+ghost use Rattle.sc_laws.specs.Combines.{CombineLaw, LeaderLaw};
 ghost use Rattle.sc_laws.specs.Skips.{OutcomeLaw, SkipLaw};
+ghost use Rattle.sc_laws.specs.SortBounds.{BoundsLaw};
 ghost use Rattle.sc_laws.specs.Spreads.{NeversAreByRaises, OwnRaisesSpread, RaisesSpread, RaisesSpreadAlong};
 
 /// Where a shuffle is skipped: the sequential and the local meaning of each node raise in some
@@ -15,6 +17,23 @@ pub fn skip_law()
 /// action gives by the sequential meaning.
 pub fn outcome_law()
     ensures { OutcomeLaw }
+{}
+
+/// The bounds that are found from what tasks compute of a sort's parent are those of the sequential
+/// meaning.
+pub fn bounds_law()
+    ensures { BoundsLaw }
+{}
+
+/// Rows put together under their keys: each key once, in order of first appearance, with the left
+/// fold of its values in order, exactly where none of these folds raises.
+pub fn combine_law()
+    ensures { CombineLaw }
+{}
+
+/// The distinct keys of rows, in order, are those of the rows whose key no row before them has.
+pub fn leader_law()
+    ensures { LeaderLaw }
 {}
 
 /// The partitions of a coalesce of a union, one after another, are the left parent's and then the
