@@ -23,6 +23,7 @@ pub mod FreshLemmas
 pub mod CauseCases
 pub mod TrackerLemmas
 pub mod RulingLemmas
+pub mod StaffLemmas
 pub mod GivenLemmas
 pub mod BirthLemmas
 pub mod LaterLemmas

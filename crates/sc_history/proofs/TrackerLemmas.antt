@@ -43,7 +43,7 @@ use Rattle.sc_core.proofs.LawLemmas.{steps_keep_sound}
 use Rattle.sc_core.proofs.SideLemmas.{steps_aside}
 use Rattle.sc_core.proofs.TakeCases.{TakesSo, takes_so}
 use Rattle.sc_history.specs.Tellings.{is_heard, telling, tellings_in, told_late}
-use Rattle.sc_history.specs.Trackers.{EpochsCount, RegistersOwn, StepsCountEpochs, StepsTrack, Tracks, finds_newer, forgets, shows_newer, tells_newer, times_forgotten}
+use Rattle.sc_history.specs.Trackers.{EpochsCount, LosesOne, RegistersOwn, SeesNewer, StepsCountEpochs, StepsTrack, Tracks, finds_newer, forgets, shows_newer, tells_newer, times_forgotten}
 use Rattle.sc_history.proofs.CauseCases.{CauseIs, cause_is, gone_reaches_none, tells_heard}
 use Rattle.sc_history.proofs.Events.{Comes, IsHeard, IsKnown, losses_come, posts_come, releases_come}
 use Rattle.sc_history.proofs.RoomLemmas.{all_tracker, released_tracker}
@@ -240,9 +240,20 @@ failures_track c after r cause answer tells =
 
 -- ---- one event
 
--- one event, and how often outputs of an executor are forgotten
-record Counts (c after : CoreData) (event : Event) (answer : Answer) : Type 0 where
-  tracks : Tracks c after.dag.tracker
+-- what may be learnt from a report
+abbrev pub Learns : CoreData → TrackerData → Type 0
+Learns c after =
+    (after ≡ c.dag.tracker) ⊎ (RegistersOwn c after ⊎ SeesNewer c.dag.tracker after)
+
+-- an event that tells no loss, and how often outputs of an executor are forgotten
+pub record Counts (c after : CoreData) (event : Event) (answer : Answer) : Type 0 where
+  pub learns : Learns c after.dag.tracker
+  pub epochs : after.dag.tracker.epoch
+      ≡ c.dag.tracker.epoch + (if forgets c event answer then 1 else 0)
+
+-- a loss, likewise
+record CountsLoss (c after : CoreData) (event : Event) (answer : Answer) : Type 0 where
+  loses : LosesOne c.dag.tracker after.dag.tracker
   epochs : after.dag.tracker.epoch
       ≡ c.dag.tracker.epoch + (if forgets c event answer then 1 else 0)
 
@@ -257,7 +268,7 @@ stays : (c after : CoreData) (event : Event) (answer : Answer)
     → Counts c after event answer
 stays c after event answer same none =
     record {
-      tracks = inl same;
+      learns = inl same;
       epochs = none_more c after event answer (ap (λ (t : TrackerData). t.epoch) same) none;
     }
 
@@ -320,7 +331,7 @@ heard_counts c after event answer sound is h =
     maps loc none fit (inl same) = stays c after event answer same none
     maps loc none fit (inr at) =
         record {
-          tracks = inr (inl (placed loc fit at));
+          learns = inr (inl (placed loc fit at));
           epochs = none_more c after event answer (ap (λ (t : TrackerData). t.epoch) at.is) none;
         }
 
@@ -329,12 +340,12 @@ heard_counts c after event answer sound is h =
         → Counts c after event answer
     newer exec found true e one gone =
         record {
-          tracks = inr (inr (inl (record {
+          learns = inr (inr (record {
             exec = exec;
             found = found;
             newer = e;
             is = gone;
-          })));
+          }));
           epochs = ap (λ (t : TrackerData). t.epoch) gone ∙ (rw (e, one) refl);
         }
     newer exec found false e one gone =
@@ -410,10 +421,10 @@ sides_count c after event answer step =
     (ap (λ (d : DagData). d.tracker) (steps_aside c after event answer step).dag) refl
 
 loses_count : (c after : CoreData) (exec : ℕ) (answer : Answer) → Loses c exec answer after
-    → Counts c after (TellLost exec) answer
+    → CountsLoss c after (TellLost exec) answer
 loses_count c after exec answer step =
     record {
-      tracks = inr (inr (inr (record { exec = exec; live = live; is = lost })));
+      loses = record { exec = exec; live = live; is = lost };
       epochs = ap (λ (t : TrackerData). t.epoch) lost ∙ (rw live refl);
     }
   where
@@ -429,15 +440,52 @@ loses_count c after exec answer step =
         ap (λ (d : DagData). d.tracker) (losses_come c after exec answer step).dag
         ∙ all_tracker (attempts_on exec c.running) from
 
-steps_count : (c after : CoreData) (event : Event) (answer : Answer) → IsSoundCore c
-    → Steps c event answer after → Counts c after event answer
-steps_count c after (Take exec) answer sound step = takes_count c after exec answer step
-steps_count c after (Post a outcome) answer sound step =
+-- what any event does
+record Goes (c after : CoreData) (event : Event) (answer : Answer) : Type 0 where
+  tracks : Tracks c after.dag.tracker
+  epochs : after.dag.tracker.epoch
+      ≡ c.dag.tracker.epoch + (if forgets c event answer then 1 else 0)
+
+counted : (c after : CoreData) (event : Event) (answer : Answer) → Counts c after event answer
+    → Goes c after event answer
+counted c after event answer n = record { tracks = by n.learns; epochs = n.epochs }
+  where
+    by : Learns c after.dag.tracker → Tracks c after.dag.tracker
+    by (inl same) = inl same
+    by (inr (inl r)) = inr (inl r)
+    by (inr (inr x)) = inr (inr (inl x))
+
+-- an event that tells no loss
+abbrev pub TellsNoLoss : Event → Type 0
+TellsNoLoss (TellLost exec) = ⊥
+TellsNoLoss event = Unit {0}
+
+pub others_count : (c after : CoreData) (event : Event) (answer : Answer) → IsSoundCore c
+    → Steps c event answer after → TellsNoLoss event → Counts c after event answer
+others_count c after (Take exec) answer sound step other = takes_count c after exec answer step
+others_count c after (Post a outcome) answer sound step other =
     posts_count c after a outcome answer sound (posts_come c after a outcome answer step)
-steps_count c after (Release key) answer sound step =
+others_count c after (Release key) answer sound step other =
     releases_count c after key answer sound (releases_come c after key answer step)
-steps_count c after (Side event) answer sound step = sides_count c after event answer step
-steps_count c after (TellLost exec) answer sound step = loses_count c after exec answer step
+others_count c after (Side event) answer sound step other =
+    sides_count c after event answer step
+others_count c after (TellLost exec) answer sound step other = absurd other
+
+steps_count : (c after : CoreData) (event : Event) (answer : Answer) → IsSoundCore c
+    → Steps c event answer after → Goes c after event answer
+steps_count c after (Take exec) answer sound step =
+    counted c after (Take exec) answer (others_count c after (Take exec) answer sound step tt)
+steps_count c after (Post a outcome) answer sound step =
+    counted c after (Post a outcome) answer
+    (others_count c after (Post a outcome) answer sound step tt)
+steps_count c after (Release key) answer sound step =
+    counted c after (Release key) answer
+    (others_count c after (Release key) answer sound step tt)
+steps_count c after (Side event) answer sound step =
+    counted c after (Side event) answer (others_count c after (Side event) answer sound step tt)
+steps_count c after (TellLost exec) answer sound step =
+    let n = loses_count c after exec answer step in
+    record { tracks = inr (inr (inr n.loses)); epochs = n.epochs }
 
 pub steps_track : StepsTrack
 steps_track c after event answer sound step = (steps_count c after event answer sound step).tracks

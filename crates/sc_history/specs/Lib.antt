@@ -7,6 +7,7 @@ pub mod Trackers
 pub mod Given
 pub mod Charges
 pub mod Ruling
+pub mod Staffing
 pub mod Evidence
 pub mod StageEvidence
 pub mod Fresh
