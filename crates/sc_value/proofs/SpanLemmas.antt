@@ -46,11 +46,12 @@ IsOpen-written bytes now more spans open_from false is small utf8 was =
     let P : List ℕ → Type 0 = λ b. IsOpen b spans open_from in subst P (sym is) was
 IsOpen-written bytes now more spans open_from true is small utf8 was =
     let P : List ℕ → Type 0 = λ b. IsOpen b spans open_from in
+    let few_bytes : length (bytes ++ more) ≤ count_limit = omega (arith, ap length is) in
     subst P (sym is) (record {
       parts = All-weaker (IsPart bytes) (IsPart (bytes ++ more))
           (λ span part. IsPart-append bytes more span part) spans was.parts;
       within = omega (arith, length-append bytes more, was.within);
-      small = (let fewer : length (bytes ++ more) ≤ count_limit = omega (arith, ap length is) in fewer);
+      small = few_bytes;
       utf8 = subst IsUtf8 (sym (drop-append-le open_from bytes more was.within))
           (IsUtf8-append (drop open_from bytes) more was.utf8 utf8);
     })

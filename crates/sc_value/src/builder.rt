@@ -192,7 +192,7 @@ impl TextsBuilder {
 ///
 /// # Errors
 ///
-/// Memory is wanting, or there would be more than [`COUNT_LIMIT`] bytes: a place in them is a `u32`.
+/// Memory is wanting, or there would be more than [`COUNT_LIMIT`] bytes.
 fn append(bytes: &mut Vec<u8>, more: &[u8]) -> Result<(), AllocError>
     requires { length bytes.old.items ≤ count_limit }
     ensures items { bytes.new.items
