@@ -9,4 +9,4 @@ returns c =
     IfOk-weaker c.of_lists.result _ _ (λ r is. is
     ∙ ap (λ i. map (group_at i) c.in_ok-items.field-0.lists.items) c.in_ok-of_texts.ensures
     ∙ texts-ranges c.in_ok-items.field-0.items c.in_ok-items.field-0.lists.items
-    ∙ ap (map texts_value) c.in_ok-items.ensures) c.of_lists.ensures
+    ∙ ap (map texts_value) c.in_ok-items.ensures.cut) c.of_lists.ensures
