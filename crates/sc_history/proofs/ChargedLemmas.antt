@@ -1,6 +1,6 @@
 -- Failed attempts of a stage are charged to events of their own.
 use Rattle.std.proofs.Common.{◌≡◌, ◌≢◌, ◌⊎◌, inl, inr, ℕ, zero, suc, ◌+◌, ◌-◌, ◌<◌, ◌≤◌, ◌==◌, ◌&&◌, not, Bool, true, false, if◌then◌else◌, cond, List, [], ◌∷◌, ◌++◌, All, IsSomeAnd, map, length, nat_lt, Option, Some, None, slice_get, refl, ap, sym, subst, ◌∙◌, append_assoc, arith, rules, true≢false}
-use Rattle.std.specs.List.{AllPairs, filter}
+use Rattle.std.specs.List.{filter}
 use Rattle.std.proofs.lemmas.Bool.Decides.{nat_tests}
 use Rattle.std.proofs.lemmas.List.{length-append, length-map}
 use Rattle.std.proofs.lemmas.List.Elements.{All-append, All-cons, All-head, All-nil, All-tail, All-weaker}
@@ -22,12 +22,11 @@ use Rattle.sc_dag.specs.Offers.{newest_number, number_in}
 use Rattle.sc_dag.specs.Outputs.{is_complete}
 use Rattle.sc_dag.specs.Reports.{after_failed, is_of_newest, map_success_of, reaches_limit_in, result_success_of, set_of}
 use Rattle.sc_dag.specs.Sound.{IsSoundDag}
-use Rattle.sc_dag.specs.declared.attempts.StageAttempt.{StageAttempt}
 use Rattle.sc_dag.specs.declared.reports.Success.{Success}
 use Rattle.sc_dag.specs.declared.reports.Success.TheVariants as successes
 use Rattle.sc_dag.proofs.CalmCalls.{others_go_on}
 use Rattle.sc_dag.proofs.SoundCalls.{calls_keep_sound}
-use Rattle.sc_dag.proofs.Tests.{both_left, both_right, clash}
+use Rattle.sc_dag.proofs.Tests.{both_left, clash}
 use Rattle.sc_core.specs.CoreData.{CoreData, is_of, shelved_of, with_dag}
 use Rattle.sc_core.specs.HandOuts.{HandOutData}
 use Rattle.sc_core.specs.Journals.{Replays}
@@ -36,7 +35,7 @@ use Rattle.sc_core.specs.Posts.{fits, fits_failure}
 use Rattle.sc_core.specs.Sound.{IsSoundCore, RunsWell, WasHandedOut, born_of}
 use Rattle.sc_core.specs.Steps.{Steps}
 use Rattle.sc_core.specs.Takes.{Takes}
-use Rattle.sc_core.specs.Tells.{FailsBy, IsGone, Misses, MissesIf, Tells, TellsFailureIf, after_failure, is_zombie_in, released, success_answer}
+use Rattle.sc_core.specs.Tells.{FailsBy, IsGone, Misses, MissesIf, Tells, TellsFailureIf, after_failure, is_zombie_in, success_answer}
 use Rattle.sc_core.specs.declared.answers.Abort.TheVariants as aborts
 use Rattle.sc_core.specs.declared.answers.Answer.{Answer}
 use Rattle.sc_core.specs.declared.answers.Answer.TheVariants as says
@@ -45,7 +44,6 @@ use Rattle.sc_core.specs.declared.events.Event.{Event}
 use Rattle.sc_core.specs.declared.events.Event.TheVariants.{Post, Release, Side, Take, TellLost}
 use Rattle.sc_core.specs.declared.events.Outcome.{Outcome}
 use Rattle.sc_core.specs.declared.events.Outcome.TheVariants as outcomes
-use Rattle.sc_core.specs.declared.running.Running.{Running}
 use Rattle.sc_core.specs.declared.running.Shelved.{Shelved}
 use Rattle.sc_core.proofs.CallCarryLemmas.{failed_carries}
 use Rattle.sc_core.proofs.CarryLemmas.{Carries, born_at, born_in, carries_then, handed_still}

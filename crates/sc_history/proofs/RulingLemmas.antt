@@ -1,6 +1,5 @@
 -- What events rule out of what is known of map outputs.
-use Rattle.std.proofs.Common.{◌≡◌, ◌⊎◌, inl, inr, ℕ, ◌+◌, ◌≤◌, Bool, true, false, if◌then◌else◌, List, [], ◌∷◌, IfSome, IsSomeAnd, Option, Some, None, refl, ap, sym, subst, ◌∙◌, arith}
-use Rattle.sc_ids.specs.declared.blocks.BlockId.{BlockId}
+use Rattle.std.proofs.Common.{◌≡◌, ◌⊎◌, inl, inr, ℕ, ◌+◌, ◌≤◌, true, if◌then◌else◌, [], ◌∷◌, IfSome, IsSomeAnd, Option, Some, None, refl, ap, sym, subst, ◌∙◌, arith}
 use Rattle.sc_ids.specs.declared.blocks.Loc.{Loc}
 use Rattle.sc_tracker.specs.TrackerData.{TrackerData, trust_of}
 use Rattle.sc_tracker.specs.TrackerLaws.{IsLaterTracker, IsLaterTrust}
@@ -9,15 +8,10 @@ use Rattle.sc_tracker.specs.declared.trust.Trust.{Trust}
 use Rattle.sc_tracker.proofs.BlockLemmas.{forgets_on_one}
 use Rattle.sc_tracker.proofs.TrustLemmas.{bogus_stays_bogus, calls_go_forward, older_tasks_are_bogus}
 use Rattle.sc_core.specs.CoreData.{CoreData}
-use Rattle.sc_core.specs.Journals.{Replays}
 use Rattle.sc_core.specs.Sound.{IsSoundCore}
-use Rattle.sc_core.specs.Steps.{Steps}
-use Rattle.sc_core.specs.declared.answers.Answer.{Answer}
-use Rattle.sc_core.specs.declared.entries.Entry.{Entry}
-use Rattle.sc_core.specs.declared.events.Event.{Event}
 use Rattle.sc_core.proofs.LawLemmas.{steps_keep_sound}
 use Rattle.sc_history.specs.Ruling.{BogusStays, EventsForgetAtOne, ForgetsAt, OthersForgetNone, ReplaysGoForward}
-use Rattle.sc_history.specs.Trackers.{LosesOne, RegistersOwn, SeesNewer, Tracks, forgets}
+use Rattle.sc_history.specs.Trackers.{LosesOne, RegistersOwn, SeesNewer, Tracks}
 use Rattle.sc_history.proofs.TrackerLemmas.{steps_count_epochs, steps_track}
 
 -- ---- what was heard stays

@@ -1,23 +1,20 @@
 -- Somebody is live while a job runs.
-use Rattle.std.proofs.Common.{◌≡◌, ◌≢◌, inl, inr, ℕ, zero, suc, ◌+◌, ◌<◌, ◌&&◌, Bool, true, false, List, [], ◌∷◌, length, Option, Some, None, replicate, slice_get, refl, ap, sym, subst, ◌∙◌, arith, rules, true≢false}
+use Rattle.std.proofs.Common.{◌≡◌, ◌≢◌, inl, inr, ℕ, zero, suc, ◌<◌, ◌&&◌, Bool, true, false, List, [], ◌∷◌, replicate, refl, ap, sym, subst, ◌∙◌, arith, true≢false}
 use Rattle.std.proofs.lemmas.List.{length-replicate}
-use Rattle.sc_base.specs.Lists.{at_or}
 use Rattle.sc_ids.specs.Changes.{change_at}
 use Rattle.sc_ids.specs.Graphs.{StageData}
 use Rattle.sc_ids.specs.declared.blocks.ShuffleId.{ShuffleId}
 use Rattle.sc_ids.specs.declared.blocks.Target.{Target}
 use Rattle.sc_ids.specs.declared.blocks.Target.TheVariants as targets
-use Rattle.sc_ids.specs.declared.limits.Limits.{Limits}
 use Rattle.sc_ids.proofs.ChangeLemmas.{length_change_at}
 use Rattle.sc_tracker.specs.TrackerData.{TrackerData}
-use Rattle.sc_tracker.specs.Tracking.{after_gone, has_room, sized}
-use Rattle.sc_tracker.specs.Trust.{are_lost, is_newer, seen_at, trust_at, untold}
+use Rattle.sc_tracker.specs.Tracking.{has_room, sized}
+use Rattle.sc_tracker.specs.Trust.{are_lost, seen_at, trust_at, untold}
 use Rattle.sc_tracker.specs.declared.trust.Trust.{Trust}
 use Rattle.sc_dag.specs.DagData.{DagData}
 use Rattle.sc_dag.specs.Openings.{sized_by, sized_for_all}
 use Rattle.sc_dag.specs.Submission.{IsSubmitted, this_stage}
-use Rattle.sc_core.specs.CoreData.{CoreData, is_running_job, job_runs, result_stage}
-use Rattle.sc_core.specs.Journals.{Replays}
+use Rattle.sc_core.specs.CoreData.{CoreData, is_running_job, result_stage}
 use Rattle.sc_core.specs.Losses.{LosesOrAborts, without_executor}
 use Rattle.sc_core.specs.Openings.{tracker_behind}
 use Rattle.sc_core.specs.Sound.{IsSoundCore}
@@ -25,11 +22,10 @@ use Rattle.sc_core.specs.Steps.{Steps}
 use Rattle.sc_core.specs.declared.answers.Abort.TheVariants.{NoExecutor}
 use Rattle.sc_core.specs.declared.answers.Answer.{Answer}
 use Rattle.sc_core.specs.declared.answers.JobState.TheVariants as jobs
-use Rattle.sc_core.specs.declared.entries.Entry.{Entry}
 use Rattle.sc_core.specs.declared.events.Event.{Event}
 use Rattle.sc_core.specs.declared.events.Event.TheVariants.{Post, Release, Side, Take, TellLost}
 use Rattle.sc_core.proofs.LawLemmas.{steps_keep_sound}
-use Rattle.sc_history.specs.Staffing.{FirstIsStaffed, HasLive, IsLiveIn, IsStaffed, OpeningsAreStaffed, ReplaysKeepStaffed, StepsKeepStaffed}
+use Rattle.sc_history.specs.Staffing.{FirstIsStaffed, HasLive, IsStaffed, OpeningsAreStaffed, ReplaysKeepStaffed, StepsKeepStaffed}
 use Rattle.sc_history.proofs.Closing.{ended_stays}
 use Rattle.sc_history.proofs.TrackerLemmas.{Learns, TellsNoLoss, others_count}
 

@@ -1,5 +1,5 @@
 -- What events do to what is known of where map outputs lie.
-use Rattle.std.proofs.Common.{◌≡◌, ◌⊎◌, inl, inr, ℕ, ◌+◌, ◌==◌, ◌&&◌, ◌||◌, not, Bool, true, false, if◌then◌else◌, List, [], ◌∷◌, Option, Some, None, slice_get, refl, ap, sym, subst, ◌∙◌, arith, true≢false}
+use Rattle.std.proofs.Common.{◌≡◌, ◌⊎◌, inl, inr, ℕ, ◌+◌, ◌==◌, ◌&&◌, ◌||◌, not, Bool, true, false, if◌then◌else◌, [], ◌∷◌, Option, Some, None, slice_get, refl, ap, sym, subst, ◌∙◌, arith, true≢false}
 use Rattle.std.specs.List.{list_any}
 use Rattle.std.proofs.lemmas.Bool.Decides.{nat_tests}
 use Rattle.sc_ids.specs.declared.attempts.AttemptId.{AttemptId}
@@ -22,7 +22,6 @@ use Rattle.sc_dag.specs.declared.reports.Success.{Success}
 use Rattle.sc_dag.specs.declared.reports.Success.TheVariants as successes
 use Rattle.sc_dag.proofs.Tests.{both_left, both_right}
 use Rattle.sc_core.specs.CoreData.{CoreData, job_runs, shelved_of, with_dag}
-use Rattle.sc_core.specs.Journals.{Replays}
 use Rattle.sc_core.specs.Losses.{Loses, attempts_on}
 use Rattle.sc_core.specs.Posts.{fits}
 use Rattle.sc_core.specs.Sides.{StepsAside}
@@ -31,7 +30,6 @@ use Rattle.sc_core.specs.Steps.{Steps}
 use Rattle.sc_core.specs.Takes.{Takes}
 use Rattle.sc_core.specs.Tells.{FailsBy, FailsOrAborts, FollowsUp, IsGone, LooksAgain, Misses, MissesIf, Tells, TellsFailure, TellsFailureIf, TellsMap, TellsResult, after_failure, after_result, done_if, is_zombie_in, released, with_result_of}
 use Rattle.sc_core.specs.declared.answers.Answer.{Answer}
-use Rattle.sc_core.specs.declared.entries.Entry.{Entry}
 use Rattle.sc_core.specs.declared.events.Event.{Event}
 use Rattle.sc_core.specs.declared.events.Event.TheVariants.{Post, Release, Side, Take, TellLost}
 use Rattle.sc_core.specs.declared.events.Outcome.{Outcome}

@@ -44,9 +44,9 @@ ReplaysKeepStaffed =
 -- it holds of a job that begins where somebody is live
 abbrev pub OpeningsAreStaffed : Type 0
 OpeningsAreStaffed =
-    (graph : List StageData) (limits : Limits) (saved : ℕ) (plan : List PlanLine)
+    (graph : List StageData) (limits : Limits) (saves : Bool) (plan : List PlanLine)
     (last : Option CoreData) (c : CoreData) → HasLive (tracker_behind last limits).trust
-    → IsOpening graph limits saved plan last c → IsStaffed c
+    → IsOpening graph limits saves plan last c → IsStaffed c
 
 -- which is so of the first job, where there are executors
 abbrev pub FirstIsStaffed : Type 0
