@@ -6,6 +6,7 @@ use Rattle.std.proofs.lemmas.List.Folds.{list_any-append}
 use Rattle.std.proofs.lemmas.List.Sums.{fold-append}
 use Rattle.std.specs.Cmp.{IsEquivalence}
 use Rattle.std.specs.List.{All, AllByRecursion, IsDistinct, list_any}
+use Rattle.sc_base.specs.Limits.{count_limit}
 use Rattle.sc_keys.specs.Groups.{AreDistinct, AreGroups, distinct, groups, place_in, with_key}
 
 or_false : (a b : Bool) → (a || b) ≡ false → b ≡ false
@@ -148,8 +149,8 @@ module _ {K : Type 0} (same : K → K → Bool) (self : (k : K) → same k k ≡
   -- what the groups are once each row has one
   pub are_groups : (ks : List K) (i : ℕ) (known : List K) (out : List ℕ) (count : ℕ)
       → length ks ≤ i → known ≡ distinct same (take i ks) → out ≡ groups same (take i ks)
-      → count ≡ length known → AreGroups same ks out count
-  are_groups ks i known out count past is are counted =
+      → count ≡ length known → length ks ≤ count_limit → AreGroups same ks out count
+  are_groups ks i known out count past is are counted few =
       let whole = take_all i ks past in
       let size : count ≡ length (distinct same ks) =
       counted ∙ ap length is ∙ ap (λ xs. length (distinct same xs)) whole in
@@ -160,6 +161,7 @@ module _ {K : Type 0} (same : K → K → Bool) (self : (k : K) → same k k ≡
         below = subst (λ n. All (λ g. g < n) out) (sym size)
             (subst (All (λ g. g < length (distinct same ks))) (sym all)
             (places_below (distinct same ks) ks (all_known [] ks)));
+        within = few;
       }
 
 -- a set of keys grows by one at most

@@ -2,6 +2,7 @@
 use Rattle.std.proofs.Common.{◌≡◌, ◌∙◌, ◌+◌, ℕ, Bool, true, false, cond, List, [], ◌∷◌, ◌++◌, map, fold, length, refl, ap, ap₂, sym, ◌||◌, not, if◌then◌else◌}
 use Rattle.std.proofs.lemmas.List.{length-map, map-append}
 use Rattle.std.specs.List.{list_any}
+use Rattle.sc_keys.proofs.OrderLemmas.{few_by}
 use Rattle.sc_keys.specs.Groups.{AreGroups, distinct, groups, place_in, with_key}
 
 module _ {X K : Type 0} (f : X → K) (alike : X → X → Bool) (same : K → K → Bool)
@@ -54,4 +55,5 @@ module _ {X K : Type 0} (f : X → K) (alike : X → X → Bool) (same : K → K
     counted = are.counted ∙ sym (length-map (distinct alike xs) f)
         ∙ ap length (sym (distinct-map xs));
     below = are.below;
+    within = few_by (length (map f xs)) (length xs) (length-map xs f) are.within;
   }

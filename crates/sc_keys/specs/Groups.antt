@@ -1,6 +1,7 @@
 -- Keys in order of first appearance, and the groups of the rows of each.
-use Rattle.std.specs.Prelude.{◌≡◌, ◌<◌, Bool, List, [], ◌∷◌, ◌++◌, fold, if◌then◌else◌, length, map, true, ℕ}
+use Rattle.std.specs.Prelude.{◌≡◌, ◌<◌, ◌≤◌, Bool, List, [], ◌∷◌, ◌++◌, fold, if◌then◌else◌, length, map, true, ℕ}
 use Rattle.std.specs.List.{All, IsDistinct, list_any, position_or_len}
+use Rattle.sc_base.specs.Limits.{count_limit}
 
 -- keys with one more behind them, unless it is among them
 abbrev pub with_key : {K : Type 0} → (K → K → Bool) → List K → K → List K
@@ -24,9 +25,11 @@ pub record AreDistinct {K : Type 0} (same : K → K → Bool) (keys once : List 
   pub all : All (λ key. list_any (same key) once ≡ true) keys
   pub own : All (λ key. list_any (same key) keys ≡ true) once
 
--- numbers of rows tell groups of one key, counted from 0 in order of first appearance
+-- numbers of rows tell groups of one key, counted from 0 in order of first appearance, where there
+-- are no more keys than are counted
 pub record AreGroups {K : Type 0} (same : K → K → Bool) (keys : List K) (numbers : List ℕ)
     (count : ℕ) : Type 0 where
   pub are : numbers ≡ groups same keys
   pub counted : count ≡ length (distinct same keys)
   pub below : All (λ number. number < count) numbers
+  pub within : length keys ≤ count_limit

@@ -11,6 +11,7 @@ ghost use Rattle.sc_value.specs.Views.{key_data_of};
 use crate::keyed::Keys;
 use crate::lending::{LentKey, lent};
 use indexmap::IndexSet;
+use sc_base::COUNT_LIMIT;
 use sc_value::{Key, Texts};
 use std::alloc::{AllocError, Global};
 
@@ -24,7 +25,11 @@ pub struct Groups {
 }
 
 impl Keys {
-    /// The group of each key. More than 2^32 - 1 keys are answered as want of memory.
+    /// The group of each key.
+    ///
+    /// # Errors
+    ///
+    /// Memory is wanting, or there are more than [`COUNT_LIMIT`] keys.
     pub fn groups(&self, alloc: Global) -> Result<Groups, AllocError>
         ensures { IfOk result (λ g. AreGroups is_same_key self.now g.numbers.items g.count) }
     {
@@ -43,7 +48,7 @@ impl Keys {
 fn group_ints(alloc: Global, keys: &[i64]) -> Result<Groups, AllocError>
     ensures { IfOk result (λ g. AreGroups int_eq keys.now g.numbers.items g.count) }
 {
-    if keys.len() > u32::MAX as usize {
+    if keys.len() > COUNT_LIMIT {
         return Err(AllocError);
     }
     let mut known: IndexSet<i64> = IndexSet::new(alloc);
@@ -60,7 +65,7 @@ fn group_ints(alloc: Global, keys: &[i64]) -> Result<Groups, AllocError>
 fn group_texts(alloc: Global, keys: &Texts) -> Result<Groups, AllocError>
     ensures { IfOk result (λ g. AreGroups bytes_eq keys.now g.numbers.items g.count) }
 {
-    if keys.len() > u32::MAX as usize {
+    if keys.len() > COUNT_LIMIT {
         return Err(AllocError);
     }
     let mut known: IndexSet<&str> = IndexSet::new(alloc);
@@ -78,7 +83,7 @@ fn group_keys(alloc: Global, keys: &[Key]) -> Result<Groups, AllocError>
     ensures { IfOk result
         (λ g. AreGroups is_same_key (map key_data_of keys.now) g.numbers.items g.count) }
 {
-    if keys.len() > u32::MAX as usize {
+    if keys.len() > COUNT_LIMIT {
         return Err(AllocError);
     }
     let mut known: IndexSet<LentKey<'_>> = IndexSet::new(alloc);

@@ -31,4 +31,4 @@ pub returns : goal.returns
 returns c =
     are_groups int_eq int_eq_equiv.refl c.args.keys.now c.loop-i.i c.loop-i.known.keys
     c.loop-i.numbers.items c.len-count.result (omega arith) c.loop-i.invariant.known
-    c.loop-i.invariant.numbers c.len-count.ensures.len
+    c.loop-i.invariant.numbers c.len-count.ensures.len (omega arith)

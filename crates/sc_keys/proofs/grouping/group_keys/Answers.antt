@@ -51,3 +51,4 @@ returns c =
     c.loop-i.i (map lent_data c.loop-i.known.keys) c.loop-i.numbers.items c.len-count.result
     (omega (arith, count)) c.loop-i.invariant.known c.loop-i.invariant.numbers
     (c.len-count.ensures.len ∙ sym (length-map c.loop-i.known.keys lent_data))
+    (omega (arith, count))

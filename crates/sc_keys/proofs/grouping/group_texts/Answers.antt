@@ -39,4 +39,4 @@ returns c =
     are_groups bytes_eq nat_list_eq_equiv.refl c.args.keys.now c.loop-i.i
     (map bytes_of c.loop-i.known.keys) c.loop-i.numbers.items c.len-count.result (omega arith)
     c.loop-i.invariant.known c.loop-i.invariant.numbers
-    (c.len-count.ensures.len ∙ sym (length-map c.loop-i.known.keys bytes_of))
+    (c.len-count.ensures.len ∙ sym (length-map c.loop-i.known.keys bytes_of)) (omega arith)
