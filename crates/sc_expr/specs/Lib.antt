@@ -3,6 +3,7 @@ pub mod ExprCode
 pub mod Heads
 pub mod HeadGroups
 pub mod Meaning
+pub mod RaiseTexts
 pub mod Schemes
 pub mod Views
 pub mod BoundViews

@@ -1,8 +1,12 @@
 //! Expressions.
 #![tactic(auto)]
 
+ghost use Rattle.std.specs.Prelude.{◌≡◌};
+ghost use Rattle.sc_expr.specs.RaiseTexts.{raise_text};
+
 use sc_value::Text;
-use thiserror::Error;
+use std::error::Error;
+use std::fmt;
 
 /// A variable of an expression.
 #[derive(Clone, Copy, Debug, PartialEq, Eq)]
@@ -84,15 +88,39 @@ pub enum Expr {
 }
 
 /// Why an expression has no value.
-#[derive(Clone, Copy, Debug, PartialEq, Eq, Error)]
+#[derive(Clone, Copy, Debug, PartialEq, Eq)]
 pub enum Raise {
     /// A division by zero.
-    #[error("DivideByZero")]
     DivideByZero,
     /// A text that should write a number and doesn't.
-    #[error("NotANumber")]
     NotANumber,
     /// A place outside a list, or a number past 64 bits.
-    #[error("OutOfRange")]
     OutOfRange,
 }
+
+impl Raise {
+    /// Its name, as it stands in texts.
+    pub fn name(self) -> &'static str
+        ensures { result.now ≡ raise_text self }
+    {
+        match self {
+            Raise::DivideByZero => "DivideByZero",
+            Raise::NotANumber => "NotANumber",
+            Raise::OutOfRange => "OutOfRange",
+        }
+    }
+}
+
+impl fmt::Display for Raise {
+    ghost use Rattle.std.specs.Prelude.{Some};
+    ghost use Rattle.sc_expr.specs.RaiseTexts.{raise_text};
+
+    ghost output = { λ raise. Some (raise_text raise) };
+
+    fn fmt<W: fmt::Write>(&self, f: &mut fmt::Formatter<W>) -> fmt::Result {
+        let name = self.name();
+        write!(f, "{name}")
+    }
+}
+
+impl Error for Raise {}

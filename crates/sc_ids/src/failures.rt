@@ -6,6 +6,7 @@ ghost use Rattle.sc_ids.specs.Failures.{is_counted};
 
 use crate::attempts::ExecId;
 use crate::blocks::{Generation, Loc};
+use sc_expr::Raise;
 
 /// What the files of a run have counted.
 #[derive(Clone, Copy, Debug, PartialEq, Eq)]
@@ -30,8 +31,8 @@ pub struct Fault {
 pub enum FailureCause {
     /// The fault plan said so.
     Planned,
-    /// What it computes raises. Which raise is told elsewhere.
-    Raised,
+    /// What it computes raises so.
+    Raised(Raise),
     /// A call on the files failed.
     Device(Fault),
     /// A store that it read from is past the generation that it was sent to.
@@ -58,7 +59,7 @@ impl FailureCause {
         ensures { result ≡ is_counted self }
     {
         match self {
-            FailureCause::Planned | FailureCause::Raised | FailureCause::Device(_) => true,
+            FailureCause::Planned | FailureCause::Raised(_) | FailureCause::Device(_) => true,
             FailureCause::Gone { .. } => false,
             FailureCause::Metadata { .. } | FailureCause::Denied => false,
         }
