@@ -7,8 +7,7 @@ use Rattle.sc_script.specs.declared.faults.FaultKind.{FaultKind}
 use Rattle.sc_script.specs.declared.faults.FaultKind.TheVariants as kinds
 use Rattle.sc_plan.specs.declared.faults.PlanFaultKind.{PlanFaultKind}
 use Rattle.sc_plan.specs.declared.faults.PlanFaultKind.TheVariants as plan_kinds
-use Rattle.sc_expr.specs.declared.exprs.Raise.{Raise}
-use Rattle.sc_expr.specs.declared.exprs.Raise.TheVariants as raises
+use Rattle.sc_expr.specs.RaiseTexts.{raise_text}
 use Rattle.sc_lineage.specs.declared.nodes.DriverFault.{DriverFault}
 use Rattle.sc_lineage.specs.declared.nodes.DriverFault.TheVariants as causes
 use Rattle.sc_app.specs.declared.ran.Status.{Status}
@@ -36,12 +35,6 @@ plan_kind_text plan_kinds.Twice = codes "Twice"
 abbrev pub missing_text : Bool → List ℕ
 missing_text true = codes "missing"
 missing_text false = codes "failed"
-
--- the name of a raise
-abbrev pub raise_text : Raise → List ℕ
-raise_text raises.DivideByZero = codes "DivideByZero"
-raise_text raises.NotANumber = codes "NotANumber"
-raise_text raises.OutOfRange = codes "OutOfRange"
 
 -- the name of the cause of a driver's fault
 abbrev pub cause_text : DriverFault → List ℕ

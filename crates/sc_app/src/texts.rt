@@ -3,11 +3,10 @@
 
 ghost use Rattle.std.specs.Prelude.{◌≡◌, IfOk};
 ghost use Rattle.std.specs.String.{string_bytes};
-ghost use Rattle.sc_app.specs.FaultTexts.{abort_text, cause_text, fault_text as text_of, kind_text, missing_text, plan_kind_text, raise_text};
+ghost use Rattle.sc_app.specs.FaultTexts.{abort_text, cause_text, fault_text as text_of, kind_text, missing_text, plan_kind_text};
 
 use crate::ran::Status;
 use sc_core::Abort;
-use sc_expr::Raise;
 use sc_lineage::DriverFault;
 use sc_plan::{PlanFault, PlanFaultKind};
 use sc_script::{FaultKind, ScriptFault};
@@ -107,18 +106,7 @@ fn name_of_cause(kind: DriverFault) -> &'static str
 {
     match kind {
         DriverFault::EmptyCollection => "EmptyCollection",
-        DriverFault::Raised(raise) => name_of_raise(raise),
-    }
-}
-
-/// The name of a raise.
-fn name_of_raise(raise: Raise) -> &'static str
-    ensures { result.now ≡ raise_text raise }
-{
-    match raise {
-        Raise::DivideByZero => "DivideByZero",
-        Raise::NotANumber => "NotANumber",
-        Raise::OutOfRange => "OutOfRange",
+        DriverFault::Raised(raise) => raise.name(),
     }
 }
 

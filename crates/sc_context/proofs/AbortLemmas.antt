@@ -139,8 +139,8 @@ module _ (known_causes : AreCauses) (work : WorkData) (sound : IsSoundWork work)
     counted_raises told a causes.Planned counted failed =
         absurd (false≢true
         (subst (λ (plan : List PlanLine). is_failed plan (place_of a) ≡ true) empty failed))
-    counted_raises told a causes.Raised counted raised =
-        (known_causes.raises work p.carried goal is.graph a.stage a.partition raised.raise
+    counted_raises told a (causes.Raised raise) counted raised =
+        (known_causes.raises work p.carried goal is.graph a.stage a.partition raise
         sound.script carried known is.cut raised.task raised.own).served p.actions
         (serves goal is.next)
     counted_raises told a (causes.Device fault) counted failed = absurd failed

@@ -163,7 +163,7 @@ TellsNewer outcome = Unit {0}
 cause_shows : (r : Running) (cause : FailureCause) → HasInputs r → fits_failure r cause ≡ true
     → ShowsNewer cause
 cause_shows r causes.Planned all fit = tt
-cause_shows r causes.Raised all fit = tt
+cause_shows r (causes.Raised raise) all fit = tt
 cause_shows r (causes.Device fault) all fit = tt
 cause_shows r (causes.Gone exec wanted found) all fit =
     let newer =
@@ -218,7 +218,7 @@ module _ (work : WorkData) (job : JobData) (empty : work.plan ≡ [])
       subst (λ n. found ≤ n) (no_wipes told exec) h
   cause_within told a (causes.Metadata last) h = tt
   cause_within told a causes.Planned h = tt
-  cause_within told a causes.Raised h = tt
+  cause_within told a (causes.Raised raise) h = tt
   cause_within told a (causes.Device fault) h = tt
   cause_within told a causes.Denied h = tt
 
@@ -234,7 +234,7 @@ module _ (work : WorkData) (job : JobData) (empty : work.plan ≡ [])
   cause_calm (causes.Gone exec wanted found) newer within = absurd (omega (arith, newer, within))
   cause_calm (causes.Metadata last) newer within = absurd newer
   cause_calm causes.Planned newer within = refl
-  cause_calm causes.Raised newer within = refl
+  cause_calm (causes.Raised raise) newer within = refl
   cause_calm (causes.Device fault) newer within = refl
   cause_calm causes.Denied newer within = refl
 
@@ -298,7 +298,7 @@ module _ (work : WorkData) (job : JobData) (empty : work.plan ≡ [])
   within_greatest (outcomes.Map loc) = tt
   within_greatest outcomes.Result = tt
   within_greatest (outcomes.Failed causes.Planned) = tt
-  within_greatest (outcomes.Failed causes.Raised) = tt
+  within_greatest (outcomes.Failed (causes.Raised raise)) = tt
   within_greatest (outcomes.Failed (causes.Device fault)) = tt
   within_greatest (outcomes.Failed (causes.Gone exec wanted found)) = itself found
   within_greatest (outcomes.Failed (causes.Metadata last)) = tt

@@ -78,7 +78,7 @@ no_cause c after a (causes.Gone exec wanted found) zombie stage number p h =
 no_cause c after a (causes.Metadata last) zombie stage number p h =
     no_miss c after a stage number p h
 no_cause c after a causes.Planned zombie stage number p (e, is) = search (rules, e)
-no_cause c after a causes.Raised zombie stage number p (e, is) = search (rules, e)
+no_cause c after a (causes.Raised raise) zombie stage number p (e, is) = search (rules, e)
 no_cause c after a (causes.Device fault) zombie stage number p (e, is) = search (rules, e)
 no_cause c after a causes.Denied zombie stage number p (e, is) = search (rules, e)
 

@@ -137,7 +137,7 @@ causes_agree calls one c x y a (causes.Metadata last) zombie u v sound e f =
     misses_agree one c x y a u v sound e f
 causes_agree calls one c x y a causes.Planned zombie u v sound (g, is) (h, is') =
     (g ∙ sym h, is ∙ sym is')
-causes_agree calls one c x y a causes.Raised zombie u v sound (g, is) (h, is') =
+causes_agree calls one c x y a (causes.Raised raise) zombie u v sound (g, is) (h, is') =
     (g ∙ sym h, is ∙ sym is')
 causes_agree calls one c x y a (causes.Device fault) zombie u v sound (g, is) (h, is') =
     (g ∙ sym h, is ∙ sym is')

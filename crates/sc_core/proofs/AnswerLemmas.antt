@@ -94,7 +94,7 @@ causes_there calls c a (causes.Gone exec wanted found) zombie sound =
     by false false = misses_there c a sound
 causes_there calls c a (causes.Metadata last) zombie sound = misses_there c a sound
 causes_there calls c a causes.Planned zombie sound = (says.Again, c, (refl, refl))
-causes_there calls c a causes.Raised zombie sound = (says.Again, c, (refl, refl))
+causes_there calls c a (causes.Raised raise) zombie sound = (says.Again, c, (refl, refl))
 causes_there calls c a (causes.Device fault) zombie sound = (says.Again, c, (refl, refl))
 causes_there calls c a causes.Denied zombie sound = (says.Again, c, (refl, refl))
 

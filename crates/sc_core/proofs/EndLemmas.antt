@@ -72,7 +72,7 @@ causes_end c after a (causes.Gone exec wanted found) zombie why h =
     by false false k = misses_end c after a why k
 causes_end c after a (causes.Metadata last) zombie why h = misses_end c after a why h
 causes_end c after a causes.Planned zombie why (e, is) = absurd (search (rules, e))
-causes_end c after a causes.Raised zombie why (e, is) = absurd (search (rules, e))
+causes_end c after a (causes.Raised raise) zombie why (e, is) = absurd (search (rules, e))
 causes_end c after a (causes.Device fault) zombie why (e, is) = absurd (search (rules, e))
 causes_end c after a causes.Denied zombie why (e, is) = absurd (search (rules, e))
 

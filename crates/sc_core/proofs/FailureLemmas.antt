@@ -218,7 +218,7 @@ causes_keep calls failures others c m after r (causes.Metadata last) zombie answ
 causes_keep calls failures others c m after r causes.Planned zombie answer sound f given fit
     (says, is) =
     subst IsSoundJob (sym is) (fails_sound c m r.hand_out.attempt sound f)
-causes_keep calls failures others c m after r causes.Raised zombie answer sound f given fit
+causes_keep calls failures others c m after r (causes.Raised raise) zombie answer sound f given fit
     (says, is) =
     subst IsSoundJob (sym is) (fails_sound c m r.hand_out.attempt sound f)
 causes_keep calls failures others c m after r (causes.Device fault) zombie answer sound f given

@@ -260,7 +260,7 @@ cause_left c after a (causes.Gone exec wanted found) zombie answer h =
 cause_left c after a (causes.Metadata last) zombie answer h = misses_left c after a answer h
 cause_left c after a causes.Planned zombie answer (says, is) =
     subst (λ x. Left c x) (sym is) (left_same c)
-cause_left c after a causes.Raised zombie answer (says, is) =
+cause_left c after a (causes.Raised raise) zombie answer (says, is) =
     subst (λ x. Left c x) (sym is) (left_same c)
 cause_left c after a (causes.Device fault) zombie answer (says, is) =
     subst (λ x. Left c x) (sym is) (left_same c)

@@ -206,7 +206,7 @@ fits_in c a r outcome = by (is_of a r) outcome
         → fits c (record r { is_out = false }) (outcomes.Failed cause)
         ≡ fits c r (outcomes.Failed cause)
     of causes.Planned = refl
-    of causes.Raised = refl
+    of (causes.Raised raise) = refl
     of (causes.Device fault) = refl
     of (causes.Gone exec wanted found) = refl
     of (causes.Metadata last) = refl

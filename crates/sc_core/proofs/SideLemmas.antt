@@ -161,7 +161,7 @@ fits_further c after r next outcome is f is_in fit =
     failed : (cause : FailureCause)
         → fits c next (outcomes.Failed cause) ≡ fits c r (outcomes.Failed cause)
     failed causes.Planned = refl
-    failed causes.Raised = refl
+    failed (causes.Raised raise) = refl
     failed (causes.Device fault) = rw phase refl
     failed (causes.Gone exec wanted found) = rw f.hand_out refl
     failed (causes.Metadata last) = rw f.hand_out refl

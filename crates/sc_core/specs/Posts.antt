@@ -66,7 +66,7 @@ is_save (committer ∷ committers) = true
 -- a failure may be one of this attempt: a missing input is one that it was given so
 abbrev pub fits_failure : Running → FailureCause → Bool
 fits_failure r causes.Planned = true
-fits_failure r causes.Raised = true
+fits_failure r (causes.Raised raise) = true
 fits_failure r (causes.Device fault) = has_faulted r.phase fault
 fits_failure r (causes.Gone exec wanted found) =
     list_any (is_here (record { exec = exec; generation = wanted })) r.hand_out.inputs

@@ -1,6 +1,7 @@
 -- How entries of a journal are written: one line each.
 use Rattle.std.specs.Prelude.{ℕ, List, [], ◌∷◌, ◌++◌, Some, None, codes, decimal}
 use Rattle.std.specs.List.{flat_map}
+use Rattle.sc_expr.specs.RaiseTexts.{raise_text}
 use Rattle.sc_ids.specs.Attempts.{attempt_text}
 use Rattle.sc_ids.specs.declared.attempts.Mark.{Mark}
 use Rattle.sc_ids.specs.declared.attempts.Mark.TheVariants as marks
@@ -59,7 +60,7 @@ fault_text fault =
 
 abbrev pub cause_text : FailureCause → List ℕ
 cause_text causes.Planned = codes "planned"
-cause_text causes.Raised = codes "raised"
+cause_text (causes.Raised raise) = codes "raised " ++ raise_text raise
 cause_text (causes.Device fault) = fault_text fault
 cause_text (causes.Gone exec wanted found) =
     codes "gone " ++ decimal exec ++ codes "@" ++ decimal wanted ++ codes " found "

@@ -14,7 +14,7 @@ pub(crate) fn fits_failure(running: &Running, cause: FailureCause) -> bool
     ensures { result ≡ fits_failure running.now cause }
 {
     match cause {
-        FailureCause::Planned | FailureCause::Raised => true,
+        FailureCause::Planned | FailureCause::Raised(_) => true,
         FailureCause::Device(fault) => has_faulted(running.phase, fault),
         FailureCause::Gone {
             exec,

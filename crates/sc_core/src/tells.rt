@@ -101,7 +101,7 @@ impl State {
         match cause {
             FailureCause::Gone { exec, found, .. } => self.gone(attempt, exec, found, is_zombie),
             FailureCause::Metadata { .. } => self.miss(attempt),
-            FailureCause::Planned | FailureCause::Raised => Answer::Again,
+            FailureCause::Planned | FailureCause::Raised(_) => Answer::Again,
             FailureCause::Device(_) | FailureCause::Denied => Answer::Again,
         }
     }

@@ -133,7 +133,7 @@ impl fmt::Display for Why {
     fn fmt<W: fmt::Write>(&self, f: &mut fmt::Formatter<W>) -> fmt::Result {
         match self.cause {
             FailureCause::Planned => write!(f, "planned"),
-            FailureCause::Raised => write!(f, "raised"),
+            FailureCause::Raised(raise) => write!(f, "raised {raise}"),
             FailureCause::Device(fault) => {
                 let failed = Failed { fault };
                 write!(f, "{failed}")

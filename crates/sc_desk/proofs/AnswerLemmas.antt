@@ -64,7 +64,7 @@ cause_now c after a (causes.Gone exec wanted found) zombie answer h =
     by false false k = misses_now c after a answer k
 cause_now c after a (causes.Metadata last) zombie answer h = misses_now c after a answer h
 cause_now c after a causes.Planned zombie answer (e, is) = ap is_now e
-cause_now c after a causes.Raised zombie answer (e, is) = ap is_now e
+cause_now c after a (causes.Raised raise) zombie answer (e, is) = ap is_now e
 cause_now c after a (causes.Device fault) zombie answer (e, is) = ap is_now e
 cause_now c after a causes.Denied zombie answer (e, is) = ap is_now e
 

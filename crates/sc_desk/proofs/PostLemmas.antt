@@ -199,7 +199,7 @@ ended_for work told t (findings.Map loc) task is time = tt
 ended_for work told t (findings.Result rows) task is time = tt
 ended_for work told t findings.Planned task is time = is
 ended_for work told t (findings.Raised r) task is time =
-    record { task = task.task; raise = r; own = is.own; inputs = is.inputs }
+    record { task = task.task; own = is.own; inputs = is.inputs }
 ended_for work told t (findings.Gone exec wanted found) task is time = time
 ended_for work told t (findings.Metadata last) task is time = tt
 

@@ -242,7 +242,7 @@ cause_leaves c after a (causes.Gone exec wanted found) zombie answer h =
     by false false k = misses_leave c after a answer k
 cause_leaves c after a (causes.Metadata last) zombie answer h = misses_leave c after a answer h
 cause_leaves c after a causes.Planned zombie answer (says, is) = left_as c after c refl is
-cause_leaves c after a causes.Raised zombie answer (says, is) = left_as c after c refl is
+cause_leaves c after a (causes.Raised raise) zombie answer (says, is) = left_as c after c refl is
 cause_leaves c after a (causes.Device fault) zombie answer (says, is) = left_as c after c refl is
 cause_leaves c after a causes.Denied zombie answer (says, is) = left_as c after c refl is
 
@@ -297,7 +297,7 @@ cause_says c after a (causes.Gone exec wanted found) zombie h =
     by false false k = misses_say c after a k
 cause_says c after a (causes.Metadata last) zombie h = misses_say c after a h
 cause_says c after a causes.Planned zombie (e, is) = search (rules, e)
-cause_says c after a causes.Raised zombie (e, is) = search (rules, e)
+cause_says c after a (causes.Raised raise) zombie (e, is) = search (rules, e)
 cause_says c after a (causes.Device fault) zombie (e, is) = search (rules, e)
 cause_says c after a causes.Denied zombie (e, is) = search (rules, e)
 

@@ -336,7 +336,7 @@ cause_tracks bound c after a cause zombie answer shows h = of cause shows h
         gone exec found le (is_newer (slice_get c.dag.tracker.trust exec) found) zombie k
     of (causes.Metadata last) le k = misses_tracks bound c after a answer k
     of causes.Planned le (told, is) = same is
-    of causes.Raised le (told, is) = same is
+    of (causes.Raised raise) le (told, is) = same is
     of (causes.Device fault) le (told, is) = same is
     of causes.Denied le (told, is) = same is
 

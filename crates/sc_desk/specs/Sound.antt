@@ -61,10 +61,10 @@ AreAllResults work job results =
 
 -- ---- failures
 
--- what an attempt is to compute raises, and nothing that it reads does
-pub record HasRaised (work : WorkData) (job : JobData) (a : AttemptId) : Type 0 where
+-- what an attempt is to compute raises so, and nothing that it reads raises
+pub record HasRaised (work : WorkData) (job : JobData) (a : AttemptId) (raise : Raise)
+    : Type 0 where
   pub task : HasTask job.graph a.stage a.partition
-  pub raise : Raise
   pub own : (own_value work (target_of work job a.stage a.partition)).raise ≡ Some raise
   pub inputs : All (IsWithoutRaise work) (blocks_read job.graph a.stage)
 
@@ -73,7 +73,7 @@ pub record HasRaised (work : WorkData) (job : JobData) (a : AttemptId) : Type 0 
 -- none fails for a device or a denied commit.
 abbrev pub FailedFor : WorkData → JobData → ℕ → AttemptId → FailureCause → Type 0
 FailedFor work job told a causes.Planned = is_failed work.plan (place_of a) ≡ true
-FailedFor work job told a causes.Raised = HasRaised work job a
+FailedFor work job told a (causes.Raised raise) = HasRaised work job a raise
 FailedFor work job told a (causes.Gone exec wanted found) = found ≤ wipes_due work told exec
 FailedFor work job told a (causes.Metadata last) = Unit {0}
 FailedFor work job told a (causes.Device fault) = ⊥

@@ -105,7 +105,8 @@ failures_close b c after a cause answer runs h = by b h
         gone exec found (is_newer (slice_get failed.dag.tracker.trust exec) found) zombie k
     caused (causes.Metadata last) zombie k = misses_close failed after a answer runs k
     caused causes.Planned zombie (told, is) = runs_on c after runs (ap (λ (x : CoreData). x.job) is)
-    caused causes.Raised zombie (told, is) = runs_on c after runs (ap (λ (x : CoreData). x.job) is)
+    caused (causes.Raised raise) zombie (told, is) =
+        runs_on c after runs (ap (λ (x : CoreData). x.job) is)
     caused (causes.Device fault) zombie (told, is) =
         runs_on c after runs (ap (λ (x : CoreData). x.job) is)
     caused causes.Denied zombie (told, is) = runs_on c after runs (ap (λ (x : CoreData). x.job) is)

@@ -229,7 +229,7 @@ causes_tell c after a answer cause zombie h = by cause h
         gone exec wanted found (is_newer (slice_get c.dag.tracker.trust exec) found) zombie k
     by (causes.Metadata last) k = misses_tell c after a answer (causes.Metadata last) refl k
     by causes.Planned (told, is) = same causes.Planned is
-    by causes.Raised (told, is) = same causes.Raised is
+    by (causes.Raised raise) (told, is) = same (causes.Raised raise) is
     by (causes.Device fault) (told, is) = same (causes.Device fault) is
     by causes.Denied (told, is) = same causes.Denied is
 

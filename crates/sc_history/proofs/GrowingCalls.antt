@@ -306,7 +306,7 @@ causes_grow A New L calm marks c after a cause zombie answer limits h = by cause
         gone exec found (is_newer (slice_get c.dag.tracker.trust exec) found) zombie k
     by (causes.Metadata last) k = misses_grow A New L calm marks c after a answer limits k
     by causes.Planned (told, is) = same is
-    by causes.Raised (told, is) = same is
+    by (causes.Raised raise) (told, is) = same is
     by (causes.Device fault) (told, is) = same is
     by causes.Denied (told, is) = same is
 

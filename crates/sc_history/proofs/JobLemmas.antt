@@ -84,7 +84,8 @@ cause_ends c after a (causes.Gone exec wanted found) zombie answer h =
 cause_ends c after a (causes.Metadata last) zombie answer h = misses_ends c after a answer h
 cause_ends c after a causes.Planned zombie answer (told, is) =
     inl (ap (λ (x : CoreData). x.job) is)
-cause_ends c after a causes.Raised zombie answer (told, is) = inl (ap (λ (x : CoreData). x.job) is)
+cause_ends c after a (causes.Raised raise) zombie answer (told, is) =
+    inl (ap (λ (x : CoreData). x.job) is)
 cause_ends c after a (causes.Device fault) zombie answer (told, is) =
     inl (ap (λ (x : CoreData). x.job) is)
 cause_ends c after a causes.Denied zombie answer (told, is) = inl (ap (λ (x : CoreData). x.job) is)

@@ -156,7 +156,7 @@ failures_give_none b c after a cause answer h = by b h
         gone exec found (is_newer (slice_get failed.dag.tracker.trust exec) found) zombie k
     caused (causes.Metadata last) zombie k = misses_none failed after a answer k
     caused causes.Planned zombie (told, is) = still_none failed after answer _ refl told is
-    caused causes.Raised zombie (told, is) = still_none failed after answer _ refl told is
+    caused (causes.Raised raise) zombie (told, is) = still_none failed after answer _ refl told is
     caused (causes.Device fault) zombie (told, is) =
         still_none failed after answer _ refl told is
     caused causes.Denied zombie (told, is) = still_none failed after answer _ refl told is

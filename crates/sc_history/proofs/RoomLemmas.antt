@@ -126,7 +126,7 @@ cause_room c after a (causes.Gone exec wanted found) zombie answer h =
 cause_room c after a (causes.Metadata last) zombie answer h = misses_room c after a answer h
 cause_room c after a causes.Planned zombie answer (says, is) =
     left_room c after c.dag (room_itself c.dag.tracker) (ap (λ (z : CoreData). z.dag) is)
-cause_room c after a causes.Raised zombie answer (says, is) =
+cause_room c after a (causes.Raised raise) zombie answer (says, is) =
     left_room c after c.dag (room_itself c.dag.tracker) (ap (λ (z : CoreData). z.dag) is)
 cause_room c after a (causes.Device fault) zombie answer (says, is) =
     left_room c after c.dag (room_itself c.dag.tracker) (ap (λ (z : CoreData). z.dag) is)

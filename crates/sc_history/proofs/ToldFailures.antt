@@ -86,7 +86,7 @@ heard_failure b c after a cause answer counted h = by b h
     caused : (cause : FailureCause) → is_counted cause ≡ true → (zombie : Bool) (m : CoreData)
         → FailsBy cause zombie m a answer after → is_heard answer ≡ true
     caused causes.Planned e zombie m (told, is) = ap is_heard told
-    caused causes.Raised e zombie m (told, is) = ap is_heard told
+    caused (causes.Raised raise) e zombie m (told, is) = ap is_heard told
     caused (causes.Device fault) e zombie m (told, is) = ap is_heard told
     caused (causes.Gone exec wanted found) e zombie m k = absurd (true≢false (sym e))
     caused (causes.Metadata last) e zombie m k = absurd (true≢false (sym e))

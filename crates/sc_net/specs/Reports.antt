@@ -72,7 +72,7 @@ abbrev pub outcome_of : Finding → Outcome
 outcome_of (findings.Map loc) = outcomes.Map loc
 outcome_of (findings.Result rows) = outcomes.Result
 outcome_of findings.Planned = outcomes.Failed causes.Planned
-outcome_of (findings.Raised r) = outcomes.Failed causes.Raised
+outcome_of (findings.Raised r) = outcomes.Failed (causes.Raised r)
 outcome_of (findings.Gone exec wanted found) = outcomes.Failed (causes.Gone exec wanted found)
 outcome_of (findings.Metadata last) = outcomes.Failed (causes.Metadata last)
 

@@ -80,7 +80,7 @@ impl<W: Naming> Report<W> {
             Finding::Map(loc) => Outcome::Map(*loc),
             Finding::Result(_) => Outcome::Result,
             Finding::Planned => Outcome::Failed(FailureCause::Planned),
-            Finding::Raised(_) => Outcome::Failed(FailureCause::Raised),
+            Finding::Raised(raise) => Outcome::Failed(FailureCause::Raised(*raise)),
             Finding::Gone {
                 exec,
                 wanted,

@@ -141,8 +141,19 @@ collect m
 -- end
 task limit: stage 0 attempt 0 partition 1
 -- history
-4 | failed: raised
+4 | failed: raised DivideByZero
 0 | failed: planned
+==== the first raise of a partition's stream is told, and no later one
+l = parallelize 1 1 0
+m = map l (/ 10 x)
+n = map m (nth (list 1) x)
+collect n
+-- words
+-- end
+task limit: stage 0 attempt 0 partition 0
+-- history
+4 | failed: raised OutOfRange
+4 | failed
 ==== one raise aborts where one failure is allowed
 l = parallelize 2 1 0
 m = map l (/ 10 x)
@@ -151,7 +162,7 @@ collect m
 -- end
 task limit: stage 0 attempt 0 partition 1
 -- history
-1 | failed: raised
+1 | failed: raised DivideByZero
 0 | failed: planned
 ==== raises and planned failures count alike
 l = parallelize 2 1 0
@@ -163,7 +174,7 @@ fail 0 1 2
 -- end
 task limit: stage 0 attempt 0 partition 1
 -- history
-2 | failed: raised
+2 | failed: raised DivideByZero
 2 | failed: planned
 ==== a raise behind a planned failure is the second of two
 l = parallelize 2 1 0
@@ -174,7 +185,7 @@ fail 0 1 0
 -- end
 task limit: stage 0 attempt 0 partition 1
 -- history
-1 | failed: raised
+1 | failed: raised DivideByZero
 1 | failed: planned
 ==== a raise behind a shuffle is told with its stage: the key 0 lies in the first of two buckets
 l = parallelize 2 1 0
@@ -186,7 +197,7 @@ collect m
 -- end
 task limit: stage 1 attempt 0 partition 0
 -- history
-4 | failed: raised
+4 | failed: raised DivideByZero
 4 | failed
 "#;
 

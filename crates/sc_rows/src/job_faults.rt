@@ -101,7 +101,7 @@ told 1
 results: task failures 1, stage attempts 4, hand-outs 99
 ----
 0 take: task 0.0.0.0, epoch 0
-0 post 0.0.0.0 failed: raised: aborted: task limit of 0.0 partition 0
+0 post 0.0.0.0 failed: raised DivideByZero: aborted: task limit of 0.0 partition 0
 0 leave 0: ignored
 1 take: ended
 told 1

@@ -11,7 +11,7 @@ results: task failures 4, stage attempts 4, hand-outs 99
 told 1
 0 take: task 0.0.0.0, epoch 0
 0 post 0.0.0.1 result: ignored
-0 post 0.1.0.0 failed: raised: ignored
+0 post 0.1.0.0 failed: raised DivideByZero: ignored
 1 post 7.0.0.0 map at 1@0: ignored
 1 post 0.0.1.0 failed: gone 0@0 found 1: ignored
 told 5

@@ -103,21 +103,21 @@ results: task failures 4, stage attempts 4, hand-outs 99
 ----
 0 take: task 0.0.0.0, epoch 0
 1 take: task 0.0.1.0, epoch 0
-0 post 0.0.0.0 failed: raised: again
-1 post 0.0.1.0 failed: raised: again
+0 post 0.0.0.0 failed: raised DivideByZero: again
+1 post 0.0.1.0 failed: raised NotANumber: again
 0 take: task 0.0.0.1, epoch 0
 0 post 0.0.0.1 failed: planned: again
 0 take: task 0.0.0.2, epoch 0
-0 post 0.0.0.2 failed: raised: again
+0 post 0.0.0.2 failed: raised OutOfRange: again
 1 take: task 0.0.0.3, epoch 0
-1 post 0.0.0.3 failed: raised: aborted: task limit of 0.0 partition 0
+1 post 0.0.0.3 failed: raised DivideByZero: aborted: task limit of 0.0 partition 0
 0 take: ended
 ==== one failure is too many where no second one is allowed
 results: task failures 1, stage attempts 4, hand-outs 99
 ----
 0 take: task 0.0.0.0, epoch 0
 1 take: task 0.0.1.0, epoch 0
-1 post 0.0.1.0 failed: raised: aborted: task limit of 0.0 partition 1
+1 post 0.0.1.0 failed: raised DivideByZero: aborted: task limit of 0.0 partition 1
 0 take: ended
 "#;
 

@@ -23,9 +23,7 @@ pub fn last_stream<R: Abort + AllocGlobal>(rt: &R, script: &str, input: &str) ->
 /// The word for a raise, and no word for none.
 pub fn kind_of(raise: Option<Raise>) -> &'static str {
     match raise {
-        Some(Raise::DivideByZero) => "DivideByZero",
-        Some(Raise::NotANumber) => "NotANumber",
-        Some(Raise::OutOfRange) => "OutOfRange",
+        Some(raise) => raise.name(),
         None => "",
     }
 }

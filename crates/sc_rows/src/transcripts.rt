@@ -14,6 +14,7 @@ use crate::jobs::{counting_under, results};
 use crate::works::halves;
 use sc_base::OrMemory;
 use sc_core::{Event, Journal, NotEnabled, Outcome, SideEvent};
+use sc_expr::Raise;
 use sc_ids::{AttemptId, Counts, ExecId, FailureCause, Fault, Limits, Loc, Mark};
 use std::process::Abort;
 
@@ -176,8 +177,8 @@ fn loc_of(numbers: &[u32]) -> Loc {
 fn cause_of(line: &str, numbers: &[u32]) -> FailureCause {
     if line.contains(" planned:") {
         FailureCause::Planned
-    } else if line.contains(" raised:") {
-        FailureCause::Raised
+    } else if line.contains(" raised ") {
+        FailureCause::Raised(raise_of(line))
     } else if line.contains(" gone ") {
         FailureCause::Gone {
             exec: at(numbers, 5),
@@ -195,6 +196,16 @@ fn cause_of(line: &str, numbers: &[u32]) -> FailureCause {
         })
     } else {
         FailureCause::Denied
+    }
+}
+
+fn raise_of(line: &str) -> Raise {
+    if line.contains(" raised DivideByZero:") {
+        Raise::DivideByZero
+    } else if line.contains(" raised NotANumber:") {
+        Raise::NotANumber
+    } else {
+        Raise::OutOfRange
     }
 }
 

@@ -362,7 +362,7 @@ cause_tracks c after a (causes.Metadata last) zombie answer h =
     quiet_tracks c after a _ (misses_same c after a answer h)
 cause_tracks c after a causes.Planned zombie answer (says, is) =
     quiet_tracks c after a _ (frees_same c after is)
-cause_tracks c after a causes.Raised zombie answer (says, is) =
+cause_tracks c after a (causes.Raised raise) zombie answer (says, is) =
     quiet_tracks c after a _ (frees_same c after is)
 cause_tracks c after a (causes.Device fault) zombie answer (says, is) =
     quiet_tracks c after a _ (frees_same c after is)
