@@ -7,9 +7,9 @@
 //! [`Fault`] what the files counted, and [`Mark`] who made an entry of the journal.
 //!
 //! All of it is plain data without behaviour, so that every part names the same thing by the same
-//! value; only a graph holds a list, and contracts see it as one. From `sc_expr` it takes the name of
-//! a raise, with which an attempt fails. `specs/Changes.antt` has the word in which the parts say how
-//! their states change.
+//! value; only a graph holds a list, and contracts see it as one. From `sc_expr` it takes the names
+//! of raises, since one may be why an attempt fails. `specs/Changes.antt` has the word in which the
+//! parts say how their states change.
 #![tactic(auto)]
 
 mod attempts;
