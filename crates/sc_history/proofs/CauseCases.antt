@@ -55,7 +55,7 @@ cause_is (causes.Gone exec wanted found) =
 cause_is (causes.Metadata last) = inr (inl (record { last = last; is = refl }))
 cause_is causes.Planned =
     inr (inr (record { stays = λ z m after a w h. h; kept = refl; old = λ t. refl }))
-cause_is causes.Raised =
+cause_is (causes.Raised raise) =
     inr (inr (record { stays = λ z m after a w h. h; kept = refl; old = λ t. refl }))
 cause_is (causes.Device fault) =
     inr (inr (record { stays = λ z m after a w h. h; kept = refl; old = λ t. refl }))
