@@ -1,3 +1,4 @@
+pub mod NeedsLemmas
 pub mod KeepingLemmas
 pub mod OutcomeLemmas
 pub mod SideLemmas

@@ -1,6 +1,7 @@
 -- The streams that were read of the places that a partition reads.
-use Rattle.std.proofs.Common.{◌≡◌, ◌∙◌, ℕ, ◌+◌, ◌<◌, ◌≤◌, List, [], ◌∷◌, ◌++◌, length, map, take, get_or, ap, ap₂, sym}
+use Rattle.std.proofs.Common.{◌≡◌, ◌∙◌, ℕ, ◌+◌, ◌<◌, ◌≤◌, List, [], ◌∷◌, ◌++◌, All, Contains, length, map, take, get_or, ap, ap₂, sym, subst}
 use Rattle.std.proofs.lemmas.List.{map-append, take_all, take_more}
+use Rattle.std.proofs.lemmas.List.Elements.{All-contains_itself, All-get_or}
 use Rattle.sc_lineage.specs.Meaning.{known_of, local_stream}
 use Rattle.sc_lineage.specs.ScriptData.{WorkData}
 use Rattle.sc_lineage.specs.Views.{place_data_of}
@@ -8,6 +9,7 @@ use Rattle.sc_lineage.specs.declared.dependencies.Place.{Place}
 use Rattle.sc_lineage.specs.declared.streams.Stream.{Stream}
 use Rattle.sc_lineage.proofs.FoundLemmas.{streams_at}
 use Rattle.sc_compute.specs.Reading.{direct_reads}
+use Rattle.sc_compute.proofs.DirectLemmas.{found_all}
 
 -- the streams of all places that a partition reads as they are
 pub all_read : (work : WorkData) (k p : ℕ) (found places : List Place) (inputs lent : List Stream)
@@ -37,3 +39,28 @@ one_more work places i other before after s within are more is =
     ∙ ap₂ (λ ss t. ss ++ t ∷ []) are is
     ∙ sym (map-append one (take i places) (get_or places i other ∷ []))
     ∙ ap (map one) (sym (take_more places i other within))
+
+-- a place that is read is among those that a partition reads as they are
+pub read_at : (work : WorkData) (k p : ℕ) (found places : List Place) (i : ℕ) (d : Place)
+    → map place_data_of found ≡ direct_reads work k p → places ≡ found → i < length places
+    → Contains (direct_reads work k p) (place_data_of (get_or places i d))
+read_at work k p found places i d read same within =
+    All-get_or (λ q. Contains (direct_reads work k p) (place_data_of q)) places i d within
+    (subst (All (λ q. Contains (direct_reads work k p) (place_data_of q))) (sym same)
+    (found_all (Contains (direct_reads work k p)) found (direct_reads work k p) read
+    (All-contains_itself (direct_reads work k p))))
+
+-- the places that were read, and one more
+pub places_more : (places : List Place) (i : ℕ) (d : Place) → i < length places
+    → map place_data_of (take i places) ++ place_data_of (get_or places i d) ∷ []
+    ≡ map place_data_of (take (i + 1) places)
+places_more places i d within =
+    sym (map-append place_data_of (take i places) (get_or places i d ∷ []))
+    ∙ ap (map place_data_of) (sym (take_more places i d within))
+
+-- all places that a partition reads as they are
+pub places_all : (work : WorkData) (k p : ℕ) (found places : List Place) (i : ℕ)
+    → map place_data_of found ≡ direct_reads work k p → places ≡ found → length places ≤ i
+    → map place_data_of (take i places) ≡ direct_reads work k p
+places_all work k p found places i read same past =
+    ap (map place_data_of) (take_all i places past ∙ same) ∙ read

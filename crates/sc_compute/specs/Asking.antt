@@ -1,6 +1,7 @@
 -- The partitions of cache nodes that a target reads.
 use Rattle.std.specs.Prelude.{ℕ, ◌≡◌, ◌+◌, ◌*◌, ◌/◌, ◌%◌, ◌^◌, ◌<◌, true, length}
 use Rattle.std.specs.List.{All}
+use Rattle.sc_lineage.specs.Dependencies.{PlaceData, place}
 use Rattle.sc_lineage.specs.ScriptData.{WorkData, node_of_action}
 use Rattle.sc_lineage.specs.Targets.{TargetData, map_target, result_target}
 use Rattle.sc_lineage.specs.declared.dependencies.Place.{Place}
@@ -17,6 +18,9 @@ node_taken work (result_target action p) = node_of_action action
 abbrev pub partition_taken : TargetData → ℕ
 partition_taken (map_target node side m) = m
 partition_taken (result_target action p) = p
+
+abbrev pub place_taken : WorkData → TargetData → PlaceData
+place_taken work target = place (node_taken work target) (partition_taken target)
 
 -- a partition as a number: those of later nodes have greater ones
 abbrev pub place_number : Place → ℕ

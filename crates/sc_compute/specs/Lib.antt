@@ -6,4 +6,5 @@ pub mod Evaluations
 pub mod Gathering
 pub mod Tasks
 pub mod Caching
+pub mod Needs
 pub mod Asking

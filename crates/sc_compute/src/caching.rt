@@ -1,11 +1,13 @@
 //! Partitions of cache nodes.
 #![tactic(auto)]
 
-ghost use Rattle.std.specs.Prelude.{◌≡◌, ◌<◌, All, length, true};
+ghost use Rattle.std.specs.Prelude.{◌≡◌, ◌<◌, ◌++◌, [], ◌∷◌, All, None, OnOk, length, map, true};
 ghost use Rattle.sc_lineage.specs.Meaning.{local_stream};
 ghost use Rattle.sc_lineage.specs.ScriptData.{WorkData};
 ghost use Rattle.sc_lineage.specs.Streams.{whole_stream};
+ghost use Rattle.sc_lineage.specs.Views.{place_data_of};
 ghost use Rattle.sc_compute.specs.Caching.{AreOwn, IsCachedPart, IsOwnPart, is_cache};
+ghost use Rattle.sc_compute.specs.Needs.{NotesOne, places_noted};
 ghost use Rattle.sc_compute.specs.Stages.{node_at};
 
 use crate::nodes::node_in;
@@ -22,43 +24,32 @@ pub struct CachedPart {
     pub rows: Rows,
 }
 
-/// What is known of partitions while a target is computed, and which of cache nodes are found.
+/// What is known of partitions while a target is computed, and which of cache nodes were computed.
 #[derive(Drop)]
 pub struct Caching<'a> {
     /// Those that needn't be computed.
     known: &'a [CachedPart],
-    /// Whether those that are computed are noted.
-    notes: bool,
     /// Those of cache nodes that were computed.
     fresh: Vec<CachedPart>,
 }
 
 impl<'a> Caching<'a> {
-    /// Nothing is noted.
-    pub fn unnoted(alloc: Global, known: &'a [CachedPart]) -> Caching<'a>
-        ensures { (work : WorkData) → All (IsOwnPart work) known.now → AreOwn work result }
+    /// Nothing was computed yet.
+    pub fn new(alloc: Global, known: &'a [CachedPart]) -> Caching<'a>
+        ensures own { (work : WorkData) → All (IsOwnPart work) known.now → AreOwn work result }
+        ensures known { result.known.now ≡ known.now }
+        ensures none { places_noted result ≡ [] }
     {
         Caching {
             known,
-            notes: false,
-            fresh: Vec::new(alloc),
-        }
-    }
-
-    /// All that is computed of cache nodes is noted.
-    pub fn noted(alloc: Global, known: &'a [CachedPart]) -> Caching<'a>
-        ensures { (work : WorkData) → All (IsOwnPart work) known.now → AreOwn work result }
-    {
-        Caching {
-            known,
-            notes: true,
             fresh: Vec::new(alloc),
         }
     }
 
     /// The partitions that needn't be computed.
     pub fn known(&self) -> &[CachedPart]
-        ensures { (work : WorkData) → AreOwn work self.now → All (IsOwnPart work) result.now }
+        ensures own { (work : WorkData) → AreOwn work self.now → All (IsOwnPart work) result.now }
+        ensures known { result.now ≡ self.now.known.now }
     {
         self.known
     }
@@ -69,8 +60,9 @@ impl<'a> Caching<'a> {
         requires stream { stream.now ≡ local_stream work.now at.node at.partition }
         requires own { AreOwn work.now self.old }
         ensures own { AreOwn work.now self.new }
+        ensures notes { OnOk result (NotesOne work.now (place_data_of at) self.old self.new) }
     {
-        if !self.notes || stream.raise.is_some() {
+        if stream.raise.is_some() {
             return Ok(());
         }
         match node_in(work, at.node) {
@@ -85,6 +77,9 @@ impl<'a> Caching<'a> {
         requires rows { local_stream work.now at.node at.partition ≡ whole_stream rows }
         requires own { AreOwn work.now self.old }
         ensures own { AreOwn work.now self.new }
+        ensures known { self.new.known.now ≡ self.old.known.now }
+        ensures one { OnOk result
+            (places_noted self.new ≡ places_noted self.old ++ place_data_of at ∷ []) }
     {
         self.fresh.push(CachedPart { at, rows })?;
         Ok(())
@@ -92,8 +87,9 @@ impl<'a> Caching<'a> {
 
     /// The partitions of cache nodes that were computed.
     pub fn fresh(self) -> Vec<CachedPart>
-        ensures { (work : WorkData) → AreOwn work self.entry
+        ensures own { (work : WorkData) → AreOwn work self.entry
             → All (IsCachedPart work) result.items }
+        ensures noted { result.items ≡ self.entry.fresh.items }
     {
         self.fresh
     }

@@ -1,14 +1,18 @@
 //! Streams that several dependencies read.
 #![tactic(auto)]
 
-ghost use Rattle.std.specs.Prelude.{◌≡◌, All, IfOk, IfSome};
+ghost use Rattle.std.specs.Prelude.{◌≡◌, ◌||◌, All, IfOk, IfSome, OnOk, is_some, true};
+ghost use Rattle.std.specs.HashMap.{get};
 ghost use Rattle.sc_lineage.specs.Meaning.{local_stream};
 ghost use Rattle.sc_lineage.specs.ScriptData.{WorkData};
+ghost use Rattle.sc_lineage.specs.Views.{place_data_of};
 ghost use Rattle.sc_compute.specs.Caching.{IsOwnPart};
-ghost use Rattle.sc_compute.specs.Keeping.{KeepsRight};
+ghost use Rattle.sc_compute.specs.Keeping.{AreOwnRows, Keeps, KeepsRight, Lessens, is_kept, is_known, same_place};
+ghost use Rattle.sc_compute.specs.Needs.{HasJust, KeepsNone, KnowsJust};
 
 use crate::caching::CachedPart;
 use crate::readers::readers;
+use sc_columns::Rows;
 use sc_lineage::{NodeId, Place, Stream, Work};
 use sc_ops::share_stream;
 use std::alloc::{AllocError, Global};
@@ -22,51 +26,108 @@ pub struct Kept {
     left: u32,
 }
 
-/// The streams of those nodes that several dependencies read, each from when it is computed until
-/// it is read for the last time.
+/// The streams that needn't be computed: those that are known, and of those nodes that several
+/// dependencies read each from when it is computed until it is read for the last time.
 #[derive(Drop)]
 pub struct KeptStreams {
     /// How many dependencies read each node.
     readers: Vec<u32>,
+    /// By node and partition, the rows that are known, however often they are read.
+    known: HashMap<(NodeId, u32), Rows>,
     /// By node and partition.
     streams: HashMap<(NodeId, u32), Kept>,
 }
 
 impl KeptStreams {
-    /// No streams yet, of those that a target needs.
-    pub fn new(alloc: Global, work: &Work, target: NodeId) -> Result<KeptStreams, AllocError>
-        ensures { IfOk result (KeepsRight work.now) }
+    /// What is known, and no other streams yet, of those that a target needs.
+    pub fn new(
+        alloc: Global,
+        work: &Work,
+        target: NodeId,
+        known: &[CachedPart],
+    ) -> Result<KeptStreams, AllocError>
+        requires own { All (IsOwnPart work.now) known.now }
+        ensures right { IfOk result (KeepsRight work.now) }
+        ensures just { IfOk result (λ kept. KnowsJust kept known.now) }
+        ensures none { IfOk result KeepsNone }
     {
         Ok(KeptStreams {
             readers: readers(alloc, work.script(), target)?,
+            known: by_place(alloc, work, known)?,
             streams: HashMap::new(alloc),
         })
     }
 
-    /// The stream of a partition, where it is kept: for good, where nothing is left to read it
-    /// again, else a share of it.
-    pub fn take(&mut self, at: Place) -> Result<Option<Stream>, AllocError>
-        ensures right { (work : WorkData) → KeepsRight work self.old → KeepsRight work self.new }
-        ensures stream { (work : WorkData) → KeepsRight work self.old → IfOk result
-            (λ o. IfSome o (λ s. s ≡ local_stream work at.node at.partition)) }
+    /// Whether the stream of a partition is known or kept.
+    pub fn has(&self, at: Place) -> bool
+        ensures { result ≡ (is_known self.now (place_data_of at)
+            || is_kept self.now (place_data_of at)) }
     {
-        let Some(kept) = self.remove(at) else {
-            return Ok(None);
-        };
-        let Kept { stream, left } = kept;
+        self.knows(at) || self.streams.contains_key(&(at.node, at.partition))
+    }
+
+    /// Whether the rows of a partition are known.
+    fn knows(&self, at: Place) -> bool
+        ensures { result ≡ is_known self.now (place_data_of at) }
+    {
+        self.known.contains_key(&(at.node, at.partition))
+    }
+
+    /// The stream of a partition that is known or kept: for good, where nothing is left to read it
+    /// again, else a share of it. A refused call may leave it kept no longer.
+    pub fn take(&mut self, at: Place) -> Result<Stream, AllocError>
+        requires had { (is_known self.old (place_data_of at)
+            || is_kept self.old (place_data_of at)) ≡ true }
+        ensures right { (work : WorkData) → KeepsRight work self.old → KeepsRight work self.new }
+        ensures stream { (work : WorkData) → KeepsRight work self.old
+            → IfOk result (λ s. s ≡ local_stream work at.node at.partition) }
+        ensures less { Lessens self.old self.new }
+    {
+        if self.knows(at) {
+            self.share_known(at)
+        } else {
+            self.take_kept(at)
+        }
+    }
+
+    /// A share of the rows of a partition that is known, as its stream.
+    fn share_known(&self, at: Place) -> Result<Stream, AllocError>
+        requires known { is_known self.now (place_data_of at) ≡ true }
+        ensures { (work : WorkData) → KeepsRight work self.now
+            → IfOk result (λ s. s ≡ local_stream work at.node at.partition) }
+    {
+        match self.known.get(&(at.node, at.partition)) {
+            Some(rows) => Ok(Stream {
+                rows: rows.share()?,
+                raise: None,
+            }),
+            None => unreachable!(),
+        }
+    }
+
+    /// The stream of a partition that is kept.
+    fn take_kept(&mut self, at: Place) -> Result<Stream, AllocError>
+        requires kept { is_kept self.old (place_data_of at) ≡ true }
+        ensures right { (work : WorkData) → KeepsRight work self.old → KeepsRight work self.new }
+        ensures stream { (work : WorkData) → KeepsRight work self.old
+            → IfOk result (λ s. s ≡ local_stream work at.node at.partition) }
+        ensures less { Lessens self.old self.new }
+    {
+        let Kept { stream, left } = self.remove(at);
         if left < 2 {
-            return Ok(Some(stream));
+            return Ok(stream);
         }
         let shared = share_stream(&stream)?;
         let left = left - 1;
         self.insert(at, Kept { stream, left })?;
-        Ok(Some(shared))
+        Ok(shared)
     }
 
     /// Keeps the stream of a partition, where it is to be read again.
     pub fn keep(&mut self, at: Place, stream: &Stream) -> Result<(), AllocError>
-        ensures { (work : WorkData) → stream.now ≡ local_stream work at.node at.partition
+        ensures right { (work : WorkData) → stream.now ≡ local_stream work at.node at.partition
             → KeepsRight work self.old → KeepsRight work self.new }
+        ensures keeps { Keeps (place_data_of at) self.old self.new }
     {
         let readers = self.readers_of(at.node);
         if readers < 2 {
@@ -75,21 +136,6 @@ impl KeptStreams {
         let stream = share_stream(stream)?;
         let left = readers - 1;
         self.insert(at, Kept { stream, left })
-    }
-
-    /// Keeps the streams of partitions that are known, however often they are read.
-    pub fn keep_known(&mut self, work: &Work, known: &[CachedPart]) -> Result<(), AllocError>
-        requires known { All (IsOwnPart work.now) known.now }
-        requires right { KeepsRight work.now self.old }
-        ensures right { KeepsRight work.now self.new }
-    {
-        for part in known {
-            let rows = part.rows.share()?;
-            let stream = Stream { rows, raise: None };
-            let left = u32::MAX;
-            self.insert(part.at, Kept { stream, left })?;
-        }
-        Ok(())
     }
 
     /// How many dependencies read a node.
@@ -101,20 +147,43 @@ impl KeptStreams {
     }
 
     /// What is kept of a partition, which it is then no longer.
-    fn remove(&mut self, at: Place) -> Option<Kept>
+    fn remove(&mut self, at: Place) -> Kept
+        requires kept { is_kept self.old (place_data_of at) ≡ true }
         ensures right { (work : WorkData) → KeepsRight work self.old → KeepsRight work self.new }
         ensures stream { (work : WorkData) → KeepsRight work self.old
-            → IfSome result (λ k. k.stream ≡ local_stream work at.node at.partition) }
+            → result.stream ≡ local_stream work at.node at.partition }
+        ensures less { Lessens self.old self.new }
     {
-        self.streams.remove(&(at.node, at.partition))
+        match self.streams.remove(&(at.node, at.partition)) {
+            Some(kept) => kept,
+            None => unreachable!(),
+        }
     }
 
     /// Keeps the stream of a partition.
     fn insert(&mut self, at: Place, kept: Kept) -> Result<(), AllocError>
-        ensures { (work : WorkData) → kept.stream ≡ local_stream work at.node at.partition
+        ensures right { (work : WorkData) → kept.stream ≡ local_stream work at.node at.partition
             → KeepsRight work self.old → KeepsRight work self.new }
+        ensures keeps { Keeps (place_data_of at) self.old self.new }
     {
         self.streams.insert((at.node, at.partition), kept)?;
         Ok(())
     }
+}
+
+/// The rows of partitions, by node and partition.
+fn by_place(
+    alloc: Global,
+    work: &Work,
+    parts: &[CachedPart],
+) -> Result<HashMap<(NodeId, u32), Rows>, AllocError>
+    requires own { All (IsOwnPart work.now) parts.now }
+    ensures own { IfOk result (λ m. AreOwnRows work.now (get same_place m)) }
+    ensures just { IfOk result (λ m. HasJust (get same_place m) parts.now) }
+{
+    let mut rows = HashMap::new(alloc);
+    for part in parts {
+        rows.insert((part.at.node, part.at.partition), part.rows.share()?)?;
+    }
+    Ok(rows)
 }

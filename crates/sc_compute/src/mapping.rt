@@ -1,13 +1,15 @@
 //! What goes into a shuffle from one map partition.
 #![tactic(auto)]
 
-ghost use Rattle.std.specs.Prelude.{◌≡◌, ◌<◌, IfOk, length};
+ghost use Rattle.std.specs.Prelude.{◌≡◌, ◌<◌, IfOk, OnOk, length};
 ghost use Rattle.sc_combine.specs.Deals.{IsDealt};
+ghost use Rattle.sc_lineage.specs.Dependencies.{place};
 ghost use Rattle.sc_lineage.specs.Shuffles.{dealing_of, map_side as map_side_of, stream_of_side};
 ghost use Rattle.sc_lineage.specs.Targets.{map_target, own_value};
 ghost use Rattle.sc_lineage.specs.Views.{partitioner_data_of, shuffling_data_of};
 ghost use Rattle.sc_combine.specs.Outputs.{dealing_of_node};
 ghost use Rattle.sc_compute.specs.Caching.{AreOwn};
+ghost use Rattle.sc_compute.specs.Needs.{Notes};
 ghost use Rattle.sc_compute.specs.Stages.{AreRight, HasBounds, HasMade, local_count, mapped_in, node_at};
 ghost use Rattle.sc_compute.specs.Tasks.{IsSideOf, LeavesSide};
 
@@ -42,6 +44,8 @@ pub fn map_output(
     requires told { HasBounds stages.now at.node (node_at work.now at.node) }
     requires own { AreOwn work.now caching.old }
     ensures own { AreOwn work.now caching.new }
+    ensures notes { OnOk result (Notes work.now
+        (place (mapped_in (node_at work.now at.node) at.side) map) caching.old caching.new) }
     ensures leaves { IfOk result (LeavesSide
         (dealing_of_node work.now (node_at work.now at.node)) map
         (own_value work.now (map_target at.node at.side map))) }

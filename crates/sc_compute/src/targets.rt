@@ -1,11 +1,13 @@
 //! What is computed as one task, and what a task leaves.
 #![tactic(auto)]
 
-ghost use Rattle.std.specs.Prelude.{◌≡◌, All, IfOk};
+ghost use Rattle.std.specs.Prelude.{◌≡◌, All, IfOk, OnOk};
 ghost use Rattle.sc_lineage.specs.Actions.{result_of};
 ghost use Rattle.sc_lineage.specs.ScriptData.{node_of_action};
 ghost use Rattle.sc_lineage.specs.Views.{action_data_of};
 ghost use Rattle.sc_compute.specs.Caching.{AreOwn, IsCachedPart, IsOwnPart};
+ghost use Rattle.sc_compute.specs.Asking.{place_taken};
+ghost use Rattle.sc_compute.specs.Needs.{AreFresh, Notes, places_in};
 ghost use Rattle.sc_compute.specs.Stages.{AreRight};
 ghost use Rattle.sc_compute.specs.Tasks.{HasAll, IsTargetOf, Leaves, target_data_of};
 
@@ -66,12 +68,13 @@ pub fn compute(
     ensures { IfOk result (Leaves work.now (target_data_of target.entry)) }
 {
     let none = Vec::new(alloc);
-    let mut caching = Caching::unnoted(alloc, &none);
-    left_by(alloc, work, stages, &mut caching, target)
+    let (computed, _) = compute_cached(alloc, work, stages, &none, target)?;
+    Ok(computed)
 }
 
 /// The same, where some partitions are known that are then not computed again, and beside it the
-/// partitions of cache nodes that were computed on the way, of which none raises.
+/// partitions of cache nodes that were computed on the way, of which none raises: exactly those that
+/// the target needs, where no other that is known stands between.
 pub fn compute_cached(
     alloc: Global,
     work: &Work,
@@ -84,9 +87,11 @@ pub fn compute_cached(
     requires made { HasAll work.now stages.now (target_data_of target) }
     requires known { All (IsOwnPart work.now) known.now }
     ensures leaves { IfOk result (λ both. Leaves work.now (target_data_of target.entry) both.0) }
-    ensures fresh { IfOk result (λ both. All (IsCachedPart work.now) both.1.items) }
+    ensures own { IfOk result (λ both. All (IsCachedPart work.now) both.1.items) }
+    ensures fresh { IfOk result (λ both. AreFresh work.now (places_in known.now)
+        (place_taken work.now (target_data_of target.entry)) (places_in both.1.items)) }
 {
-    let mut caching = Caching::noted(alloc, known);
+    let mut caching = Caching::new(alloc, known);
     let computed = left_by(alloc, work, stages, &mut caching, target)?;
     Ok((computed, caching.fresh()))
 }
@@ -104,6 +109,8 @@ fn left_by(
     requires made { HasAll work.now stages.now (target_data_of target) }
     requires own { AreOwn work.now caching.old }
     ensures own { AreOwn work.now caching.new }
+    ensures notes { OnOk result (Notes work.now
+        (place_taken work.now (target_data_of target.entry)) caching.old caching.new) }
     ensures leaves { IfOk result (Leaves work.now (target_data_of target.entry)) }
 {
     match target {

@@ -3,9 +3,8 @@ use Rattle.std.proofs.lemmas.List.Elements.{All-nil}
 use Rattle.sc_compute.specs.Caching.{IsOwnPart}
 use Rattle.sc_compute.proofs.targets.compute.Goals as goal
 
-pub left_by-requires-clause-own : goal.left_by-requires-clause-own
-left_by-requires-clause-own c =
+pub compute_cached-requires-clause-known : goal.compute_cached-requires-clause-known
+compute_cached-requires-clause-known c =
     let work = c.args.work.now in
-    c.unnoted-caching.ensures work
-    (subst (All (IsOwnPart work)) (sym (c.deref.ensures.value ∙ c.new-none.ensures.items))
-    (All-nil (IsOwnPart work)))
+    subst (All (IsOwnPart work)) (sym (c.deref.ensures.value ∙ c.new-none.ensures.items))
+    (All-nil (IsOwnPart work))
