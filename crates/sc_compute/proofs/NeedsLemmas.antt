@@ -206,7 +206,8 @@ pub fresh_from_none : (work : WorkData) (at : PlaceData) (first after : Caching)
     → AreFresh work (places_known first) at (places_noted after)
 fresh_from_none work at first after none notes p = (λ is. by (notes.only p is), notes.all p)
   where
-    by : (is_among (places_noted first) p ≡ true) ⊎ IsFresh work (is_among (places_known first)) at p
+    by : (is_among (places_noted first) p ≡ true)
+        ⊎ IsFresh work (is_among (places_known first)) at p
         → IsFresh work (is_among (places_known first)) at p
     by (inl before) = never true refl (sym (subst (λ ps. is_among ps p ≡ true) none before))
     by (inr fresh) = fresh

@@ -18,8 +18,8 @@ use sc_lineage::{Place, Stream, Work};
 use std::alloc::{AllocError, Global};
 
 /// The stream of a partition of a node for which all was made, for which each partition that it
-/// reads is computed once, and those that are known aren't computed. What is computed of cache nodes
-/// is noted.
+/// reads is computed once, and those that are known aren't computed. What is computed of cache
+/// nodes is noted.
 pub fn cached_stream(
     alloc: Global,
     work: &Work,

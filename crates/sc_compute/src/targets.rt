@@ -73,8 +73,8 @@ pub fn compute(
 }
 
 /// The same, where some partitions are known that are then not computed again, and beside it the
-/// partitions of cache nodes that were computed on the way, of which none raises: exactly those that
-/// the target needs, where no other that is known stands between.
+/// partitions of cache nodes that were computed on the way, of which none raises: exactly those
+/// that the target needs, where no other that is known stands between.
 pub fn compute_cached(
     alloc: Global,
     work: &Work,

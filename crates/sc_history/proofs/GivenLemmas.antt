@@ -210,7 +210,8 @@ unheard entries c event answer not_so = by event
     one : (a : AttemptId) (outcome : Outcome)
         → All (IfHeard entries) (telling a outcome answer ∷ [])
     one a outcome =
-        All-cons (IfHeard entries) (telling a outcome answer) [] (λ is_so. absurd (clash is_so not_so))
+        All-cons (IfHeard entries) (telling a outcome answer) []
+        (λ is_so. absurd (clash is_so not_so))
         (All-nil (IfHeard entries))
 
     late : (o : Option Shelved) → All (IfHeard entries) (told_late o answer)

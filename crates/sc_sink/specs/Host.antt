@@ -10,8 +10,8 @@ use Rattle.sc_sink.specs.declared.sink.SinkAnswer.TheVariants.{Written, Failed, 
 abbrev pub unseen_pieces : SinkState
 unseen_pieces = record { pieces = None; faults = 0 }
 
--- A write to the standard output, by its answer: nothing changes, or one more fault is counted, where
--- a count stands still at its type's last value.
+-- A write to the standard output, by its answer: nothing changes, or one more fault is counted,
+-- where a count stands still at its type's last value.
 abbrev pub WritesOut : SinkState → SinkState → SinkAnswer → Type 0
 WritesOut before after Written = after ≡ before
 WritesOut before after Failed = after ≡ record before { faults = counted before.faults }

@@ -173,8 +173,8 @@ impl<W: Naming> Store<W> {
     }
 
     /// Caches a partition, as the most recently used block. Where the cache was full and lacked the
-    /// name, the least recently used goes. A refused call changes nothing in the store, and the rows
-    /// are lost.
+    /// name, the least recently used goes. A refused call changes nothing in the store, and the
+    /// rows are lost.
     pub fn keep(&mut self, id: CachedId, rows: Rows) -> Result<(), AllocError>
         requires own { IsOwnPartition W.work id rows }
         ensures kept { OnOk result

@@ -14,7 +14,8 @@ loop-place-preserved t c =
     let now = c.loop-place.caching in
     let items = c.deref-place-items.result.now in
     let i = c.loop-place.place-index in
-    let lacks = lacks_known c.args.kept.now first at c.requires.knows (sym c.has.ensures ∙ c.if-has.false) in
+    let absent = sym c.has.ensures ∙ c.if-has.false in
+    let lacks = lacks_known c.args.kept.now first at c.requires.knows absent in
     record {
       right = c.stream_at.ensures.kept;
       known = c.stream_at.ensures.known ∙ c.loop-place.invariant.known;
