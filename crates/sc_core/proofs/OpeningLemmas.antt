@@ -163,7 +163,7 @@ one_sized stage t = by stage.target
     by (targets.Map shuffle) = room shuffle (has_room t shuffle) refl
     by (targets.Result node) = refl
 
-all_sized : (graph : List StageData) (t : TrackerData) → (sized_for_all t graph).trust ≡ t.trust
+pub all_sized : (graph : List StageData) (t : TrackerData) → (sized_for_all t graph).trust ≡ t.trust
 all_sized [] t = refl
 all_sized (stage ∷ graph) t = all_sized graph (sized_by t stage) ∙ one_sized stage t
 

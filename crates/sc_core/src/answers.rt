@@ -104,18 +104,6 @@ pub enum Answer {
 #[derive(Clone, Copy, Debug, PartialEq, Eq)]
 pub struct NotEnabled;
 
-impl Answer {
-    /// One more owner of what is answered.
-    pub fn share(&self) -> Result<Answer, AllocError>
-        ensures { IfOk result (λ a. a ≡ self.now) }
-    {
-        match self {
-            Answer::Task(hand_out) => Ok(Answer::Task(hand_out.share()?)),
-            _ => Ok(copied(self)),
-        }
-    }
-}
-
 /// An answer that hands out no task, once more.
 fn copied(answer: &Answer) -> Answer
     requires { has_task answer.now ≡ false }

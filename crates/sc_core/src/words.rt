@@ -133,7 +133,10 @@ impl fmt::Display for Why {
     fn fmt<W: fmt::Write>(&self, f: &mut fmt::Formatter<W>) -> fmt::Result {
         match self.cause {
             FailureCause::Planned => write!(f, "planned"),
-            FailureCause::Raised(raise) => write!(f, "raised {raise}"),
+            FailureCause::Raised(raise) => {
+                let name = raise.name();
+                write!(f, "raised {name}")
+            }
             FailureCause::Device(fault) => {
                 let failed = Failed { fault };
                 write!(f, "{failed}")

@@ -5,8 +5,7 @@ ghost use Rattle.std.specs.Prelude.{◌≡◌};
 ghost use Rattle.sc_expr.specs.RaiseTexts.{raise_text};
 
 use sc_value::Text;
-use std::error::Error;
-use std::fmt;
+use thiserror::Error;
 
 /// A variable of an expression.
 #[derive(Clone, Copy, Debug, PartialEq, Eq)]
@@ -88,13 +87,16 @@ pub enum Expr {
 }
 
 /// Why an expression has no value.
-#[derive(Clone, Copy, Debug, PartialEq, Eq)]
+#[derive(Clone, Copy, Debug, PartialEq, Eq, Error)]
 pub enum Raise {
     /// A division by zero.
+    #[error("DivideByZero")]
     DivideByZero,
     /// A text that should write a number and doesn't.
+    #[error("NotANumber")]
     NotANumber,
     /// A place outside a list, or a number past 64 bits.
+    #[error("OutOfRange")]
     OutOfRange,
 }
 
@@ -110,17 +112,3 @@ impl Raise {
         }
     }
 }
-
-impl fmt::Display for Raise {
-    ghost use Rattle.std.specs.Prelude.{Some};
-    ghost use Rattle.sc_expr.specs.RaiseTexts.{raise_text};
-
-    ghost output = { λ raise. Some (raise_text raise) };
-
-    fn fmt<W: fmt::Write>(&self, f: &mut fmt::Formatter<W>) -> fmt::Result {
-        let name = self.name();
-        write!(f, "{name}")
-    }
-}
-
-impl Error for Raise {}

@@ -63,11 +63,11 @@ maps_room c after r loc answer (next, up, says, is) =
     mid : DagData
     mid = after_map_success c.dag r.hand_out.attempt loc r.hand_out.epoch c.now
 
-results_room : (c after : CoreData) (r : Running) (answer : Answer)
-    → TellsResult c r answer after → KeepsRoom c after
-results_room c after r answer (says, is) =
-    same_room c.dag.tracker after.dag.tracker
-    (ap (λ (z : CoreData). z.dag.tracker) is ∙ by (result_success_of c.dag a))
+-- a result changes nothing of what is known of map outputs
+pub results_same : (c after : CoreData) (r : Running) (answer : Answer)
+    → TellsResult c r answer after → after.dag.tracker ≡ c.dag.tracker
+results_same c after r answer (told, is) =
+    ap (λ (z : CoreData). z.dag.tracker) is ∙ by (result_success_of c.dag a)
   where
     a : AttemptId
     a = r.hand_out.attempt
@@ -90,6 +90,11 @@ results_room c after r answer (says, is) =
     by successes.Registered = won
     by successes.Bogus = won
     by successes.Finished = won
+
+results_room : (c after : CoreData) (r : Running) (answer : Answer)
+    → TellsResult c r answer after → KeepsRoom c after
+results_room c after r answer told =
+    same_room c.dag.tracker after.dag.tracker (results_same c after r answer told)
 
 misses_room : (c after : CoreData) (a : AttemptId) (answer : Answer)
     → Misses c a answer after → KeepsRoom c after

@@ -3,16 +3,11 @@ use Rattle.std.proofs.Common.{◌≡◌, ◌≢◌, inl, inr, ℕ, zero, suc, �
 use Rattle.std.proofs.lemmas.List.{length-replicate}
 use Rattle.sc_ids.specs.Changes.{change_at}
 use Rattle.sc_ids.specs.Graphs.{StageData}
-use Rattle.sc_ids.specs.declared.blocks.ShuffleId.{ShuffleId}
-use Rattle.sc_ids.specs.declared.blocks.Target.{Target}
-use Rattle.sc_ids.specs.declared.blocks.Target.TheVariants as targets
 use Rattle.sc_ids.proofs.ChangeLemmas.{length_change_at}
 use Rattle.sc_tracker.specs.TrackerData.{TrackerData}
-use Rattle.sc_tracker.specs.Tracking.{has_room, sized}
 use Rattle.sc_tracker.specs.Trust.{are_lost, seen_at, trust_at, untold}
 use Rattle.sc_tracker.specs.declared.trust.Trust.{Trust}
 use Rattle.sc_dag.specs.DagData.{DagData}
-use Rattle.sc_dag.specs.Openings.{sized_by, sized_for_all}
 use Rattle.sc_dag.specs.Submission.{IsSubmitted, this_stage}
 use Rattle.sc_core.specs.CoreData.{CoreData, is_running_job, result_stage}
 use Rattle.sc_core.specs.Losses.{LosesOrAborts, without_executor}
@@ -25,6 +20,7 @@ use Rattle.sc_core.specs.declared.answers.JobState.TheVariants as jobs
 use Rattle.sc_core.specs.declared.events.Event.{Event}
 use Rattle.sc_core.specs.declared.events.Event.TheVariants.{Post, Release, Side, Take, TellLost}
 use Rattle.sc_core.proofs.LawLemmas.{steps_keep_sound}
+use Rattle.sc_core.proofs.OpeningLemmas.{all_sized}
 use Rattle.sc_history.specs.Staffing.{FirstIsStaffed, HasLive, IsStaffed, OpeningsAreStaffed, ReplaysKeepStaffed, StepsKeepStaffed}
 use Rattle.sc_history.proofs.Closing.{ended_stays}
 use Rattle.sc_history.proofs.TrackerLemmas.{Learns, TellsNoLoss, others_count}
@@ -132,23 +128,6 @@ replays_keep_staffed opening end (entry ∷ entries) sound (mid, step, rest) sta
     (steps_keep_staffed opening mid entry.event entry.answer sound step staffed)
 
 -- ---- openings
-
--- room for outputs says nothing of executors
-one_sized : (stage : StageData) (t : TrackerData) → (sized_by t stage).trust ≡ t.trust
-one_sized stage t = by stage.target
-  where
-    room : (shuffle : ShuffleId) (b : Bool) → has_room t shuffle ≡ b
-        → (sized t shuffle stage.tasks).trust ≡ t.trust
-    room shuffle true e = rw e refl
-    room shuffle false e = rw e refl
-
-    by : (target : Target) → (sized_by t (record stage { target = target })).trust ≡ t.trust
-    by (targets.Map shuffle) = room shuffle (has_room t shuffle) refl
-    by (targets.Result node) = refl
-
-all_sized : (graph : List StageData) (t : TrackerData) → (sized_for_all t graph).trust ≡ t.trust
-all_sized [] t = refl
-all_sized (stage ∷ graph) t = all_sized graph (sized_by t stage) ∙ one_sized stage t
 
 pub openings_are_staffed : OpeningsAreStaffed
 openings_are_staffed graph limits saved plan last c live o =

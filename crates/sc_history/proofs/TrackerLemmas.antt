@@ -44,7 +44,7 @@ use Rattle.sc_history.specs.Tellings.{is_heard, telling, tellings_in, told_late}
 use Rattle.sc_history.specs.Trackers.{EpochsCount, LosesOne, RegistersOwn, SeesNewer, StepsCountEpochs, StepsTrack, Tracks, finds_newer, forgets, shows_newer, tells_newer, times_forgotten}
 use Rattle.sc_history.proofs.CauseCases.{CauseIs, cause_is, gone_reaches_none, tells_heard}
 use Rattle.sc_history.proofs.Events.{Comes, IsHeard, IsKnown, losses_come, posts_come, releases_come}
-use Rattle.sc_history.proofs.RoomLemmas.{all_tracker, released_tracker}
+use Rattle.sc_history.proofs.RoomLemmas.{all_tracker, released_tracker, results_same}
 use Rattle.sc_history.proofs.StageRoomLemmas.{both_tracker, result_tracker}
 
 -- ---- stages
@@ -119,33 +119,6 @@ maps_track c after r loc answer (next, up, told, is) =
     a = r.hand_out.attempt
 
 -- ---- other reports
-
-results_same : (c after : CoreData) (r : Running) (answer : Answer)
-    → TellsResult c r answer after → after.dag.tracker ≡ c.dag.tracker
-results_same c after r answer (told, is) =
-    ap (λ (z : CoreData). z.dag.tracker) is ∙ by (result_success_of c.dag a)
-  where
-    a : AttemptId
-    a = r.hand_out.attempt
-
-    freed : CoreData
-    freed = released c r.hand_out.attempt endings.Succeeded
-
-    done : (b : Bool) (m : CoreData) → (done_if b m).dag.tracker ≡ m.dag.tracker
-    done true m = refl
-    done false m = refl
-
-    won : (done_if (is_complete (with_result_of freed a).dag a.stage)
-        (with_result_of freed a)).dag.tracker ≡ c.dag.tracker
-    won =
-        done (is_complete (with_result_of freed a).dag a.stage) (with_result_of freed a)
-        ∙ result_tracker freed.dag a freed.now ∙ released_tracker c a endings.Succeeded
-
-    by : (s : Success) → (after_result s c a).dag.tracker ≡ c.dag.tracker
-    by successes.Repeated = result_tracker c.dag a c.now
-    by successes.Registered = won
-    by successes.Bogus = won
-    by successes.Finished = won
 
 pub misses_same : (c after : CoreData) (a : AttemptId) (answer : Answer)
     → Misses c a answer after → after.dag.tracker ≡ c.dag.tracker

@@ -1,5 +1,5 @@
 -- What is cut for a goal is a job of the work.
-use Rattle.std.proofs.Common.{◌≡◌, ◌≢◌, ◌∙◌, ℕ, ◌<◌, true, List, [], ◌∷◌, ◌++◌, refl, ap, sym, subst, arith}
+use Rattle.std.proofs.Common.{◌≡◌, ◌≢◌, ◌∙◌, ℕ, ◌+◌, ◌<◌, true, List, [], ◌∷◌, ◌++◌, refl, ap, sym, subst, arith}
 use Rattle.std.proofs.lemmas.List.Elements.{All-append, All-cons, All-contains, All-contains_itself, All-nil, All-weaker}
 use Rattle.std.proofs.lemmas.List.Kept.{AllPairs-cons, AllPairs-filter}
 use Rattle.std.specs.List.{All, AllPairs, AllZip, Contains}
@@ -14,7 +14,7 @@ use Rattle.sc_lineage.proofs.CountLemmas.{counts_are_within}
 use Rattle.sc_stagecut.specs.Carrying.{CarriedData, IsCarriedFor}
 use Rattle.sc_stagecut.specs.Cuts.{IsCut, IsMapStage}
 use Rattle.sc_stagecut.specs.CutLaws.{IsLawfulCut}
-use Rattle.sc_stagecut.specs.Numbering.{is_shuffle}
+use Rattle.sc_stagecut.specs.Numbering.{in_side_order, is_shuffle}
 use Rattle.sc_stagecut.specs.declared.carried.Numbered.{Numbered}
 use Rattle.sc_stagecut.proofs.JobLemmas.{kept_there, once_with}
 use Rattle.sc_stagecut.proofs.LawLemmas.{cuts_are_lawful}
@@ -65,6 +65,10 @@ module _ (work : WorkData) (sound : IsSoundScript work.script) (carried : Carrie
   abbrev node : ℕ
   node = goal_node work goal
 
+  -- the numbered shuffles in the order of (node, side)
+  abbrev ordered : List Numbered
+  ordered = in_side_order (node + 1) cut.numbers
+
   pub lawful : IsLawfulCut nodes carried node graph
   lawful = cuts_are_lawful work carried node graph sound known cut
 
@@ -74,12 +78,12 @@ module _ (work : WorkData) (sound : IsSoundScript work.script) (carried : Carrie
   -- each map stage is that of a number
   of_number : (P : StageData → Type 0)
       → ((n : Numbered) (stage : StageData) → is_shuffle nodes n.shuffle ≡ true
-      → IsMapStage work cut.numbers n stage → P stage)
+      → IsMapStage work ordered n stage → P stage)
       → All P cut.maps
   of_number P holds =
       All-weaker (Contains cut.maps) P
       (λ stage c.
-      let one = zip_from (IsMapStage work cut.numbers) cut.numbers cut.maps stage cut.are_maps c in
+      let one = zip_from (IsMapStage work ordered) cut.numbers cut.maps stage cut.are_maps c in
       let number = All-contains
       (IsNumber work.script sound carried node cut.numbers cut.next cut.are_numbers known)
       cut.numbers one.0
@@ -95,7 +99,7 @@ module _ (work : WorkData) (sound : IsSoundScript work.script) (carried : Carrie
 
   -- the tasks of a map stage are those of its shuffle
   tasks_of_map : (n : Numbered) (stage : StageData) → is_shuffle nodes n.shuffle ≡ true
-      → IsMapStage work cut.numbers n stage → IsStageFor work goal stage
+      → IsMapStage work ordered n stage → IsStageFor work goal stage
   tasks_of_map n stage shuffle made =
       let P : Target → Type 0 = λ t. AreTasksFor work goal t stage.tasks in
       subst P (sym made.makes) (
@@ -140,7 +144,7 @@ module _ (work : WorkData) (sound : IsSoundScript work.script) (carried : Carrie
 
   maps_apart : AllPairs Apart cut.maps
   maps_apart =
-      beside_pairs (λ m n. m.shuffle ≢ n.shuffle) (IsMapStage work cut.numbers) Apart
+      beside_pairs (λ m n. m.shuffle ≢ n.shuffle) (IsMapStage work ordered) Apart
       (λ m n a b other first second s of_a of_b.
       other (of_map (sym first.makes ∙ of_a ∙ sym of_b ∙ second.makes)))
       cut.numbers cut.maps cut.are_maps numbers_once

@@ -1,5 +1,5 @@
 -- A cut that was made of its parts.
-use Rattle.std.proofs.Common.{◌≡◌, ◌∙◌, ℕ, ◌<◌, true, List, [], ◌∷◌, ◌++◌, length, All, refl, ap, sym, subst}
+use Rattle.std.proofs.Common.{◌≡◌, ◌∙◌, ℕ, ◌+◌, ◌<◌, true, List, [], ◌∷◌, ◌++◌, length, All, refl, ap, sym, subst}
 use Rattle.std.specs.List.{AllZip}
 use Rattle.sc_base.specs.Lists.{at_or}
 use Rattle.sc_ids.specs.Graphs.{StageData}
@@ -10,7 +10,7 @@ use Rattle.sc_lineage.specs.ScriptData.{ScriptData, WorkData, IsSoundScript}
 use Rattle.sc_stagecut.specs.Carrying.{AreRightBounds, CarriedData, HasBounds, IsCarriedFor}
 use Rattle.sc_stagecut.specs.Counting.{IsCountedStage, counted_step}
 use Rattle.sc_stagecut.specs.Cuts.{AreNumbers, IsCut, IsStage}
-use Rattle.sc_stagecut.specs.Numbering.{is_shuffle}
+use Rattle.sc_stagecut.specs.Numbering.{in_side_order, is_shuffle}
 use Rattle.sc_stagecut.specs.Reaching.{IsReached}
 use Rattle.sc_stagecut.specs.declared.carried.Numbered.{Numbered}
 use Rattle.sc_stagecut.proofs.CountLemmas.{counts_right}
@@ -39,13 +39,15 @@ module _ (work : WorkData) (carried : CarriedData) (node : ℕ) (sound : IsSound
     pub are_numbers : AreNumbers script.nodes carried node numbers next
     pub counts : List ℕ
     pub counted : counts ≡ by_nodes (counted_step carried.bounds) script.nodes
-    pub are_maps : AllZip (IsCountedStage script.nodes counts numbers) numbers maps
-    pub is_result : IsStage script.nodes numbers next (targets.Result node) node
-        (at_or counts node 0) result
+    pub are_maps : AllZip (IsCountedStage script.nodes counts (in_side_order (node + 1) numbers))
+        numbers maps
+    pub is_result : IsStage script.nodes (in_side_order (node + 1) numbers) next
+        (targets.Result node) node (at_or counts node 0) result
 
   made : graph ≡ maps ++ result ∷ [] → IsMade work.script → IsCut work carried node graph
   made all parts =
       let nodes = work.script.nodes in
+      let ordered = in_side_order (node + 1) numbers in
       let right : (k : ℕ) → IsReached nodes node k
       → at_or parts.counts k 0 ≡ part_count_by (known_of work) work k =
       λ k reach. ap (λ (cs : List ℕ). at_or cs k 0) parts.counted
@@ -59,10 +61,10 @@ module _ (work : WorkData) (carried : CarriedData) (node : ℕ) (sound : IsSound
         result = result;
         all = all;
         are_maps =
-            map_stages-meant work sound node parts.counts numbers maps right
+            map_stages-meant work sound node parts.counts ordered numbers maps right
             (λ i d at. ((are i d at).shuffle, (are i d at).reached)) parts.are_maps;
         is_result =
-            recounted nodes numbers next (targets.Result node) node result
+            recounted nodes ordered next (targets.Result node) node result
             (at_or parts.counts node 0) (part_count_by (known_of work) work node)
             (right node ([], refl)) parts.is_result;
       }

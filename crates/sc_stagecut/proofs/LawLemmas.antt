@@ -35,6 +35,10 @@ module _ (work : WorkData) (sound : IsSoundScript work.script) (carried : Carrie
   abbrev fresh : List Numbered
   fresh = numbered_from carried.next cut.are_numbers.fresh
 
+  -- the numbered shuffles in the order of (node, side)
+  abbrev ordered : List Numbered
+  ordered = in_side_order (node + 1) cut.numbers
+
   in_graph : (stage : StageData) → Contains (cut.maps ++ cut.result ∷ []) stage
       → Contains graph stage
   in_graph stage c =
@@ -49,7 +53,7 @@ module _ (work : WorkData) (sound : IsSoundScript work.script) (carried : Carrie
   -- the stage of a number
   stage_of : (n : Numbered) → Contains cut.numbers n → HasStage graph n.shuffle n.stage
   stage_of n c =
-      let one = zip_beside (IsMapStage work cut.numbers) cut.numbers cut.maps n cut.are_maps c in (
+      let one = zip_beside (IsMapStage work ordered) cut.numbers cut.maps n cut.are_maps c in (
         one.0,
         in_graph one.0 (Contains-append_left cut.maps (cut.result ∷ []) one.0 one.1),
         one.2.makes,
@@ -72,7 +76,7 @@ module _ (work : WorkData) (sound : IsSoundScript work.script) (carried : Carrie
     where
       by : Contains cut.maps has.0 ⊎ Contains (cut.result ∷ []) has.0 → HasNumber s id
       by (inl c) =
-          let one = zip_from (IsMapStage work cut.numbers) cut.numbers cut.maps has.0 cut.are_maps c
+          let one = zip_from (IsMapStage work ordered) cut.numbers cut.maps has.0 cut.are_maps c
           in
           (one.0, one.1, made_for (sym one.2.makes ∙ has.2), sym one.2.is_numbered ∙ has.3)
         where
@@ -86,7 +90,7 @@ module _ (work : WorkData) (sound : IsSoundScript work.script) (carried : Carrie
 
   -- the parents of a stage that takes the partitions of a node
   parents_are : (id : ℕ) (target : Target) (from count : ℕ) (stage : StageData)
-      → IsStage nodes cut.numbers id target from count stage → taken_node nodes target ≡ from
+      → IsStage nodes ordered id target from count stage → taken_node nodes target ≡ from
       → (p : ℕ) → Contains stage.parents p ↔ IsOfRead nodes graph stage.target p
   parents_are id target from count stage is takes p = (there, back)
     where
@@ -99,9 +103,9 @@ module _ (work : WorkData) (sound : IsSoundScript work.script) (carried : Carrie
           let one = Contains-from_map (λ (n : Numbered). n.stage) is.read p
           (subst Q is.parents c) in
           let S : List Numbered → Type 0 = λ ms. Contains ms one.0 in
-          let both = Contains-from_filter is.are_read.0 (in_side_order (from + 1) cut.numbers) one.0
+          let both = Contains-from_filter is.are_read.0 ordered one.0
           (subst S is.are_read.2 one.1) in
-          let listed = in_side_order_from (from + 1) cut.numbers one.0 both.0 in
+          let listed = in_side_order_from (node + 1) cut.numbers one.0 both.0 in
           let within = (is.are_read.1 one.0).0 both.1 in
           let number = All-contains
           (IsNumber work.script sound carried node cut.numbers cut.next cut.are_numbers known)
@@ -124,12 +128,17 @@ module _ (work : WorkData) (sound : IsSoundScript work.script) (carried : Carrie
           let within = subst V (sym one.2) (subst W at read.2) in
           let S : List Numbered → Type 0 = λ ms. Contains ms one.0 in
           let T : ShuffleId → Type 0 = λ s. is_shuffle nodes s ≡ true in
-          let low = reaches-below (followed_from follows.Narrow nodes) from
-          (followed_before work.script sound follows.Narrow) one.0.shuffle.node within in
-          let listed = in_side_order_there (from + 1) cut.numbers one.0 (omega (arith, low))
+          let number = All-contains
+          (IsNumber work.script sound carried node cut.numbers cut.next cut.are_numbers known)
+          cut.numbers one.0
+          (numbers_are work.script sound carried node cut.numbers cut.next cut.are_numbers known)
+          one.1 in
+          let low = reaches-below (followed_from follows.Every nodes) node
+          (followed_before work.script sound follows.Every) one.0.shuffle.node number.reached in
+          let listed = in_side_order_there (node + 1) cut.numbers one.0 (omega (arith, low))
           (shuffle_side nodes one.0.shuffle (subst T (sym one.2) read.1)) one.1 in
           let kept = subst S (sym is.are_read.2)
-          (Contains-filter is.are_read.0 (in_side_order (from + 1) cut.numbers) one.0 listed
+          (Contains-filter is.are_read.0 ordered one.0 listed
           ((is.are_read.1 one.0).1 within)) in
           let Q : List ℕ → Type 0 = λ ps. Contains ps p in
           let P : ℕ → Type 0 = λ k. Contains (map (λ (n : Numbered). n.stage) is.read) k in
@@ -143,7 +152,7 @@ module _ (work : WorkData) (sound : IsSoundScript work.script) (carried : Carrie
       by : Contains cut.maps stage ⊎ Contains (cut.result ∷ []) stage
           → Contains stage.parents p ↔ IsOfRead nodes graph stage.target p
       by (inl at) =
-          let one = zip_from (IsMapStage work cut.numbers) cut.numbers cut.maps stage
+          let one = zip_from (IsMapStage work ordered) cut.numbers cut.maps stage
           cut.are_maps at in
           parents_are one.0.stage (targets.Map one.0.shuffle) (mapped_node nodes one.0.shuffle)
           (part_count_by (known_of work) work (mapped_node nodes one.0.shuffle)) stage one.2 refl p
@@ -156,7 +165,7 @@ module _ (work : WorkData) (sound : IsSoundScript work.script) (carried : Carrie
 
   -- parents of a stage are numbers with something
   each_parent : (P : ℕ → Type 0) (id : ℕ) (target : Target) (from count : ℕ) (stage : StageData)
-      → IsStage nodes cut.numbers id target from count stage
+      → IsStage nodes ordered id target from count stage
       → ((m : Numbered) → Contains cut.numbers m → IsWithin nodes from m.shuffle.node → P m.stage)
       → All P stage.parents
   each_parent P id target from count stage is holds =
@@ -166,9 +175,9 @@ module _ (work : WorkData) (sound : IsSoundScript work.script) (carried : Carrie
       let Q : List ℕ → Type 0 = λ ps. Contains ps p in
       let one = Contains-from_map (λ (n : Numbered). n.stage) is.read p (subst Q is.parents c) in
       let S : List Numbered → Type 0 = λ ms. Contains ms one.0 in
-      let both = Contains-from_filter is.are_read.0 (in_side_order (from + 1) cut.numbers) one.0
+      let both = Contains-from_filter is.are_read.0 ordered one.0
       (subst S is.are_read.2 one.1) in
-      let listed = in_side_order_from (from + 1) cut.numbers one.0 both.0 in
+      let listed = in_side_order_from (node + 1) cut.numbers one.0 both.0 in
       subst P one.2 (holds one.0 listed ((is.are_read.1 one.0).0 both.1)))
       stage.parents (All-contains_itself stage.parents)
 
@@ -187,7 +196,7 @@ module _ (work : WorkData) (sound : IsSoundScript work.script) (carried : Carrie
       by : Contains cut.maps stage ⊎ Contains (cut.result ∷ []) stage
           → All (λ p. p < stage.id) stage.parents
       by (inl at) =
-          let one = zip_from (IsMapStage work cut.numbers) cut.numbers cut.maps stage
+          let one = zip_from (IsMapStage work ordered) cut.numbers cut.maps stage
           cut.are_maps at in
           let n = one.0 in
           let id = one.2.is_numbered in
@@ -224,7 +233,7 @@ module _ (work : WorkData) (sound : IsSoundScript work.script) (carried : Carrie
       (AllPairs-cons R cut.result [] (All-nil (R cut.result)) none)
       (All-weaker (Contains cut.maps) (λ a. All (R a) (cut.result ∷ []))
       (λ a c.
-      let one = zip_from (IsMapStage work cut.numbers) cut.numbers cut.maps a cut.are_maps c in
+      let one = zip_from (IsMapStage work ordered) cut.numbers cut.maps a cut.are_maps c in
       let id = one.2.is_numbered in
       let less = All-contains (λ n. n.stage < cut.next) cut.numbers one.0
       (numbers_given work.script sound carried node cut.numbers cut.next cut.are_numbers known)

@@ -164,20 +164,20 @@ recounted nodes numbers id target node stage count other same is =
 
 -- map stages by counts that are right at what is reached
 pub map_stages-meant : (work : WorkData) (sound : IsSoundScript work.script) (node : ℕ)
-    (counts : List ℕ) (numbers : List Numbered) (maps : List StageData)
+    (counts : List ℕ) (ordered numbers : List Numbered) (maps : List StageData)
     → ((k : ℕ) → IsReached work.script.nodes node k
     → at_or counts k 0 ≡ part_count_by (known_of work) work k)
     → All (λ n. (is_shuffle work.script.nodes n.shuffle ≡ true)
     × IsReached work.script.nodes node n.shuffle.node) numbers
-    → AllZip (IsCountedStage work.script.nodes counts numbers) numbers maps
-    → AllZip (IsMapStage work numbers) numbers maps
-map_stages-meant work sound node counts numbers maps right are zip =
+    → AllZip (IsCountedStage work.script.nodes counts ordered) numbers maps
+    → AllZip (IsMapStage work ordered) numbers maps
+map_stages-meant work sound node counts ordered numbers maps right are zip =
     let nodes = work.script.nodes in
     AllZip-weaker
     (λ n. (is_shuffle nodes n.shuffle ≡ true) × IsReached nodes node n.shuffle.node)
-    (IsCountedStage nodes counts numbers) (IsMapStage work numbers)
+    (IsCountedStage nodes counts ordered) (IsMapStage work ordered)
     (λ n stage is counted.
-    recounted nodes numbers n.stage (targets.Map n.shuffle) (mapped_node nodes n.shuffle) stage
+    recounted nodes ordered n.stage (targets.Map n.shuffle) (mapped_node nodes n.shuffle) stage
     (at_or counts (mapped_node nodes n.shuffle) 0)
     (part_count_by (known_of work) work (mapped_node nodes n.shuffle))
     (right (mapped_node nodes n.shuffle)

@@ -32,17 +32,15 @@ pub record AreNumbers (nodes : List NodeData) (carried : CarriedData) (node : �
   pub all : numbers ≡ kept ++ numbered_from carried.next fresh
   pub behind : next ≡ carried.next + length fresh
 
--- A stage whose tasks take the partitions of a node, so many, among the numbers of a job's stages.
--- Its parents are the stages of the shuffles that its tasks read, in the order of (node, side),
--- whichever job gave them their numbers.
+-- A stage whose tasks take the partitions of a node, so many, among the numbered shuffles of a job.
+-- Its parents are the stages of those that its tasks read, in the same order.
 pub record IsStage (nodes : List NodeData) (numbers : List Numbered) (id : ℕ) (target : Target)
     (node count : ℕ) (stage : StageData) : Type 0 where
   pub is_numbered : stage.id ≡ id
   pub makes : stage.target ≡ target
   pub counted : stage.tasks ≡ count
   pub read : List Numbered
-  pub are_read : AreThose (λ n. IsWithin nodes node n.shuffle.node)
-      (in_side_order (node + 1) numbers) read
+  pub are_read : AreThose (λ n. IsWithin nodes node n.shuffle.node) numbers read
   pub parents : stage.parents ≡ map (λ n. n.stage) read
 
 -- the map stage of a numbered shuffle has a task for each partition of the parent
@@ -54,7 +52,7 @@ IsMapStage work numbers n stage =
 
 -- The stages of a job that begins at a node: a map stage for each shuffle that the node reaches,
 -- in the order of their numbers, and then the result stage, with a task for each partition of the
--- node.
+-- node. The parents of each are in the order of (node, side), whichever job gave them their numbers.
 pub record IsCut (work : WorkData) (carried : CarriedData) (node : ℕ) (graph : List StageData)
     : Type 0 where
   pub numbers : List Numbered
@@ -63,6 +61,6 @@ pub record IsCut (work : WorkData) (carried : CarriedData) (node : ℕ) (graph :
   pub maps : List StageData
   pub result : StageData
   pub all : graph ≡ maps ++ result ∷ []
-  pub are_maps : AllZip (IsMapStage work numbers) numbers maps
-  pub is_result : IsStage work.script.nodes numbers next (targets.Result node) node
-      (part_count_by (known_of work) work node) result
+  pub are_maps : AllZip (IsMapStage work (in_side_order (node + 1) numbers)) numbers maps
+  pub is_result : IsStage work.script.nodes (in_side_order (node + 1) numbers) next
+      (targets.Result node) node (part_count_by (known_of work) work node) result

@@ -8,7 +8,7 @@ ghost use Rattle.sc_stagecut.specs.Cuts.{IsCut};
 use crate::carried::Carried;
 use crate::counts::counts;
 use crate::numbers::{numbers, stage_id};
-use crate::stages::{map_stages, stage};
+use crate::stages::{in_side_order, map_stages, stage};
 use sc_ids::{StageGraph, Target};
 use sc_lineage::{NodeId, Work};
 use std::alloc::{AllocError, Global};
@@ -36,9 +36,11 @@ pub fn cut(
     let counts = counted.as_slice();
     let numbered = numbers(alloc, script, node, carried)?;
     let numbers = numbered.stages.as_slice();
-    let mut graph = map_stages(alloc, script, counts, numbers)?;
+    let ordered = in_side_order(alloc, node, numbers)?;
+    let read = ordered.as_slice();
+    let mut graph = map_stages(alloc, script, counts, numbers, read)?;
     let id = stage_id(numbered.next)?;
     let target = Target::Result { node };
-    graph.push(stage(alloc, script, counts, numbers, id, target, node)?)?;
+    graph.push(stage(alloc, script, counts, read, id, target, node)?)?;
     Ok(graph)
 }

@@ -18,29 +18,31 @@ use sc_ids::{ShuffleId, Stage, StageGraph, StageId, Target};
 use sc_lineage::{NodeId, Script, count_at};
 use std::alloc::{AllocError, Global};
 
-/// The map stages of numbered shuffles, where `counts` has the number of partitions of each node.
+/// The map stages of numbered shuffles, where `counts` has the number of partitions of each node,
+/// and `ordered` the numbered shuffles in the order of node and side.
 pub(crate) fn map_stages(
     alloc: Global,
     script: &Script,
     counts: &[u32],
     numbers: &[Numbered],
+    ordered: &[Numbered],
 ) -> Result<StageGraph, AllocError>
     requires sound { IsSoundScript script.now }
     requires shuffles { All (λ n. is_shuffle script.now.nodes n.shuffle ≡ true) numbers.now }
     ensures { IfOk result (λ graph. AllZip
-        (IsCountedStage script.now.nodes counts.now numbers.now) numbers.now graph) }
+        (IsCountedStage script.now.nodes counts.now ordered.now) numbers.now graph) }
 {
     let mut graph = StageGraph::new(alloc);
     for numbered in numbers {
         let target = Target::Map(numbered.shuffle);
         let node = mapped_node(script, numbered.shuffle);
-        graph.push(stage(alloc, script, counts, numbers, numbered.stage, target, node)?)?;
+        graph.push(stage(alloc, script, counts, ordered, numbered.stage, target, node)?)?;
     }
     Ok(graph)
 }
 
 /// A stage whose tasks take the partitions of a node. Its parents are those of the numbered
-/// shuffles that the node reads with no other shuffle between, in the order of node and side.
+/// shuffles that the node reads with no other shuffle between, in the order of these.
 pub(crate) fn stage(
     alloc: Global,
     script: &Script,
@@ -55,13 +57,12 @@ pub(crate) fn stage(
         IsStage script.now.nodes numbers.now id target node (at_or counts.now node 0) s) }
 {
     let marks = reached(alloc, script, node, Follow::Narrow)?;
-    let ordered = in_side_order(alloc, node, numbers)?;
-    let parents = marked_stages(alloc, ordered.as_slice(), marks.as_slice())?;
+    let parents = marked_stages(alloc, numbers, marks.as_slice())?;
     Ok(Stage::new(id, target, count_at(counts, node), parents))
 }
 
 /// Numbered shuffles of the nodes up to one, in the order of node and side.
-fn in_side_order(
+pub(crate) fn in_side_order(
     alloc: Global,
     last: NodeId,
     numbers: &[Numbered],

@@ -1,5 +1,5 @@
 -- Texts that are added to others, one after another.
-use Rattle.std.proofs.Common.{◌≡◌, ◌∙◌, ℕ, ◌+◌, ◌≤◌, List, [], ◌∷◌, ◌++◌, Some, length, take, ap, sym, arith, append-nil, length-append}
+use Rattle.std.proofs.Common.{◌≡◌, ◌∙◌, ℕ, zero, suc, ◌+◌, ◌≤◌, List, [], ◌∷◌, ◌++◌, Some, length, take, ap, sym, arith, append-nil, length-append}
 use Rattle.std.proofs.lemmas.List.{append_assoc, take_more}
 use Rattle.std.proofs.lemmas.List.Folds.{concat-append}
 use Rattle.std.proofs.lemmas.Option.{get_or_from_slice_get, slice_get_within}
@@ -13,6 +13,24 @@ pub record AreAddedTo (old texts now : List (List ℕ)) (open_text : List ℕ) (
   pub none_open : open_text ≡ []
   pub taken_is : taken ≡ first + length (concat (take i texts))
   pub within : taken ≤ count_limit
+
+-- the first of some texts have no more bytes than all
+take_length : (i : ℕ) (texts : List (List ℕ)) → length (concat (take i texts)) ≤ length (concat texts)
+take_length zero texts = omega arith
+take_length (suc i) [] = omega arith
+take_length (suc i) (t ∷ texts) =
+    let rest = take_length i texts in
+    let first = length-append t (concat (take i texts)) in
+    let all = length-append t (concat texts) in
+    omega (arith, rest, first, all)
+
+-- what the first so many take is at most what all do
+pub AreAddedTo-within : (old texts now : List (List ℕ)) (open_text : List ℕ) (first taken i : ℕ)
+    → AreAddedTo old texts now open_text first taken i → taken ≤ first + length (concat texts)
+AreAddedTo-within old texts now open_text first taken i are =
+    let bytes = take_length i texts in
+    let is = are.taken_is in
+    omega (arith, bytes, is)
 
 pub AreAddedTo-more : (old texts before now : List (List ℕ)) (open_before open_now t : List ℕ)
     (first taken_before taken i : ℕ)

@@ -155,6 +155,7 @@ impl TextsBuilder {
         ensures open_text { self.new.open_text ≡ [] }
         ensures taken { OnOk result
             (self.new.taken ≡ self.old.taken + length (concat texts.now)) }
+        ensures spent { self.new.taken ≤ self.old.taken + length (concat texts.now) }
         ensures within { OnOk result (self.new.taken ≤ count_limit) }
     {
         let count = self.spans.len();

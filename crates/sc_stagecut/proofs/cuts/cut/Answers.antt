@@ -1,9 +1,10 @@
-use Rattle.std.proofs.Common.{◌∙◌, ℕ, List, rules, subst}
+use Rattle.std.proofs.Common.{◌≡◌, ◌∙◌, ℕ, ◌+◌, List, ap, rules, subst}
 use Rattle.sc_base.specs.Lists.{at_or}
 use Rattle.sc_ids.specs.declared.blocks.Target.TheVariants as targets
 use Rattle.std.specs.List.{AllZip}
 use Rattle.sc_stagecut.specs.Counting.{IsCountedStage}
 use Rattle.sc_stagecut.specs.Cuts.{IsStage}
+use Rattle.sc_stagecut.specs.Numbering.{in_side_order}
 use Rattle.sc_stagecut.specs.declared.carried.Numbered.{Numbered}
 use Rattle.sc_stagecut.proofs.CutLemmas.{made_of_script, shuffles_of_numbers}
 use Rattle.sc_stagecut.proofs.cuts.cut.Goals as goal
@@ -25,19 +26,25 @@ returns c =
     let counts = c.as_slice-counts.result.now in
     let maps = c.in_ok-graph.graph in
     let result = c.in_ok-stage.field-0 in
-    let are_maps : AllZip (IsCountedStage script.nodes counts c.as_slice-numbers.result.now)
-    c.as_slice-numbers.result.now maps = c.in_ok-graph.ensures in
-    let is_result : IsStage script.nodes c.as_slice-numbers.result.now c.in_ok-id.id
-    (targets.Result c.args.node) c.args.node (at_or counts c.args.node 0) result =
-    c.in_ok-stage.ensures in
+    let given = c.as_slice-numbers.result.now in
+    let read = c.as_slice-read.result.now in
+    let sides : read ≡ in_side_order (c.args.node + 1) numbers =
+    c.as_slice-read.ensures.value ∙ c.in_ok-ordered.ensures
+    ∙ ap (in_side_order (c.args.node + 1)) all in
+    let are_maps : AllZip (IsCountedStage script.nodes counts read) given maps =
+    c.in_ok-graph.ensures in
+    let is_result : IsStage script.nodes read c.in_ok-id.id (targets.Result c.args.node)
+    c.args.node (at_or counts c.args.node 0) result = c.in_ok-stage.ensures in
     let Maps : List Numbered → Type 0 = λ ns.
-    AllZip (IsCountedStage script.nodes counts ns) ns maps in
+    AllZip (IsCountedStage script.nodes counts read) ns maps in
+    let Sides : List Numbered → Type 0 = λ ns.
+    AllZip (IsCountedStage script.nodes counts ns) numbers maps in
     let Result : List Numbered → Type 0 = λ ns.
     IsStage script.nodes ns c.in_ok-id.id (targets.Result c.args.node) c.args.node
     (at_or counts c.args.node 0) result in
     let At : ℕ → Type 0 = λ id.
-    IsStage script.nodes numbers id (targets.Result c.args.node) c.args.node
-    (at_or counts c.args.node 0) result in
+    IsStage script.nodes (in_side_order (c.args.node + 1) numbers) id
+    (targets.Result c.args.node) c.args.node (at_or counts c.args.node 0) result in
     made_of_script c.args.work.now c.args.carried.now c.args.node c.is_sound.ensures.script
     c.requires.node c.requires.carried c.requires.bounds c.requires.right numbers numbered.next maps
     c.push.new.self result script c.script-script.ensures c.in_ok-push.ensures
@@ -45,6 +52,6 @@ returns c =
       are_numbers = c.in_ok-numbered.ensures;
       counts = counts;
       counted = c.as_slice-counts.ensures.value ∙ c.in_ok-counted.ensures;
-      are_maps = subst Maps all are_maps;
-      is_result = subst At (search rules) (subst Result all is_result);
+      are_maps = subst Sides sides (subst Maps all are_maps);
+      is_result = subst At (search rules) (subst Result sides is_result);
     })

@@ -23,10 +23,11 @@ loop-numbered-preserved c =
     let nodes = c.args.script.now.nodes in
     let numbers = c.args.numbers.now in
     let one = get_or numbers c.loop-numbered.numbered-index none in
+    let ordered = c.args.ordered.now in
     let P : ℕ → Type 0 = λ node.
-    IsStage nodes numbers one.stage (targets.Map one.shuffle) node
+    IsStage nodes ordered one.stage (targets.Map one.shuffle) node
     (at_or c.args.counts.now node 0) c.in_ok-stage.field-0 in
-    AllZip-more (IsCountedStage nodes c.args.counts.now numbers) numbers c.loop-numbered.graph
+    AllZip-more (IsCountedStage nodes c.args.counts.now ordered) numbers c.loop-numbered.graph
     c.push.new.self c.loop-numbered.numbered-index none c.in_ok-stage.field-0
     c.loop-numbered-test.true c.loop-numbered.invariant
     (subst P c.mapped_node-node.ensures c.in_ok-stage.ensures) c.in_ok-push.ensures

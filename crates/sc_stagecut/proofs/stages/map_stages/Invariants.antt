@@ -5,5 +5,5 @@ use Rattle.sc_stagecut.proofs.stages.map_stages.Given as goal
 
 abbrev pub invariant-loop-numbered : goal.invariant-loop-numbered
 invariant-loop-numbered l =
-    AllZip (IsCountedStage l.script.nodes l.counts l.numbers) (take l.numbered-index l.numbers)
+    AllZip (IsCountedStage l.script.nodes l.counts l.ordered) (take l.numbered-index l.numbers)
     l.graph

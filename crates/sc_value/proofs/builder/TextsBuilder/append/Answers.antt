@@ -1,4 +1,5 @@
-use Rattle.sc_value.proofs.BuilderLemmas.{AreAddedTo-more}
+use Rattle.std.proofs.Common.{arith}
+use Rattle.sc_value.proofs.BuilderLemmas.{AreAddedTo-more, AreAddedTo-within}
 use Rattle.sc_value.proofs.builder.TextsBuilder.append.Goals as goal
 
 pub loop-i-preserved : goal.loop-i-preserved
@@ -8,3 +9,12 @@ loop-i-preserved c =
     c.args.self.now.taken c.loop-i.self.taken c.push.new.self.taken
     c.loop-i.i c.get.ensures c.in-Ok.ensures.texts c.in-Ok.ensures.open_text c.in-Ok.ensures.taken
     c.in-Ok.ensures.within c.loop-i.invariant
+
+pub returns-in-Err-clause-spent : goal.returns-in-Err-clause-spent
+returns-in-Err-clause-spent c =
+    let within = AreAddedTo-within c.args.self.now.texts c.args.texts.now c.loop-i.self.texts
+    c.loop-i.self.open_text c.args.self.now.taken c.loop-i.self.taken c.loop-i.i
+    c.loop-i.invariant in
+    let kept = c.in-Err.ensures.taken in
+    let cut = c.truncate.ensures.taken in
+    omega (arith, within, kept, cut)
