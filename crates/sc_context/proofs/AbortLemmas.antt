@@ -36,6 +36,7 @@ use Rattle.sc_history.specs.Tellings.{Telling, is_heard, telling, tellings, tell
 use Rattle.sc_history.proofs.BudgetLemmas.{budgets_are_shown}
 use Rattle.sc_history.proofs.LossLemmas.{no_executors_are_shown}
 use Rattle.sc_history.proofs.StageLimitLemmas.{stage_limits_are_shown}
+use Rattle.sc_history.proofs.ToldLosses.{losses_are_shown}
 use Rattle.sc_history.proofs.TaskLimitLemmas.{task_limits_are_shown}
 use Rattle.sc_jobs.specs.JobData.{IsGoal, JobData, goal_action, job_data}
 use Rattle.sc_jobs.specs.declared.goals.Goal.{Goal}
@@ -115,8 +116,9 @@ module _ (known_causes : AreCauses) (work : WorkData) (sound : IsSoundWork work)
       stage_limits_are_shown is.graph work.limits false work.plan p.last h.opening h.end
       h.entries.items stage is.opening is.began is.replays e
   shows_abort NoExecutor e = λ exec within.
-      known_causes.losses work.plan h.end exec core fits.plan (all_lost e)
-      (subst (λ n. exec < n) (sym fits.execs) within)
+      let lost = known_causes.losses work.plan h.end exec core fits.plan (all_lost e)
+      (subst (λ n. exec < n) (sym fits.execs) within) in
+      (lost, losses_are_shown h.opening h.end h.entries.items exec is.began is.replays lost.lost)
   shows_abort Budget e =
       budgets_are_shown is.graph work.limits false work.plan p.last h.opening h.end
       h.entries.items is.opening is.replays e

@@ -1,4 +1,5 @@
 pub mod ReadyLemmas
+pub mod LiveLemmas
 pub mod StartLemmas
 pub mod ChainLemmas
 pub mod ResultLemmas

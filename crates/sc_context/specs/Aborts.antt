@@ -10,6 +10,7 @@ use Rattle.sc_core.specs.declared.journals.JobHistory.{JobHistory}
 use Rattle.sc_causes.specs.Losses.{IsLostBy}
 use Rattle.sc_history.specs.Budgets.{ShowsBudget}
 use Rattle.sc_history.specs.Evidence.{ShowsTaskLimit}
+use Rattle.sc_history.specs.Losses.{ShowsLoss}
 use Rattle.sc_history.specs.StageEvidence.{ShowsStageLimit}
 use Rattle.sc_history.specs.Tellings.{tellings}
 use Rattle.sc_jobs.specs.JobData.{goal_action}
@@ -20,7 +21,8 @@ use Rattle.sc_context.specs.Progress.{Progress}
 
 -- What a job's history shows of an abort: as many failed attempts of the partition as are allowed;
 -- as many failed attempts of the stage, while it was never complete; the loss of each executor, as
--- the plan says; or as many tasks as a job may hand out.
+-- the plan says, which was so where the job began or is told by an entry; or as many tasks as a job
+-- may hand out.
 abbrev pub ShowsAbort : (work : WorkData) (h : JobHistory)
     → Replays h.opening h.entries.items h.end → Abort → Type 0
 ShowsAbort work h is (TaskLimit stage number partition) =
@@ -28,7 +30,8 @@ ShowsAbort work h is (TaskLimit stage number partition) =
 ShowsAbort work h is (StageLimit stage) =
     ShowsStageLimit work.limits h.opening h.entries.items h.end stage
 ShowsAbort work h is NoExecutor =
-    (exec : ℕ) → exec < work.limits.executors → IsLostBy work.plan h.end exec
+    (exec : ℕ) → exec < work.limits.executors
+    → IsLostBy work.plan h.end exec × ShowsLoss h.opening h.entries.items exec
 ShowsAbort work h is Budget = ShowsBudget work.limits h.entries.items
 
 -- What an abort for an action means where the plan has no line: failures of a task are raises, so

@@ -6,6 +6,8 @@ ghost use Rattle.std.specs.Option.{option_map};
 ghost use Rattle.sc_context.specs.Contexts.{IsEnded, IsReady, Stops};
 ghost use Rattle.sc_context.specs.Jobs.{HasBegunFor};
 ghost use Rattle.sc_context.specs.Progress.{IsNext};
+ghost use Rattle.sc_core.specs.Openings.{tracker_behind};
+ghost use Rattle.sc_core.specs.Sound.{HasLive};
 ghost use Rattle.sc_jobs.specs.JobData.{IsGoal, goal_node};
 ghost use Rattle.sc_stagecut.specs.Carrying.{HasBounds};
 
@@ -100,6 +102,7 @@ fn begin_world<W: Naming>(
     requires goal { IsGoal W.work goal }
     requires bounds { HasBounds W.work.script.nodes passed.carried (goal_node W.work goal) }
     requires ready { IsReady W.work passed stores.items (option_map (λ l. l.now) last) }
+    requires live { HasLive (tracker_behind (option_map (λ l. l.now) last) W.work.limits) }
     ensures begun { IfOk result (λ w. HasBegunFor W.work passed stores.items
         (option_map (λ l. l.now) last.entry) goal w) }
 {

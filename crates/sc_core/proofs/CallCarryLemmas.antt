@@ -24,6 +24,7 @@ use Rattle.sc_dag.proofs.Births.{births_changed, births_mapped, births_newest, b
 use Rattle.sc_dag.proofs.Items.{by_number_at}
 use Rattle.sc_dag.proofs.Runners.{within}
 use Rattle.sc_dag.proofs.Tests.{not_false}
+use Rattle.sc_core.specs.Sound.{IsLive}
 use Rattle.sc_core.proofs.CarryLemmas.{Carries, Lasts, carries_state, carries_states, carries_then, lasts_more, lasts_same}
 use Rattle.sc_core.proofs.TrackerCarryLemmas.{lost_event, registered_carries}
 use Rattle.sc_core.proofs.LossLemmas.{lost_set}
@@ -87,8 +88,8 @@ both_carries d a now = by (is_of_newest d a)
 pub map_carries :
     (d : DagData) (a : AttemptId) (loc : Loc) (epoch now : ℕ) → IsSoundDag d
     → is_map (stage_at d a.stage).target ≡ true → runner_of d a ≡ Some loc.exec
-    → loc.exec < length d.tracker.trust → Carries d (after_map_success d a loc epoch now)
-map_carries d a loc epoch now sound kind runs lt =
+    → IsLive d.tracker loc.exec → Carries d (after_map_success d a loc epoch now)
+map_carries d a loc epoch now sound kind runs live =
     by (is_repeat d a) refl (is_bogus d.tracker loc epoch)
   where
     so : (target : Target) → (stage_at d a.stage).target ≡ target → is_map target ≡ true
@@ -100,7 +101,7 @@ map_carries d a loc epoch now sound kind runs lt =
         within d a loc.exec now sound runs wants in
         let fits : (stage_at d a.stage).tasks ≤ length (outputs_of d.tracker shuffle) =
         sound.stages.room a.stage shuffle is in
-        registered_carries d (block_of shuffle a.partition) loc (omega (arith, has, fits)) lt
+        registered_carries d (block_of shuffle a.partition) loc (omega (arith, has, fits)) live
     so (targets.Result node) is k wants = absurd (true≢false (sym k))
 
     by : (x : Bool) → is_repeat d a ≡ x → (y : Bool)

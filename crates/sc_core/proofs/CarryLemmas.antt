@@ -12,17 +12,17 @@ use Rattle.sc_dag.specs.Births.{births_of}
 use Rattle.sc_dag.specs.DagData.{DagData, StageState, place_of_attempt, set_in, with_state, with_states}
 use Rattle.sc_dag.specs.declared.attempts.StageAttempt.{StageAttempt}
 use Rattle.sc_core.specs.HandOuts.{HandOutData}
-use Rattle.sc_core.specs.Sound.{AreOnExecutors, IsInput, WasHandedOut, born_of}
+use Rattle.sc_core.specs.Sound.{AreOnLive, IsInput, WasHandedOut, born_of}
 use Rattle.sc_core.proofs.LookupLemmas.{set_among}
 
--- what was handed out stays so, and outputs stay on executors of the run
+-- what was handed out stays so, and outputs stay on executors that are live
 pub record Carries (d after : DagData) : Type 0 where
   pub many : length after.tracker.trust ≡ length d.tracker.trust
   pub epoch : d.tracker.epoch ≤ after.tracker.epoch
   pub born : (a : AttemptId) (b : ℕ) → born_of d a ≡ Some b → born_of after a ≡ Some b
   pub inputs : (born epoch : ℕ) (l : Location) → epoch ≤ d.tracker.epoch
       → IsInput d.tracker born epoch l → IsInput after.tracker born epoch l
-  pub placed : AreOnExecutors d.tracker → AreOnExecutors after.tracker
+  pub placed : AreOnLive d.tracker → AreOnLive after.tracker
 
 pub carries_same : (d : DagData) → Carries d d
 carries_same d =

@@ -27,7 +27,7 @@ use Rattle.sc_dag.proofs.Items.{all_unmapped}
 use Rattle.sc_dag.proofs.Stuck.{newest_holds}
 use Rattle.sc_dag.proofs.SoundSubmissions.{numbers_within}
 use Rattle.sc_core.specs.HandOuts.{HandOutData, inputs_of, locations_by}
-use Rattle.sc_core.specs.Sound.{AreOnExecutors, IsInput, WasHandedOut, born_of}
+use Rattle.sc_core.specs.Sound.{AreOnLive, IsInput, IsLive, WasHandedOut, born_of}
 use Rattle.sc_core.proofs.LookupLemmas.{set_holds, set_of_newest}
 use Rattle.sc_core.proofs.OfferLemmas.{IsOffered}
 
@@ -92,7 +92,7 @@ all_listed P d (q ∷ parents) each =
 
 -- where an output lies that was there once
 input_is :
-    (d : DagData) (block : BlockId) (born : ℕ) → IsSoundDag d → AreOnExecutors d.tracker
+    (d : DagData) (block : BlockId) (born : ℕ) → IsSoundDag d → AreOnLive d.tracker
     → WasThere d.tracker block born
     → IsInput d.tracker born d.tracker.epoch (location_in (output_of d.tracker block))
 input_is d block born sound placed was =
@@ -107,17 +107,17 @@ input_is d block born sound placed was =
         let after = w.after_birth in omega (arith, below, after)
 
     by : (here : Option Loc) → (output_of d.tracker block).here ≡ here
-        → IfSome here (λ loc. loc.exec < length d.tracker.trust)
+        → IfSome here (λ loc. IsLive d.tracker loc.exec)
         → IfSome here (λ loc. (trust_at d.tracker.trust loc.exec).seen ≤ loc.generation)
         → (is_some here ≡ true) ⊎ WasLost d.tracker (output_of d.tracker block) born
         → IsInput d.tracker born d.tracker.epoch
         (location_of_places here (output_of d.tracker block).last)
-    by (Some loc) e lt fresh w = (lt, inl fresh)
-    by None e lt fresh (inl some) = absurd (true≢false (sym some))
-    by None e lt fresh (inr w) = lost w
+    by (Some loc) e live fresh w = (live.there, inl fresh)
+    by None e live fresh (inl some) = absurd (true≢false (sym some))
+    by None e live fresh (inr w) = lost w
 
 pub handed_new :
-    (d : DagData) (exec : ℕ) (h : HandOutData) → IsSoundDag d → AreOnExecutors d.tracker
+    (d : DagData) (exec : ℕ) (h : HandOutData) → IsSoundDag d → AreOnLive d.tracker
     → IsOffered d exec h.attempt
     → h.attempt.stage_attempt ≡ newest_number d h.attempt.stage
     → h.epoch ≡ d.tracker.epoch → h.inputs ≡ inputs_of d h.attempt.stage → WasHandedOut d h

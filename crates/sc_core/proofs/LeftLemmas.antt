@@ -1,5 +1,5 @@
 -- What a told report leaves, as far as it tells how much may still happen.
-use Rattle.std.proofs.Common.{◌≡◌, ℕ, zero, suc, ◌&&◌, not, Bool, true, false, if◌then◌else◌, List, [], ◌∷◌, Option, None, slice_get, refl, sym, subst, ◌∙◌}
+use Rattle.std.proofs.Common.{◌≡◌, ℕ, zero, suc, ◌&&◌, not, Bool, true, false, if◌then◌else◌, List, [], ◌∷◌, length, Option, None, slice_get, refl, sym, subst, ◌∙◌}
 use Rattle.sc_ids.specs.declared.attempts.AttemptId.{AttemptId}
 use Rattle.sc_ids.specs.declared.blocks.Loc.{Loc}
 use Rattle.sc_ids.specs.declared.failures.FailureCause.{FailureCause}
@@ -54,6 +54,7 @@ pub record Left (c after : CoreData) : Type 0 where
   pub plan : after.plan ≡ c.plan
   pub told : after.told ≡ c.told
   -- nobody is told lost
+  pub many : length after.dag.tracker.trust ≡ length c.dag.tracker.trust
   pub lost : (e : ℕ) → (trust_of after.dag.tracker e).lost ≡ (trust_of c.dag.tracker e).lost
   -- a job that has ended doesn't run again
   pub runs : job_runs after ≡ true → job_runs c ≡ true
@@ -71,6 +72,7 @@ left_then a b c h k =
       given = λ d g. k.given d (h.given d g);
       plan = k.plan ∙ h.plan;
       told = k.told ∙ h.told;
+      many = k.many ∙ h.many;
       lost = λ e. k.lost e ∙ h.lost e;
       runs = λ r. h.runs (k.runs r);
     }
@@ -91,6 +93,7 @@ left_dag test new c d moves =
       given = moves.given;
       plan = refl;
       told = refl;
+      many = moves.many;
       lost = moves.lost;
       runs = λ r. r;
     }
@@ -109,6 +112,7 @@ left_same c =
       given = λ b g. g;
       plan = refl;
       told = refl;
+      many = refl;
       lost = λ e. refl;
       runs = λ r. r;
     }
@@ -127,6 +131,7 @@ left_ended c job over =
       given = λ b g. g;
       plan = refl;
       told = refl;
+      many = refl;
       lost = λ e. refl;
       runs = λ r. absurd (clash r over);
     }
@@ -151,6 +156,7 @@ released_left c a how =
       given = (by (holds a (committer_at c.committers a.partition))).given;
       plan = refl;
       told = refl;
+      many = (by (holds a (committer_at c.committers a.partition))).many;
       lost = (by (holds a (committer_at c.committers a.partition))).lost;
       runs = λ r. r;
     }

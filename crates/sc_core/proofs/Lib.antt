@@ -5,6 +5,7 @@ pub mod PlaceLemmas
 pub mod CoreLemmas
 pub mod OpenLemmas
 pub mod LookupLemmas
+pub mod StaffLemmas
 pub mod WaitLemmas
 pub mod OthersLemmas
 pub mod UnsubmittedLemmas

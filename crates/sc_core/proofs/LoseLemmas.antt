@@ -1,5 +1,5 @@
 -- What holds of every core holds once an executor was told lost.
-use Rattle.std.proofs.Common.{◌≡◌, ◌≢◌, ℕ, zero, suc, ◌+◌, ◌-◌, ◌<◌, ◌==◌, not, All, Bool, true, false, cond, if◌then◌else◌, List, [], ◌∷◌, length, map, take, Option, Some, None, find, slice_get, refl, ap, sym, subst, ◌∙◌, arith, rules, true≢false}
+use Rattle.std.proofs.Common.{◌≡◌, ◌≢◌, ℕ, zero, suc, ◌+◌, ◌-◌, ◌^◌, ◌<◌, ◌==◌, not, All, Bool, true, false, cond, if◌then◌else◌, List, [], ◌∷◌, length, map, take, Option, Some, None, find, slice_get, refl, ap, sym, subst, ◌∙◌, arith, rules, true≢false}
 use Rattle.std.specs.List.{filter}
 use Rattle.std.proofs.lemmas.Bool.Decides.{nat_tests}
 use Rattle.std.proofs.lemmas.List.Elements.{All-filter, All-head, All-tail, All-weaker}
@@ -23,7 +23,7 @@ use Rattle.sc_dag.specs.Submission.{is_map}
 use Rattle.sc_dag.proofs.Tests.{both_left, both_right, clash}
 use Rattle.sc_core.specs.CoreData.{CoreData, is_of, is_running_job, job_runs, result_stage, running_of, with_dag}
 use Rattle.sc_core.specs.Losses.{all_released, attempts_on, is_due_after, may_be_lost, released_at, released_one, runs_on, without_executor}
-use Rattle.sc_core.specs.Sound.{AreTwo, AwaitsTelling, IsShelvedWell, IsSoundCore, IsSoundJob, IsSoundShelf, RunsWell, is_shelved}
+use Rattle.sc_core.specs.Sound.{AreLostAsPlanned, AreTwo, AwaitsTelling, IsShelvedWell, IsSoundCore, IsSoundJob, IsSoundShelf, RunsWell, is_shelved}
 use Rattle.sc_core.specs.Tells.{released}
 use Rattle.sc_core.specs.declared.running.Running.{Running}
 use Rattle.sc_core.specs.declared.running.Shelved.{Shelved}
@@ -176,14 +176,21 @@ found_left {A = A} q w (x ∷ xs) all some =
 
 -- ---- a loss
 
+-- what holds of every core, whoever is live
+pub record IsSoundBut (c : CoreData) : Type 0 where
+  pub job : IsSoundJob c
+  pub shelf : IsSoundShelf c
+  pub lost : AreLostAsPlanned c
+  pub told : c.told < 2 ^ 64
+
 -- what is left of a core whose executor was told lost
 pub lose_sound :
     CallsKeepSound → OthersGoOn → (c : CoreData) (exec : ℕ) → IsSoundCore c
-    → may_be_lost c exec ≡ true → IsSoundCore (without_executor c exec)
+    → may_be_lost c exec ≡ true → IsSoundBut (without_executor c exec)
 lose_sound calls others c exec sound may =
     record {
       job = kept;
-      shelf = λ r. shelf;
+      shelf = shelf;
       lost = λ e h. rw (left.told, left.plan) (planned e (e == exec) refl h);
       told = rw left.told sound.told;
     }

@@ -19,7 +19,7 @@ use Rattle.sc_dag.specs.declared.reports.Success.TheVariants as successes
 use Rattle.sc_dag.proofs.Tests.{both_left, both_right, clash}
 use Rattle.sc_core.specs.CoreData.{CoreData, is_running_job, job_runs, taken_off, with_dag}
 use Rattle.sc_core.specs.Posts.{fits}
-use Rattle.sc_core.specs.Sound.{IsSoundJob, RunsWell}
+use Rattle.sc_core.specs.Sound.{IsLive, IsSoundJob, RunsWell}
 use Rattle.sc_core.specs.Tells.{FollowsUp, LooksAgain, TellsMap}
 use Rattle.sc_core.specs.declared.answers.Answer.{Answer}
 use Rattle.sc_core.specs.declared.events.Outcome.TheVariants as outcomes
@@ -140,7 +140,8 @@ map_keeps calls maps others c after r loc answer sound job well fit (next, up, s
     (map_moves c.dag a loc r.hand_out.epoch c.now) f.calm)
     (carries_then c.dag mid next
     (map_carries c.dag a loc r.hand_out.epoch c.now sound.dag kind runs
-    (subst (λ n. n < length c.dag.tracker.trust) (sym exec) well.there)) f.carries)
+    (subst (IsLive c.dag.tracker) (sym exec)
+    (record { there = well.there; live = well.live }))) f.carries)
     refl refl f.sound
     (λ h. goes_same c (with_dag (taken_off c a) next) sound (sound.goes_on job)
     (f.calm.stages ∙ (map_moves c.dag a loc r.hand_out.epoch c.now).stages)

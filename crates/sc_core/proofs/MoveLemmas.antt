@@ -1,5 +1,5 @@
 -- What a change of the stages of a job does to the attempts that run.
-use Rattle.std.proofs.Common.{◌≡◌, ℕ, ◌==◌, ◌&&◌, All, Bool, true, false, if◌then◌else◌, List, Option, Some, None, option_map, slice_get, refl, ap, sym, subst, ◌∙◌, arith}
+use Rattle.std.proofs.Common.{◌≡◌, ℕ, ◌==◌, ◌&&◌, All, Bool, true, false, if◌then◌else◌, List, length, Option, Some, None, option_map, slice_get, refl, ap, sym, subst, ◌∙◌, arith}
 use Rattle.std.proofs.lemmas.Bool.Decides.{nat_tests}
 use Rattle.sc_ids.specs.Changes.{change_at}
 use Rattle.sc_ids.specs.declared.attempts.AttemptId.{AttemptId}
@@ -22,6 +22,7 @@ NoneHeld d = (s : ℕ) → All IsUnheld (attempts_of d s)
 pub record Moves (test : AttemptId → Bool) (new : Option ℕ) (d after : DagData) : Type 0 where
   pub stages : after.stages ≡ d.stages
   pub limits : after.limits ≡ d.limits
+  pub many : length after.tracker.trust ≡ length d.tracker.trust
   pub lost : (e : ℕ) → (trust_of after.tracker e).lost ≡ (trust_of d.tracker e).lost
   pub runners : (b : AttemptId) → runner_of after b ≡ (if test b then new else runner_of d b)
   pub unheld : NoneHeld d → NoneHeld after
@@ -42,6 +43,7 @@ still d =
     record {
       stages = refl;
       limits = refl;
+      many = refl;
       lost = λ e. refl;
       runners = λ b. refl;
       unheld = λ all. all;
@@ -56,6 +58,7 @@ moves_then test new c d e h k =
     record {
       stages = k.stages ∙ h.stages;
       limits = k.limits ∙ h.limits;
+      many = k.many ∙ h.many;
       lost = λ x. k.lost x ∙ h.lost x;
       runners = λ b. k.runners b ∙ h.runners b;
       unheld = λ all. k.unheld (h.unheld all);
@@ -69,6 +72,7 @@ calm_then test new c d e h k =
     record {
       stages = k.stages ∙ h.stages;
       limits = k.limits ∙ h.limits;
+      many = k.many ∙ h.many;
       lost = λ x. k.lost x ∙ h.lost x;
       runners = λ b. k.runners b ∙ ap (λ o. if test b then new else o) (h.runners b);
       unheld = λ all. k.unheld (h.unheld all);
@@ -87,6 +91,7 @@ state_moves d a new change moves none =
     record {
       stages = refl;
       limits = refl;
+      many = refl;
       lost = λ e. refl;
       runners = λ b. by b (a.stage == b.stage) refl;
       unheld = λ all s. held all s (a.stage == s) refl;
@@ -161,6 +166,7 @@ states_calm d states moves =
     record {
       stages = refl;
       limits = refl;
+      many = refl;
       lost = λ e. refl;
       runners = λ b. (moves b.stage).runners b;
       unheld = λ all s. (moves s).unheld (all s);
@@ -190,14 +196,15 @@ state_calm d s change moves =
         rw (slice_get_change_other d.states s r change (λ is. grind (arith, nat_tests, e, is)))
         (calm_same (slice_get d.states r))
 
--- another tracker that knows of the same losses
+-- another tracker that knows of the same executors and losses
 pub tracker_calm :
-    (d : DagData) (t : TrackerData)
+    (d : DagData) (t : TrackerData) → length t.trust ≡ length d.tracker.trust
     → ((e : ℕ) → (trust_of t e).lost ≡ (trust_of d.tracker e).lost) → Calm d (with_tracker d t)
-tracker_calm d t lost =
+tracker_calm d t many lost =
     record {
       stages = refl;
       limits = refl;
+      many = many;
       lost = lost;
       runners = λ b. refl;
       unheld = λ all. all;

@@ -10,7 +10,7 @@ use Rattle.sc_plan.specs.declared.lines.PlanLine.{PlanLine}
 use Rattle.sc_tracker.specs.TrackerData.{TrackerData}
 use Rattle.sc_core.specs.CoreData.{CoreData, core_data, result_stage}
 use Rattle.sc_core.specs.Openings.{BeginsWith, IsOpening, committers_for, now_before, plan_behind, told_before, tracker_behind}
-use Rattle.sc_core.specs.Sound.{IsSoundCore}
+use Rattle.sc_core.specs.Sound.{HasLive, IsSoundCore}
 use Rattle.sc_core.specs.declared.answers.JobState.TheVariants as jobs
 use Rattle.sc_core.proofs.LawLemmas.{openings_are_sound}
 
@@ -66,6 +66,7 @@ opening_is value graph limits saved last t told now free dag plan kept tracker b
 pub opening_sound : (graph : List StageData) (limits : Limits) (saved : Bool)
     (plan : List PlanLine) (last before : Option CoreData) (c : CoreData) → before ≡ last
     → IsJob graph → FitsJob (tracker_behind last limits) graph → IfSome last IsSoundCore
-    → IsOpening graph limits saved plan before c → IsSoundCore c
-opening_sound graph limits saved plan last before c is job fits sound opening =
-    openings_are_sound graph limits saved plan last c job fits sound (rw (← is) opening)
+    → HasLive (tracker_behind last limits) → IsOpening graph limits saved plan before c
+    → IsSoundCore c
+opening_sound graph limits saved plan last before c is job fits sound live opening =
+    openings_are_sound graph limits saved plan last c job fits sound live (rw (← is) opening)

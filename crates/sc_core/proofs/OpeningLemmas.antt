@@ -8,11 +8,12 @@ use Rattle.sc_base.specs.Lists.{at_or}
 use Rattle.sc_ids.specs.Graphs.{StageData}
 use Rattle.sc_ids.specs.declared.attempts.AttemptId.{AttemptId}
 use Rattle.sc_ids.specs.declared.limits.Limits.{Limits}
+use Rattle.sc_ids.specs.declared.blocks.Loc.{Loc}
 use Rattle.sc_ids.specs.declared.blocks.ShuffleId.{ShuffleId}
 use Rattle.sc_ids.specs.declared.blocks.Target.{Target}
 use Rattle.sc_ids.specs.declared.blocks.Target.TheVariants as targets
 use Rattle.sc_plan.specs.Orders.{loss_of}
-use Rattle.sc_tracker.specs.TrackerData.{TrackerData, trust_of}
+use Rattle.sc_tracker.specs.TrackerData.{TrackerData, output_of, trust_of}
 use Rattle.sc_tracker.specs.Tracking.{has_room, sized}
 use Rattle.sc_tracker.specs.TrackerFacts.{HasMarkBelow, IsSoundTracker}
 use Rattle.sc_tracker.specs.Trust.{untold}
@@ -30,11 +31,13 @@ use Rattle.sc_core.specs.CoreData.{CoreData, result_stage}
 use Rattle.sc_core.specs.Laws.{OpeningsAreSound}
 use Rattle.sc_core.specs.Losses.{is_due_after}
 use Rattle.sc_core.specs.Openings.{plan_behind, told_before, tracker_behind}
-use Rattle.sc_core.specs.Sound.{AreTwo, IsShelvedWell, IsSoundCore, IsSoundJob, IsSoundShelf, IsUnheld, RunsWell, is_shelved, AreOnExecutors}
+use Rattle.sc_core.specs.Sound.{AreTwo, IsShelvedWell, IsSoundCore, IsSoundJob, IsSoundShelf, IsUnheld, RunsWell, is_shelved, AreOnLive, HasLive, IsLive}
 use Rattle.sc_core.proofs.StageCallLemmas.{submitted_calm}
 use Rattle.sc_core.proofs.MoveLemmas.{Calm}
 use Rattle.sc_core.proofs.StateLemmas.{runs_in}
 use Rattle.sc_core.proofs.CallCarryLemmas.{submitted_carries}
+use Rattle.sc_core.proofs.StaffLemmas.{live_still}
+use Rattle.sc_core.proofs.TrackerCarryLemmas.{live_as}
 use Rattle.sc_tracker.proofs.BlockLemmas.{sizes_for_all}
 
 -- ---- stages that nothing was done for
@@ -169,26 +172,32 @@ all_sized (stage ∷ graph) t = all_sized graph (sized_by t stage) ∙ one_sized
 
 -- nor where outputs lie
 one_sized_placed :
-    (stage : StageData) (t : TrackerData) → AreOnExecutors t → AreOnExecutors (sized_by t stage)
+    (stage : StageData) (t : TrackerData) → AreOnLive t → AreOnLive (sized_by t stage)
 one_sized_placed stage t all = by stage.target
   where
-    by : (target : Target) → AreOnExecutors (sized_by t (record stage { target = target }))
+    by : (target : Target) → AreOnLive (sized_by t (record stage { target = target }))
     by (targets.Map shuffle) =
-        λ block. rw (
-          (sizes_for_all t shuffle stage.tasks).1 block,
-          one_sized (record stage { target = targets.Map shuffle }) t,
-        ) (all block)
+        λ block. rw ((sizes_for_all t shuffle stage.tasks).1 block)
+        (kept (output_of t block).here (all block))
+      where
+        same : (sized t shuffle stage.tasks).trust ≡ t.trust
+        same = one_sized (record stage { target = targets.Map shuffle }) t
+
+        kept : (here : Option Loc) → IfSome here (λ loc. IsLive t loc.exec)
+            → IfSome here (λ loc. IsLive (sized t shuffle stage.tasks) loc.exec)
+        kept None h = h
+        kept (Some loc) h = live_as t (sized t shuffle stage.tasks) loc.exec same h
     by (targets.Result node) = all
 
 all_sized_placed :
-    (graph : List StageData) (t : TrackerData) → AreOnExecutors t
-    → AreOnExecutors (sized_for_all t graph)
+    (graph : List StageData) (t : TrackerData) → AreOnLive t
+    → AreOnLive (sized_for_all t graph)
 all_sized_placed [] t all = all
 all_sized_placed (stage ∷ graph) t all =
     all_sized_placed graph (sized_by t stage) (one_sized_placed stage t all)
 
 behind_placed : (last : Option CoreData) (limits : Limits) → IfSome last IsSoundCore
-    → AreOnExecutors (tracker_behind last limits)
+    → AreOnLive (tracker_behind last limits)
 behind_placed None limits sound = λ block. tt
 behind_placed (Some last) limits sound = sound.job.placed
 
@@ -217,13 +226,14 @@ settled_by d submitted settled =
 
 pub openings_by :
     CallsKeepSound → dag.OpeningsAreSound → SubmissionsSettle → OpeningsAreSound
-openings_by calls opening settles graph limits saved plan last c job fits sound o =
+openings_by calls opening settles graph limits saved plan last c job fits sound somebody o =
     record {
       job = sound_job;
       shelf = λ r. sound_shelf;
       lost = λ e h. rw (o.told, o.plan_is)
           (planned last sound e (sym (trust e) ∙ h));
       told = rw o.told (counts last sound);
+      staffed = λ other. live;
     }
   where
     d : DagData
@@ -277,9 +287,9 @@ openings_by calls opening settles graph limits saved plan last c job fits sound 
         settles o.dag (this_stage (result_stage o.dag)) c.dag first.0
         (settled_by o.dag (this_stage (result_stage o.dag)) first.1) dead o.submits
 
-    placed : AreOnExecutors o.dag.tracker
+    placed : AreOnLive o.dag.tracker
     placed =
-        subst AreOnExecutors (sym o.opens.tracker)
+        subst AreOnLive (sym o.opens.tracker)
         (all_sized_placed graph (tracker_behind last limits) (behind_placed last limits sound))
 
     sound_job : IsSoundJob c
@@ -324,6 +334,13 @@ openings_by calls opening settles graph limits saved plan last c job fits sound 
         calm.lost e
         ∙ ap (λ (t : TrackerData). (trust_of t e).lost) o.opens.tracker
         ∙ ap (λ ts. (at_or ts e untold).lost) (all_sized graph (tracker_behind last limits))
+
+    live : HasLive c.dag.tracker
+    live =
+        live_still (tracker_behind last limits) c.dag.tracker
+        (calm.many ∙ ap (λ (t : TrackerData). length t.trust) o.opens.tracker
+        ∙ ap length (all_sized graph (tracker_behind last limits)))
+        trust somebody
 
     planned : (before : Option CoreData) → IfSome before IsSoundCore → (e : ℕ)
         → (trust_of (tracker_behind before limits) e).lost ≡ true

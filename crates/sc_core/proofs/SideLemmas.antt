@@ -16,7 +16,7 @@ use Rattle.sc_core.specs.HandOuts.{HandOutData}
 use Rattle.sc_core.specs.Laws.{left_to_do}
 use Rattle.sc_core.specs.Posts.{fits}
 use Rattle.sc_core.specs.Sides.{IsAside, IsFurther, Sides, StepsAside, first_with}
-use Rattle.sc_core.specs.Sound.{AreLostAsPlanned, AreOnExecutors, AreTwo, AwaitsTelling, GoesOn, IsShelvedWell, IsSoundCore, IsSoundJob, IsSoundShelf, RunsWell, WasHandedOut, is_shelved}
+use Rattle.sc_core.specs.Sound.{AreLostAsPlanned, AreOnLive, AreTwo, AwaitsTelling, GoesOn, HasLive, IsShelvedWell, IsSoundCore, IsSoundJob, IsSoundShelf, RunsWell, WasHandedOut, is_shelved}
 use Rattle.sc_core.specs.declared.answers.Answer.{Answer}
 use Rattle.sc_core.specs.declared.answers.SideAnswer.{SideAnswer}
 use Rattle.sc_core.specs.declared.answers.SideAnswer.TheVariants.{Ignored, Left}
@@ -123,7 +123,7 @@ aside_job c after is sound =
           sound.running));
       known = λ a exec h. subst (λ rs. find (is_of a) rs ≢ None) (sym is.running)
           (known a (sound.known a exec (ap (λ d. runner_of d a) (sym is.dag) ∙ h)));
-      placed = subst (λ (d : DagData). AreOnExecutors d.tracker) (sym is.dag) sound.placed;
+      placed = subst (λ (d : DagData). AreOnLive d.tracker) (sym is.dag) sound.placed;
       apart = subst (λ rs. AllPairs AreTwo rs) (sym is.running)
           (pairs_further is.further is.each c.running sound.apart);
       unheld = rw is.dag sound.unheld;
@@ -226,6 +226,8 @@ aside_sound c after is sound =
       shelf = λ h. aside_shelf c after is (sound.shelf (ap is_running_job (sym is.job) ∙ h));
       lost = lost;
       told = rw is.told sound.told;
+      staffed = λ other. subst (λ (d : DagData). HasLive d.tracker) (sym is.dag)
+          (sound.staffed (λ e. other (is.job ∙ e)));
     }
   where
     lost : AreLostAsPlanned after

@@ -12,7 +12,7 @@ use Rattle.sc_tracker.specs.Trust.{are_lost}
 use Rattle.sc_core.specs.declared.answers.Abort.TheVariants.{NoExecutor}
 use Rattle.sc_core.specs.Losses.{LosesOrAborts, without_executor}
 use Rattle.sc_core.specs.Releases.{ReleasesIf, ReleasesOf}
-use Rattle.sc_core.specs.Sound.{AreLostAsPlanned, IsShelvedWell, IsSoundCore, IsSoundJob, RunsWell, is_shelved}
+use Rattle.sc_core.specs.Sound.{AreLostAsPlanned, IsShelvedWell, IsSoundCore, IsSoundJob, IsStaffed, RunsWell, is_shelved}
 use Rattle.sc_core.specs.Tells.{Tells, TellsTo}
 use Rattle.sc_core.specs.declared.events.Event.TheVariants.{Post, Release, Side, Take, TellLost}
 use Rattle.sc_core.specs.declared.events.Outcome.{Outcome}
@@ -23,12 +23,13 @@ use Rattle.sc_core.specs.declared.running.Shelved.{Shelved}
 use Rattle.sc_core.proofs.LookupLemmas.{same_is}
 use Rattle.sc_core.proofs.LeftLemmas.{tells_left}
 use Rattle.sc_core.proofs.ShelfLemmas.{Unshelved, alike_shelf, awaits_it, find_in, fits_in, fits_still, shelved_job, shelved_shelf, told_shelf, unshelved, unshelved_told}
-use Rattle.sc_core.proofs.LoseLemmas.{lose_sound}
+use Rattle.sc_core.proofs.LoseLemmas.{IsSoundBut, lose_sound}
 use Rattle.sc_core.proofs.PlannedLemmas.{counted_fits, counted_more, planned_still}
 use Rattle.sc_core.proofs.TakeLemmas.{aborted_sound, calm_sound, takes_keep}
 use Rattle.sc_core.proofs.FailureLemmas.{failure_keeps}
 use Rattle.sc_core.proofs.MapLemmas.{map_keeps}
 use Rattle.sc_core.proofs.ResultLemmas.{result_keeps}
+use Rattle.sc_core.proofs.StaffLemmas.{live_still, not_all_lost, runs_not_aborted}
 use Rattle.sc_core.proofs.SideLemmas.{aside_sound, steps_aside}
 
 -- what a report of a running attempt is told of
@@ -73,10 +74,10 @@ tells_leave :
     → All (λ q. is_of a q ≡ false → q.is_out ≡ false
     → is_shelved c.shelf q.hand_out.attempt ≡ true) c.running
     → All (IsShelvedWell c) c.shelf → AllPairs (λ s t. s.key < t.key) c.shelf
-    → AreLostAsPlanned c → c.told < 2 ^ 64
+    → AreLostAsPlanned c → c.told < 2 ^ 64 → IsStaffed c
     → Tells (taken_off c a) r outcome answer after → IsSoundCore after
 tells_leave calls maps results failures others c after a r outcome answer sound job p fit out each
-    rising lost count tells =
+    rising lost count staffed tells =
     let left = tells_left (taken_off c a) after r outcome answer tells in
     record {
       job = tells_keep calls maps results failures others c after r outcome answer sound job p.well
@@ -85,6 +86,8 @@ tells_leave calls maps results failures others c after a r outcome answer sound 
       lost = planned_still c after lost left.lost left.plan
           (rw left.told (counted_more c.told count));
       told = rw left.told (counted_fits c.told);
+      staffed = λ other. live_still c.dag.tracker after.dag.tracker left.many left.lost
+          (staffed (runs_not_aborted c NoExecutor job));
     }
 
 -- a report that is to be told later leaves a core sound
@@ -98,6 +101,7 @@ shelved_sound c a r outcome delay sound job e fit =
       shelf = λ h. shelved_shelf c a r outcome delay sound.job e fit (sound.shelf job);
       lost = sound.lost;
       told = sound.told;
+      staffed = sound.staffed;
     }
 
 -- a running attempt, once a report of it is to be told later or not
@@ -146,7 +150,8 @@ steps_keep_by calls maps results failures others c after (Post a outcome) answer
         (λ q. is_of a q ≡ false → q.is_out ≡ false
         → is_shelved c.shelf q.hand_out.attempt ≡ true) (λ q h other. h) c.running
         (sound.shelf job).out)
-        (sound.shelf job).each (sound.shelf job).rising sound.lost sound.told (rw e at tells)
+        (sound.shelf job).each (sound.shelf job).rising sound.lost sound.told sound.staffed
+        (rw e at tells)
     at_once r e job fit true tells =
         let next = shelved c a outcome 0 in
         let s = shelved_runs c a r outcome 0 sound job e fit in
@@ -156,7 +161,7 @@ steps_keep_by calls maps results failures others c after (Post a outcome) answer
         (All-weaker (λ q. q.is_out ≡ false → is_shelved next.shelf q.hand_out.attempt ≡ true)
         (λ q. is_of a q ≡ false → q.is_out ≡ false
         → is_shelved next.shelf q.hand_out.attempt ≡ true) (λ q h other. h) next.running shelf.out)
-        shelf.each shelf.rising s.sound.lost s.sound.told (rw s.found at tells)
+        shelf.each shelf.rising s.sound.lost s.sound.told s.sound.staffed (rw s.found at tells)
 
     posts : (r : Running) → running_of c a ≡ Some r → job_runs c ≡ true
         → fits c r outcome ≡ true → (delay : Option ℕ)
@@ -175,6 +180,7 @@ steps_keep_by calls maps results failures others c after (Post a outcome) answer
           lost = planned_still c (told_once c) sound.lost (λ x. refl) refl
               (counted_more c.told sound.told);
           told = counted_fits c.told;
+          staffed = sound.staffed;
         })
     of (Some r) e job (fit, posted) = posts r e job fit (delay_for c a) posted
 
@@ -201,13 +207,14 @@ steps_keep_by calls maps results failures others c after (Release key) answer so
           lost = planned_still c (told_once next) sound.lost (λ x. refl) refl
               (counted_more c.told sound.told);
           told = counted_fits c.told;
+          staffed = sound.staffed;
         })
     told s u job waits (Some r) e tells =
         let await = awaits_it c s r waits e in
         tells_leave calls maps results failures others next after s.attempt r s.outcome answer
         kept job (posted next s.attempt r kept e)
         (fits_still c next r s.outcome refl refl await.fit) u.out u.each u.rising sound.lost
-        sound.told tells
+        sound.told sound.staffed tells
 
     of : (o : Option Shelved) → shelved_of c key ≡ o → job_runs c ≡ true
         → ReleasesOf o c key answer after → IsSoundCore after
@@ -223,17 +230,28 @@ steps_keep_by calls maps results failures others c after (Release key) answer so
 steps_keep_by calls maps results failures others c after (Side event) answer sound step =
     aside_sound c after (steps_aside c after event answer step) sound
 steps_keep_by calls maps results failures others c after (TellLost exec) answer sound (may, step) =
-    by (are_lost (without_executor c exec).dag.tracker.trust) step
+    by (are_lost (without_executor c exec).dag.tracker.trust) refl step
   where
     next : CoreData
     next = without_executor c exec
 
-    left : IsSoundCore (without_executor c exec)
+    left : IsSoundBut (without_executor c exec)
     left = lose_sound calls others c exec sound may
 
-    by : (b : Bool) → LosesOrAborts b next answer after → IsSoundCore after
-    by true (says, is) = subst IsSoundCore (sym is) (aborted_sound next NoExecutor left)
-    by false (says, is) = subst IsSoundCore (sym is) left
+    by : (b : Bool) → are_lost next.dag.tracker.trust ≡ b → LosesOrAborts b next answer after
+        → IsSoundCore after
+    by true e (says, is) =
+        subst IsSoundCore (sym is)
+        (aborted_sound next NoExecutor left.job left.lost left.told (λ other. absurd (other refl)))
+    by false e (says, is) =
+        subst IsSoundCore (sym is)
+        (record {
+          job = left.job;
+          shelf = λ r. left.shelf;
+          lost = left.lost;
+          told = left.told;
+          staffed = λ other. not_all_lost next.dag.tracker e;
+        })
 
 pub replays_keep_by : StepsKeepSound → ReplaysKeepSound
 replays_keep_by steps opening end [] sound is = subst IsSoundCore (sym is) sound

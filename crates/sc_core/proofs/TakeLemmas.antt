@@ -1,5 +1,5 @@
 -- What holds of every core holds once an executor has asked for a task.
-use Rattle.std.proofs.Common.{◌≡◌, ◌≢◌, ℕ, ◌<◌, ◌==◌, inl, inr, All, Bool, true, false, if◌then◌else◌, List, [], ◌∷◌, Option, Some, None, find, option_map, refl, ap, sym, subst, ◌∙◌, arith, rules, true≢false, slice_get}
+use Rattle.std.proofs.Common.{◌≡◌, ◌≢◌, ℕ, ◌^◌, ◌<◌, ◌==◌, inl, inr, All, Bool, true, false, if◌then◌else◌, List, [], ◌∷◌, Option, Some, None, find, option_map, refl, ap, sym, subst, ◌∙◌, arith, rules, true≢false, slice_get}
 use Rattle.std.specs.List.{AllPairs}
 use Rattle.std.specs.Option.{option_or}
 use Rattle.std.proofs.lemmas.Bool.Decides.{nat_tests}
@@ -18,7 +18,7 @@ use Rattle.sc_dag.specs.Sound.{runner_among, runner_in, runner_of}
 use Rattle.sc_dag.proofs.Tests.{clash, not_false}
 use Rattle.sc_core.specs.CoreData.{CoreData, ended, is_of, is_out_on, is_running_job, job_runs, result_stage, running_of}
 use Rattle.sc_core.specs.HandOuts.{HandOutData}
-use Rattle.sc_core.specs.Sound.{AreTwo, GoesOn, IsSoundCore, IsSoundJob, RunsWell, AreOnExecutors, WasHandedOut}
+use Rattle.sc_core.specs.Sound.{AreLostAsPlanned, AreTwo, GoesOn, IsSoundCore, IsSoundJob, IsStaffed, RunsWell, AreOnLive, WasHandedOut}
 use Rattle.sc_core.specs.Takes.{IsAsking, IsHandOut, Takes, running_on, with_task}
 use Rattle.sc_core.specs.declared.answers.Abort.{Abort}
 use Rattle.sc_core.specs.declared.answers.Abort.TheVariants as aborts
@@ -30,6 +30,7 @@ use Rattle.sc_core.proofs.MoveLemmas.{Moves, state_results}
 use Rattle.sc_core.proofs.OfferLemmas.{IsOffered, handed_out_moves, offered, offered_may}
 use Rattle.sc_core.proofs.RunningLemmas.{none_passes, same_sym}
 use Rattle.sc_core.proofs.ShelfLemmas.{task_shelf}
+use Rattle.sc_core.proofs.StaffLemmas.{runs_not_aborted}
 use Rattle.sc_core.proofs.TakeCases.{TakesSo, takes_so}
 use Rattle.sc_core.proofs.ToldLemmas.{goes_same}
 use Rattle.sc_core.proofs.CarryLemmas.{Carries, handed_still}
@@ -59,7 +60,7 @@ calm_sound c after sound dag running handed goes done =
           }) c.running sound.running);
       known = λ a exec h. subst (λ rs. find (is_of a) rs ≢ None) (sym running)
           (sound.known a exec (rw dag at h));
-      placed = subst (λ (d : DagData). AreOnExecutors d.tracker) (sym dag) sound.placed;
+      placed = subst (λ (d : DagData). AreOnLive d.tracker) (sym dag) sound.placed;
       apart = subst (λ rs. AllPairs AreTwo rs) (sym running) sound.apart;
       unheld = rw dag sound.unheld;
       budget = rw (handed, dag) sound.budget;
@@ -67,15 +68,17 @@ calm_sound c after sound dag running handed goes done =
       done = λ h. rw dag (done h);
     }
 
-pub aborted_sound : (c : CoreData) (why : Abort) → IsSoundCore c
+pub aborted_sound : (c : CoreData) (why : Abort) → IsSoundJob c → AreLostAsPlanned c
+    → c.told < 2 ^ 64 → IsStaffed (ended c (jobs.Aborted why))
     → IsSoundCore (ended c (jobs.Aborted why))
-aborted_sound c why sound =
+aborted_sound c why job lost told staffed =
     record {
-      job = calm_sound c (ended c (jobs.Aborted why)) sound.job refl refl refl
+      job = calm_sound c (ended c (jobs.Aborted why)) job refl refl refl
           (λ h. absurd (true≢false (sym h))) (λ h. search (rules, h));
       shelf = λ h. absurd (true≢false (sym h));
-      lost = sound.lost;
-      told = sound.told;
+      lost = lost;
+      told = told;
+      staffed = staffed;
     }
 
 -- ---- a task
@@ -247,6 +250,10 @@ takes_keep calls others c after exec answer sound step = by (takes_so c after ex
               (sound.shelf t.asking.runs);
           lost = sound.lost;
           told = sound.told;
+          staffed = sound.staffed;
         })
-    by (inr (inl b)) = subst IsSoundCore (sym b.is) (aborted_sound c aborts.Budget sound)
+    by (inr (inl b)) =
+        subst IsSoundCore (sym b.is)
+        (aborted_sound c aborts.Budget sound.job sound.lost sound.told
+        (λ other. sound.staffed (runs_not_aborted c aborts.NoExecutor b.asking.runs)))
     by (inr (inr same)) = subst IsSoundCore (sym same.is) sound

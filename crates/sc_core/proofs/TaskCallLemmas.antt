@@ -16,6 +16,7 @@ use Rattle.sc_dag.specs.DagData.{DagData, changed_newest, changed_set, stage_at,
 use Rattle.sc_dag.specs.Losses.{after_seen}
 use Rattle.sc_dag.specs.Outputs.{is_complete}
 use Rattle.sc_dag.specs.Reports.{after_failed, after_hold, after_map_success, after_result_success, block_by, completed, completed_if, ended_in_own, in_own_set, is_of_newest, is_repeat, registered_by, succeeded_in_both, succeeded_in_own, with_output, with_result}
+use Rattle.sc_ids.proofs.ChangeLemmas.{length_change_at}
 use Rattle.sc_core.proofs.MoveLemmas.{Calm, Moves, SameResults, calm_then, moves_then, results_then, state_calm, state_moves, state_results, tracker_calm}
 use Rattle.sc_core.proofs.SetLemmas.{MovesIn, is_copy_of}
 use Rattle.sc_core.proofs.SetCallLemmas.{end_ends, failure_ends, hold_calm, success_calm, success_ends}
@@ -103,9 +104,9 @@ output_calm : (d : DagData) (a : AttemptId) (loc : Loc) → Calm d (with_output 
 output_calm d a loc = by (block_by (stage_at d a.stage).target a.partition)
   where
     by : (o : Option BlockId) → Calm d (with_tracker d (registered_by d.tracker o loc))
-    by None = tracker_calm d d.tracker (λ e. refl)
+    by None = tracker_calm d d.tracker refl (λ e. refl)
     by (Some block) =
-        tracker_calm d (registered_by d.tracker (Some block) loc) (λ e. refl)
+        tracker_calm d (registered_by d.tracker (Some block) loc) refl (λ e. refl)
 
 pub map_moves : (d : DagData) (a : AttemptId) (loc : Loc) (epoch now : ℕ)
     → Moves (is_same a) None d (after_map_success d a loc epoch now)
@@ -182,5 +183,8 @@ seen_calm d exec found = by (is_newer (slice_get d.tracker.trust exec) found)
         (if b then tracker_data (map (with_forgotten_on exec) d.tracker.shuffles)
         (change_at d.tracker.trust exec (seen_at found d.tracker.epoch)) (d.tracker.epoch + 1)
         else d.tracker))
-    by true = tracker_calm d _ (lost_seen d.tracker.trust exec d.tracker.epoch)
-    by false = tracker_calm d d.tracker (λ e. refl)
+    by true =
+        tracker_calm d _
+        (length_change_at d.tracker.trust exec (seen_at found d.tracker.epoch))
+        (lost_seen d.tracker.trust exec d.tracker.epoch)
+    by false = tracker_calm d d.tracker refl (λ e. refl)

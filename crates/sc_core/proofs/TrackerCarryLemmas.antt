@@ -19,34 +19,46 @@ use Rattle.sc_tracker.specs.declared.trust.Trust.{Trust}
 use Rattle.sc_tracker.proofs.BlockLemmas.{forgets_on_one, registers_one}
 use Rattle.sc_dag.specs.DagData.{DagData, with_tracker}
 use Rattle.sc_dag.proofs.Trackers.{which_block}
-use Rattle.sc_core.specs.Sound.{AreOnExecutors, IsInput, born_of}
+use Rattle.sc_core.specs.Sound.{AreOnLive, IsInput, IsLive, born_of}
 use Rattle.sc_core.proofs.CarryLemmas.{Carries, carries_same}
 
--- an output registered on an executor of the run
+-- an executor is as live where nothing else is known of executors
+pub live_as : (t u : TrackerData) (exec : ℕ) → u.trust ≡ t.trust → IsLive t exec → IsLive u exec
+live_as t u exec same is = record { there = rw same is.there; live = rw same is.live }
+
+-- an output registered on an executor that is live
 pub registered_placed :
     (t : TrackerData) (block : BlockId) (loc : Loc) → HasRoomFor t block
-    → loc.exec < length t.trust → AreOnExecutors t → AreOnExecutors (registered t block loc)
-registered_placed t block loc room lt all other = by (which_block other block)
+    → IsLive t loc.exec → AreOnLive t → AreOnLive (registered t block loc)
+registered_placed t block loc room live all other = by (which_block other block)
   where
+    kept : (here : Option Loc) → IfSome here (λ x. IsLive t x.exec)
+        → IfSome here (λ x. IsLive (registered t block loc) x.exec)
+    kept None h = h
+    kept (Some x) h = live_as t (registered t block loc) x.exec refl h
+
     by : (other ≡ block) ⊎ (other ≡ block → ⊥)
-        → IfSome (output_of (registered t block loc) other).here (λ x. x.exec < length t.trust)
+        → IfSome (output_of (registered t block loc) other).here
+        (λ x. IsLive (registered t block loc) x.exec)
     by (inl e) =
         subst (λ b. IfSome (output_of (registered t block loc) b).here
-        (λ x. x.exec < length t.trust)) (sym e)
-        (rw ((registers_one t block loc).0 room) lt)
-    by (inr ne) = rw ((registers_one t block loc).1 other ne) (all other)
+        (λ x. IsLive (registered t block loc) x.exec)) (sym e)
+        (rw ((registers_one t block loc).0 room)
+        (live_as t (registered t block loc) loc.exec refl live))
+    by (inr ne) =
+        rw ((registers_one t block loc).1 other ne) (kept (output_of t other).here (all other))
 
 pub registered_carries :
     (d : DagData) (block : BlockId) (loc : Loc) → HasRoomFor d.tracker block
-    → loc.exec < length d.tracker.trust
+    → IsLive d.tracker loc.exec
     → Carries d (with_tracker d (registered d.tracker block loc))
-registered_carries d block loc room lt =
+registered_carries d block loc room live =
     record {
       many = refl;
       epoch = omega arith;
       born = λ a b e. e;
       inputs = λ born epoch l le is. by born epoch l is;
-      placed = registered_placed d.tracker block loc room lt;
+      placed = registered_placed d.tracker block loc room live;
     }
   where
     by : (born epoch : ℕ) (l : Location) → IsInput d.tracker born epoch l
@@ -80,15 +92,30 @@ event_inputs t u exec event born epoch (Here loc) le (lt, known) =
     by false e = rw (event.others loc.exec e) known
 
 event_placed :
-    (t u : TrackerData) (exec : ℕ) → IsEvent t u exec → AreOnExecutors t → AreOnExecutors u
+    (t u : TrackerData) (exec : ℕ) → IsEvent t u exec → AreOnLive t → AreOnLive u
 event_placed t u exec event all block =
-    rw (event.outputs block, event.many) (by (is_on exec (output_of t block).here))
+    rw (event.outputs block) (by (output_of t block).here refl (all block))
   where
-    by : (x : Bool)
+    away : (loc : Loc) → (loc.exec == exec) ≡ false → IsLive t loc.exec → IsLive u loc.exec
+    away loc other is =
+        record {
+          there = subst (λ n. loc.exec < n) (sym event.many) is.there;
+          live = ap (λ x. x.lost) (event.others loc.exec other) ∙ is.live;
+        }
+
+    on : (loc : Loc) (x : Bool) → (loc.exec == exec) ≡ x → (output_of t block).here ≡ Some loc
+        → IsLive t loc.exec
         → IfSome (if x then forgotten (output_of t block) else output_of t block).here
-        (λ loc. loc.exec < length t.trust)
-    by true = tt
-    by false = all block
+        (λ at. IsLive u at.exec)
+    on loc true e here is = tt
+    on loc false e here is = rw here (away loc e is)
+
+    by : (here : Option Loc) → (output_of t block).here ≡ here
+        → IfSome here (λ loc. IsLive t loc.exec)
+        → IfSome (if is_on exec here then forgotten (output_of t block)
+        else output_of t block).here (λ loc. IsLive u loc.exec)
+    by None e h = rw e tt
+    by (Some loc) e h = on loc (loc.exec == exec) refl e h
 
 -- what was heard of an executor changed
 trust_event :

@@ -18,7 +18,7 @@ use Rattle.sc_core.specs.CoreData.{CoreData, job_runs, result_stage, running_of,
 use Rattle.sc_core.specs.Journals.{Replays}
 use Rattle.sc_core.specs.Openings.{IsOpening, tracker_behind}
 use Rattle.sc_core.specs.Sides.{IsAside}
-use Rattle.sc_core.specs.Sound.{IsSoundCore}
+use Rattle.sc_core.specs.Sound.{HasLive, IsSoundCore}
 use Rattle.sc_core.specs.Steps.{Steps, is_enabled}
 use Rattle.sc_core.specs.Takes.{IsAsking}
 use Rattle.sc_core.specs.declared.answers.Abort.TheVariants.{Budget, NoExecutor, StageLimit, TaskLimit}
@@ -49,13 +49,18 @@ ReplaysKeepSound =
     (opening end : CoreData) (entries : List Entry) → IsSoundCore opening
     → Replays opening entries end → IsSoundCore end
 
--- the core of a job that begins is sound
+-- in the first job somebody is live, where there are executors
+abbrev pub FirstHasLive : Type 0
+FirstHasLive = (limits : Limits) → 0 < limits.executors → HasLive (tracker_behind None limits)
+
+-- the core of a job that begins where somebody is live is sound
 abbrev pub OpeningsAreSound : Type 0
 OpeningsAreSound =
     (graph : List StageData) (limits : Limits) (saves : Bool) (plan : List PlanLine)
     (last : Option CoreData) (c : CoreData)
     → IsJob graph → FitsJob (tracker_behind last limits) graph → IfSome last IsSoundCore
-    → IsOpening graph limits saves plan last c → IsSoundCore c
+    → HasLive (tracker_behind last limits) → IsOpening graph limits saves plan last c
+    → IsSoundCore c
 
 -- and a journal leaves one state
 abbrev pub ReplaysAgree : Type 0

@@ -21,6 +21,7 @@ use Rattle.sc_tracker.specs.declared.outputs.Location.{Location}
 use Rattle.sc_tracker.specs.declared.outputs.Location.TheVariants.{Here, Missing}
 use Rattle.sc_core.specs.CoreData.{CoreData, is_of, job_runs, result_stage, running_of}
 use Rattle.sc_core.specs.HandOuts.{HandOutData}
+use Rattle.sc_core.specs.declared.answers.Abort.TheVariants.{NoExecutor}
 use Rattle.sc_core.specs.declared.answers.JobState.TheVariants as jobs
 use Rattle.sc_core.specs.Losses.{is_due_after}
 use Rattle.sc_core.specs.Posts.{fits}
@@ -53,10 +54,18 @@ pub record WasHandedOut (d : DagData) (h : HandOutData) : Type 0 where
   pub past : h.epoch ≤ d.tracker.epoch
   pub inputs : All (IsInput d.tracker born h.epoch) h.inputs
 
--- registered outputs lie on executors of the run
-abbrev pub AreOnExecutors : TrackerData → Type 0
-AreOnExecutors t =
-    (block : BlockId) → IfSome (output_of t block).here (λ loc. loc.exec < length t.trust)
+-- an executor is one of the run, and wasn't told lost
+pub record IsLive (t : TrackerData) (exec : ℕ) : Type 0 where
+  pub there : exec < length t.trust
+  pub live : (trust_of t exec).lost ≡ false
+
+-- registered outputs lie on executors that are live
+abbrev pub AreOnLive : TrackerData → Type 0
+AreOnLive t = (block : BlockId) → IfSome (output_of t block).here (λ loc. IsLive t loc.exec)
+
+-- somebody is live
+abbrev pub HasLive : TrackerData → Type 0
+HasLive t = (exec : ℕ) × IsLive t exec
 
 -- ---- what runs
 
@@ -97,8 +106,8 @@ pub record IsSoundJob (c : CoreData) : Type 0 where
   pub running : All (RunsWell c) c.running
   pub known : (a : AttemptId) (exec : ℕ) → runner_of c.dag a ≡ Some exec
       → running_of c a ≢ None
-  -- what is registered lies on executors of the run
-  pub placed : AreOnExecutors c.dag.tracker
+  -- what is registered lies on executors that are live
+  pub placed : AreOnLive c.dag.tracker
   -- an executor has one attempt out
   pub apart : AllPairs AreTwo c.running
   -- nothing is denied yet
@@ -157,6 +166,10 @@ AreLostAsPlanned c =
     (exec : ℕ) → (trust_of c.dag.tracker exec).lost ≡ true
     → is_due_after (loss_of c.plan exec) c.told ≡ true
 
+-- somebody is live, unless the job was aborted since nobody was
+abbrev pub IsStaffed : CoreData → Type 0
+IsStaffed c = c.job ≢ jobs.Aborted NoExecutor → HasLive c.dag.tracker
+
 -- ---- every core
 
 pub record IsSoundCore (c : CoreData) : Type 0 where
@@ -166,3 +179,4 @@ pub record IsSoundCore (c : CoreData) : Type 0 where
   pub lost : AreLostAsPlanned c
   -- the count of what was told is within its type
   pub told : c.told < 2 ^ 64
+  pub staffed : IsStaffed c

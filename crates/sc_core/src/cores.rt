@@ -8,7 +8,7 @@ ghost use Rattle.sc_dag.specs.Openings.{FitsJob, IsJob};
 ghost use Rattle.sc_core.specs.CoreData.{job_runs, result_stage};
 ghost use Rattle.sc_core.specs.Openings.{IsOpening, tracker_behind};
 ghost use Rattle.sc_core.specs.Owners.{IsThrice};
-ghost use Rattle.sc_core.specs.Sound.{IsSoundCore};
+ghost use Rattle.sc_core.specs.Sound.{HasLive, IsSoundCore};
 ghost use Rattle.sc_core.specs.Steps.{Steps, is_enabled};
 ghost use Rattle.sc_core.specs.declared.answers.NotEnabled.{NotEnabled};
 
@@ -42,7 +42,7 @@ impl Model for Core {
 impl Core {
     /// The core of a job with these stages, in a run under this plan, behind another job of the run
     /// or none; `saves` says whether its result tasks commit. What that one's tracker knows of
-    /// shuffles is carried on, and so is its plan.
+    /// shuffles is carried on, and so is its plan. Some executor wasn't told lost.
     pub fn open(
         alloc: Global,
         graph: &StageGraph,
@@ -53,6 +53,7 @@ impl Core {
     ) -> Result<Core, AllocError>
         requires job { IsJob graph.now }
         requires fits { FitsJob (tracker_behind (option_map (λ l. l.now) last) limits) graph.now }
+        requires live { HasLive (tracker_behind (option_map (λ l. l.now) last) limits) }
         ensures { IfOk result
             (λ c. IsOpening graph.now limits saves plan.now (option_map (λ l. l.now) last.entry)
             c) }

@@ -1,7 +1,7 @@
 //! Laws of cores, as functions that do nothing.
 #![tactic(auto)]
 
-ghost use Rattle.sc_core.specs.Laws.{DoneJobsAreWhole, EventsAreAnswered, NeverStuck, NoExecutorsAreLeft, OpeningsAreSound, ReplaysAgree, ReplaysKeepSound, SideEventsStayAside, StageLimitsAreReached, StepsAgree, StepsAreSpent, StepsKeepSound, TaskLimitsAreReached, WaitsHaveCause};
+ghost use Rattle.sc_core.specs.Laws.{DoneJobsAreWhole, EventsAreAnswered, FirstHasLive, NeverStuck, NoExecutorsAreLeft, OpeningsAreSound, ReplaysAgree, ReplaysKeepSound, SideEventsStayAside, StageLimitsAreReached, StepsAgree, StepsAreSpent, StepsKeepSound, TaskLimitsAreReached, WaitsHaveCause};
 ghost use Rattle.sc_core.specs.Openings.{OpeningsAreSubmissions};
 ghost use Rattle.sc_core.specs.Waits.{WaitsAreForOthers};
 
@@ -11,8 +11,10 @@ pub fn steps_have_one_answer()
     ensures replays { ReplaysAgree }
 {}
 
-/// What holds of a core is kept, whatever happens. A call does nothing.
+/// What holds of a core is kept, whatever happens; in the first job of a run somebody is live. A
+/// call does nothing.
 pub fn cores_are_sound()
+    ensures first { FirstHasLive }
     ensures begins { OpeningsAreSound }
     ensures steps { StepsKeepSound }
     ensures replays { ReplaysKeepSound }

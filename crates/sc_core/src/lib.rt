@@ -48,5 +48,6 @@ pub use entries::Entry;
 pub use events::{Event, Outcome, SideEvent};
 pub use inputs::Inputs;
 pub use journals::{Entered, JobHistory, Journal};
+pub use laws::cores_are_sound;
 pub use running::{HandOut, Phase, Running, Shelved};
 pub use stories::story;

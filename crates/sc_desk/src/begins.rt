@@ -4,7 +4,8 @@
 ghost use Rattle.std.specs.Prelude.{◌≡◌, [], IfErr, IfOk, IfSome, None, OnErr, replicate};
 ghost use Rattle.std.specs.Option.{option_map};
 ghost use Rattle.sc_stagecut.specs.Carrying.{HasBounds};
-ghost use Rattle.sc_core.specs.Sound.{IsSoundCore};
+ghost use Rattle.sc_core.specs.Sound.{HasLive, IsSoundCore};
+ghost use Rattle.sc_core.specs.Openings.{tracker_behind};
 ghost use Rattle.sc_jobs.specs.JobData.{IsGoal, goal_node};
 ghost use Rattle.sc_desk.specs.Begins.{Begins, FitsLast, IsFresh, IsHandedBack, IsPassedFor, begun_desk};
 ghost use Rattle.sc_desk.specs.Sound.{IsSoundDesk, result_count};
@@ -19,9 +20,9 @@ use std::alloc::{AllocError, AllocFailed, Global};
 
 impl<W: Naming> Desk<W> {
     /// The desk of a job that begins, behind what goes on from the jobs before and behind the core
-    /// of the last of them or none. Its core is opened under the fault plan of the work. Where
-    /// memory is wanting, what goes on is handed back, with the new stages of the job or without
-    /// them.
+    /// of the last of them or none, where somebody is live. Its core is opened under the fault plan
+    /// of the work. Where memory is wanting, what goes on is handed back, with the new stages of the
+    /// job or without them.
     pub fn begin(
         alloc: Global,
         work: SharedWork<W>,
@@ -33,6 +34,7 @@ impl<W: Naming> Desk<W> {
         requires passed { IsPassedFor W.work passed }
         requires bounds { HasBounds W.work.script.nodes passed.carried (goal_node W.work goal) }
         requires fits { FitsLast W.work (option_map (λ l. l.now) last) }
+        requires live { HasLive (tracker_behind (option_map (λ l. l.now) last) W.work.limits) }
         ensures begun { IfOk result
             (λ d. Begins W.work passed (option_map (λ l. l.now) last.entry) goal d) }
         ensures back { IfErr result (λ failed. IsHandedBack W.work passed goal failed.value) }
@@ -81,6 +83,7 @@ fn open_job<W: Naming>(
     requires passed { IsPassedFor W.work passed.old }
     requires bounds { HasBounds W.work.script.nodes passed.old.carried (goal_node W.work goal) }
     requires fits { FitsLast W.work (option_map (λ l. l.now) last) }
+    requires live { HasLive (tracker_behind (option_map (λ l. l.now) last) W.work.limits) }
     ensures begun { IfOk result (λ o. Begins W.work passed.old
         (option_map (λ l. l.now) last.entry) goal
         (begun_desk o.job o.journal o.results.items passed.new)) }
@@ -112,7 +115,8 @@ fn begin_journal<W: Naming>(
     job: &Job<W>,
     last: Option<&Core>,
 ) -> Result<Begun, AllocError>
-    requires { FitsLast W.work (option_map (λ l. l.now) last) }
+    requires fits { FitsLast W.work (option_map (λ l. l.now) last) }
+    requires live { HasLive (tracker_behind (option_map (λ l. l.now) last) W.work.limits) }
     ensures fresh { IfOk result (λ b. IsFresh job.now.graph W.work.limits W.work.plan
         (option_map (λ l. l.now) last.entry) b.journal) }
     ensures sound { IfOk result (λ b. IsSoundCore b.journal.core) }
@@ -131,7 +135,8 @@ fn journal_of<W: Naming>(
     job: &Job<W>,
     last: Option<&Core>,
 ) -> Result<Journal, AllocError>
-    requires { FitsLast W.work (option_map (λ l. l.now) last) }
+    requires fits { FitsLast W.work (option_map (λ l. l.now) last) }
+    requires live { HasLive (tracker_behind (option_map (λ l. l.now) last) W.work.limits) }
     ensures fresh { IfOk result (λ j. IsFresh job.now.graph W.work.limits W.work.plan
         (option_map (λ l. l.now) last.entry) j) }
     ensures sound { IfOk result (λ j. IsSoundCore j.core) }

@@ -23,7 +23,6 @@ pub mod FreshLemmas
 pub mod CauseCases
 pub mod TrackerLemmas
 pub mod RulingLemmas
-pub mod StaffLemmas
 pub mod GivenLemmas
 pub mod BirthLemmas
 pub mod LaterLemmas

@@ -7,7 +7,6 @@ pub mod Trackers
 pub mod Given
 pub mod Charges
 pub mod Ruling
-pub mod Staffing
 pub mod Evidence
 pub mod StageEvidence
 pub mod Fresh

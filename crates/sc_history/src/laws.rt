@@ -12,7 +12,6 @@ ghost use Rattle.sc_history.specs.Results.{ResultsAreOnce};
 ghost use Rattle.sc_history.specs.Rooms.{ReplaysKeepRoom, StepsKeepRoom};
 ghost use Rattle.sc_history.specs.Ruling.{BogusStays, EventsForgetAtOne, OthersForgetNone, ReplaysGoForward};
 ghost use Rattle.sc_history.specs.StageEvidence.{StageLimitsAreShown};
-ghost use Rattle.sc_history.specs.Staffing.{FirstIsStaffed, OpeningsAreStaffed, ReplaysKeepStaffed, StepsKeepStaffed};
 ghost use Rattle.sc_history.specs.Tellings.{ReportsArePosted};
 ghost use Rattle.sc_history.specs.Trackers.{EpochsCount, StepsCountEpochs, StepsTrack};
 
@@ -83,15 +82,6 @@ pub fn what_is_heard_stays()
     ensures bogus { BogusStays }
     ensures forgets { EventsForgetAtOne }
     ensures others { OthersForgetNone }
-{}
-
-/// While a job runs somebody is live, and behind each job that wasn't aborted since nobody was. A
-/// call does nothing.
-pub fn somebody_is_live()
-    ensures first { FirstIsStaffed }
-    ensures begins { OpeningsAreStaffed }
-    ensures steps { StepsKeepStaffed }
-    ensures replays { ReplaysKeepStaffed }
 {}
 
 /// Each attempt of a stage that fails is charged to an event of its own, also once it counts no

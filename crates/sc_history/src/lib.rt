@@ -12,5 +12,5 @@ mod laws;
 pub use laws::{
     aborts_are_shown, epochs_count, failures_are_charged, hand_outs_are_counted, losses_are_shown,
     openings_agree, reports_are_posted, results_are_once, room_is_kept, running_are_given,
-    somebody_is_live, takes_are_fresh, what_is_heard_stays,
+    takes_are_fresh, what_is_heard_stays,
 };

@@ -5,10 +5,10 @@ ghost use Rattle.std.specs.Prelude.{◌≡◌, ◌<◌, IfSome, false};
 ghost use Rattle.std.specs.Option.{option_map};
 ghost use Rattle.sc_dag.specs.Openings.{FitsJob, IsJob};
 ghost use Rattle.sc_core.specs.Openings.{IsOpening, tracker_behind};
-ghost use Rattle.sc_core.specs.Sound.{IsSoundCore};
+ghost use Rattle.sc_core.specs.Sound.{HasLive, IsSoundCore};
 ghost use Rattle.sc_rows.specs.Jobs.{results_alone, room_of, word_count};
 
-use sc_core::{Core, Journal};
+use sc_core::{Core, JobState, Journal, cores_are_sound};
 use sc_ids::{Limits, ShuffleId, Stage, StageGraph, StageId, Target};
 use sc_plan::{Plan, parse_plan};
 use sc_value::Octets;
@@ -61,6 +61,7 @@ fn begun<R: Abort + AllocGlobal>(
         result.core }
 {
     is_sound_behind(last);
+    is_live_behind(rt, limits, last);
     let opening = Core::open(rt.alloc(), graph, limits, false, plan, last).expect(rt, "memory");
     let core = Core::open(rt.alloc(), graph, limits, false, plan, last).expect(rt, "memory");
     Journal::begin(rt.alloc(), opening, core)
@@ -72,6 +73,24 @@ fn is_sound_behind(last: Option<&Core>)
 {
     if let Some(core) = last {
         core.is_sound();
+    }
+}
+
+/// Somebody is live behind the core of the job before, which is done, or in a first job.
+fn is_live_behind<R: Abort>(rt: &R, limits: Limits, last: Option<&Core>)
+    ensures { HasLive (tracker_behind (option_map (λ l. l.now) last.entry) limits) }
+{
+    cores_are_sound();
+    match last {
+        None if limits.executors > 0 => {}
+        None => panic!(rt; "no executors"),
+        Some(core) => {
+            core.is_sound();
+            match core.job() {
+                JobState::Done => {}
+                _ => panic!(rt; "the job before isn't done"),
+            }
+        }
     }
 }
 
