@@ -56,6 +56,8 @@ mod readers;
 #[cfg(test)]
 mod sequences;
 #[cfg(test)]
+mod slow_attempts;
+#[cfg(test)]
 mod streams;
 #[cfg(test)]
 mod transcripts;
