@@ -117,11 +117,11 @@ input_is d block born sound placed was =
     by None e live fresh (inr w) = lost w
 
 pub handed_new :
-    (d : DagData) (exec : ℕ) (h : HandOutData) → IsSoundDag d → AreOnLive d.tracker
-    → IsOffered d exec h.attempt
+    (d : DagData) (exec now : ℕ) (h : HandOutData) → IsSoundDag d → AreOnLive d.tracker
+    → IsOffered d exec now h.attempt
     → h.attempt.stage_attempt ≡ newest_number d h.attempt.stage
     → h.epoch ≡ d.tracker.epoch → h.inputs ≡ inputs_of d h.attempt.stage → WasHandedOut d h
-handed_new d exec h sound placed o number epoch inputs =
+handed_new d exec now h sound placed o number epoch inputs =
     record {
       born = o.set.born;
       is_born = ap (λ x. option_map (λ set. set.born) x)

@@ -4,7 +4,7 @@ use Rattle.sc_ids.specs.Changes.{change_at}
 use Rattle.sc_ids.specs.declared.attempts.AttemptId.{AttemptId}
 use Rattle.sc_commit.specs.Committing.{is_same}
 use Rattle.sc_taskset.specs.Lookups.{is_task_of, is_there_and, task_at}
-use Rattle.sc_taskset.specs.Offers.{IsNext, given_in, handed, is_copyable_task, is_pending, is_pending_task, may_be_given}
+use Rattle.sc_taskset.specs.Offers.{IsNext, given_in, handed, is_copyable_task, is_slow, is_pending, is_pending_task, may_be_given}
 use Rattle.sc_taskset.specs.Sound.{IsSoundTask}
 use Rattle.sc_taskset.specs.TaskSetData.{TaskData, TaskSetData}
 use Rattle.sc_taskset.proofs.FindLemmas.{found_is}
@@ -21,19 +21,19 @@ use Rattle.sc_core.proofs.SetCallLemmas.{handed_moves}
 use Rattle.sc_core.proofs.StateLemmas.{MovesOf, attempt_moves, is_number_of}
 
 -- the task that is offered: one of the newest set of its stage, under its next number
-pub record IsOffered (d : DagData) (exec : ℕ) (a : AttemptId) : Type 0 where
+pub record IsOffered (d : DagData) (exec now : ℕ) (a : AttemptId) : Type 0 where
   pub set : TaskSetData
   pub newest : newest_at d a.stage ≡ Some set
   pub task : TaskData
   pub is_task : task_at a.partition set.tasks ≡ Some task
   pub nth : a.nth ≡ task.given
-  pub may : may_be_given set exec a.partition ≡ true
+  pub may : may_be_given set exec now a.partition ≡ true
   pub sound : IsSoundTask task
 
 -- what may be given is a task
-given_there : (set : TaskSetData) (exec p : ℕ) → may_be_given set exec p ≡ true
+given_there : (set : TaskSetData) (exec now p : ℕ) → may_be_given set exec now p ≡ true
     → (t : TaskData) × (task_at p set.tasks ≡ Some t)
-given_there set exec p may = by (task_at p set.tasks) refl may
+given_there set exec now p may = by (task_at p set.tasks) refl may
   where
     and_no : (b : Bool) → (b && false) ≡ false
     and_no true = refl
@@ -42,7 +42,7 @@ given_there set exec p may = by (task_at p set.tasks) refl may
     by : (o : Option TaskData) → task_at p set.tasks ≡ o
         → ((not set.is_zombie && is_there_and is_pending_task o)
         || (set.limits.speculation
-        && (not set.is_zombie && is_there_and (is_copyable_task exec) o))) ≡ true
+        && (not set.is_zombie && is_there_and (is_copyable_task (is_slow set now) exec) o))) ≡ true
         → (t : TaskData) × (task_at p set.tasks ≡ Some t)
     by None e m = absurd (true≢false (sym m ∙ none set.is_zombie set.limits.speculation))
       where
@@ -53,12 +53,12 @@ given_there set exec p may = by (task_at p set.tasks) refl may
         none false false = refl
     by (Some t) e m = (t, e)
 
-pub offered : (d : DagData) (exec : ℕ) (a : AttemptId) → IsSoundDag d → IsOffer d exec a
-    → IsOffered d exec a
-offered d exec a sound offer = by (newest_at d a.stage) refl offer.offered
+pub offered : (d : DagData) (exec now : ℕ) (a : AttemptId) → IsSoundDag d → IsOffer d exec now a
+    → IsOffered d exec now a
+offered d exec now a sound offer = by (newest_at d a.stage) refl offer.offered
   where
-    next : (set : TaskSetData) → IsNext set exec a.partition
-        → may_be_given set exec a.partition ≡ true
+    next : (set : TaskSetData) → IsNext set exec now a.partition
+        → may_be_given set exec now a.partition ≡ true
     next set (inl s) = rw s.passes refl
     next set (inr (never, s)) = rw s.passes (or_true (is_pending set a.partition))
       where
@@ -67,11 +67,11 @@ offered d exec a sound offer = by (newest_at d a.stage) refl offer.offered
         or_true false = refl
 
     by : (o : Option TaskSetData) → newest_at d a.stage ≡ o
-        → OffersIn o exec (Some (given_of a)) → IsOffered d exec a
+        → OffersIn o exec now (Some (given_of a)) → IsOffered d exec now a
     by None e h = absurd h
     by (Some set) e h =
         let may = next set h.0 in
-        let t = given_there set exec a.partition may in
+        let t = given_there set exec now a.partition may in
         record {
           set = set;
           newest = e;
@@ -84,13 +84,13 @@ offered d exec a sound offer = by (newest_at d a.stage) refl offer.offered
               (λ i x l. ((sound.attempts a.stage i x l).set.sound).tasks) e) t.1;
         }
 
-pub offered_may : (d : DagData) (exec : ℕ) (a : AttemptId) → IsOffered d exec a
-    → may_be_given_in (newest_at d a.stage) exec a.partition ≡ true
-offered_may d exec a o = rw o.newest o.may
+pub offered_may : (d : DagData) (exec now : ℕ) (a : AttemptId) → IsOffered d exec now a
+    → may_be_given_in (newest_at d a.stage) exec now a.partition ≡ true
+offered_may d exec now a o = rw o.newest o.may
 
 -- what is handed out
 pub handed_out_moves :
-    (d : DagData) (exec now : ℕ) (a : AttemptId) → IsOffered d exec a
+    (d : DagData) (exec now : ℕ) (a : AttemptId) → IsOffered d exec now a
     → a.stage_attempt ≡ newest_number d a.stage
     → Moves (is_same a) (Some exec) d (handed_out d a exec now)
 handed_out_moves d exec now a o number =

@@ -89,9 +89,9 @@ runs_given d a exec sound runs = by (set_of d a) refl runs
 
 -- one that comes next wasn't
 offered_fresh :
-    (d : DagData) (exec : ℕ) (a : AttemptId) → IsOffered d exec a
+    (d : DagData) (exec now : ℕ) (a : AttemptId) → IsOffered d exec now a
     → a.stage_attempt ≡ newest_number d a.stage → was_given d a ≡ false
-offered_fresh d exec a o number =
+offered_fresh d exec now a o number =
     ap (λ s. given_in s a) (set_of_newest d a number ∙ o.newest)
     ∙ ap (λ t. given_among t a.nth) o.is_task
     ∙ ap (λ (n : ℕ). nat_lt n o.task.given) o.nth ∙ itself o.task.given
@@ -412,8 +412,8 @@ task_shelf c exec h sound asks is shelf =
     after : CoreData
     after = with_task c exec h
 
-    o : IsOffered c.dag exec h.attempt
-    o = offered c.dag exec h.attempt sound.dag is.offer
+    o : IsOffered c.dag exec c.now h.attempt
+    o = offered c.dag exec c.now h.attempt sound.dag is.offer
 
     moves : Moves (is_same h.attempt) (Some exec) c.dag (handed_out c.dag h.attempt exec c.now)
     moves = handed_out_moves c.dag exec c.now h.attempt o is.offer.newest
@@ -424,7 +424,7 @@ task_shelf c exec h sound asks is shelf =
     other s given true e =
         absurd (clash given
         (subst (λ b. was_given c.dag b ≡ false) (same_is h.attempt s.attempt e)
-        (offered_fresh c.dag exec h.attempt o is.offer.newest)))
+        (offered_fresh c.dag exec c.now h.attempt o is.offer.newest)))
 
     awaits : (s : Shelved) (r : Running) → AwaitsTelling c s r → AwaitsTelling after s r
     awaits s r w =

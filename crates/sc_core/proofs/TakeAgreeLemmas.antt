@@ -20,60 +20,60 @@ smallest_agree test p q a b =
     search (arith, nat_tests, rules, a.passes, b.passes, a.smallest, b.smallest)
 
 -- nothing is offered, or something
-none_or : (o : Option TaskSetData) (exec : ℕ) (g : GivenTask) → OffersIn o exec None
-    → OffersIn o exec (Some g) → ⊥
-none_or None exec g a b = b
-none_or (Some set) exec g (no_pending, no_copy) (next, nth) = by next
+none_or : (o : Option TaskSetData) (exec now : ℕ) (g : GivenTask) → OffersIn o exec now None
+    → OffersIn o exec now (Some g) → ⊥
+none_or None exec now g a b = b
+none_or (Some set) exec now g (no_pending, no_copy) (next, nth) = by next
   where
-    by : IsNext set exec g.partition → ⊥
+    by : IsNext set exec now g.partition → ⊥
     by (inl s) = clash s.passes (no_pending g.partition)
     by (inr (never, s)) = clash s.passes (no_copy g.partition)
 
-next_agree : (set : TaskSetData) (exec p q : ℕ) → IsNext set exec p → IsNext set exec q → p ≡ q
-next_agree set exec p q (inl a) (inl b) = smallest_agree (is_pending set) p q a b
-next_agree set exec p q (inl a) (inr (never, b)) = absurd (clash a.passes (never p))
-next_agree set exec p q (inr (never, a)) (inl b) = absurd (clash b.passes (never q))
-next_agree set exec p q (inr (n, a)) (inr (m, b)) = smallest_agree (is_copyable set exec) p q a b
+next_agree : (set : TaskSetData) (exec now p q : ℕ) → IsNext set exec now p → IsNext set exec now q → p ≡ q
+next_agree set exec now p q (inl a) (inl b) = smallest_agree (is_pending set) p q a b
+next_agree set exec now p q (inl a) (inr (never, b)) = absurd (clash a.passes (never p))
+next_agree set exec now p q (inr (never, a)) (inl b) = absurd (clash b.passes (never q))
+next_agree set exec now p q (inr (n, a)) (inr (m, b)) = smallest_agree (is_copyable set exec now) p q a b
 
-given_agree : (o : Option TaskSetData) (exec : ℕ) (g h : GivenTask) → OffersIn o exec (Some g)
-    → OffersIn o exec (Some h) → (g.partition ≡ h.partition) × (g.nth ≡ h.nth)
-given_agree None exec g h a b = absurd a
-given_agree (Some set) exec g h (next, nth) (next', nth') =
-    let p = next_agree set exec g.partition h.partition next next' in
+given_agree : (o : Option TaskSetData) (exec now : ℕ) (g h : GivenTask) → OffersIn o exec now (Some g)
+    → OffersIn o exec now (Some h) → (g.partition ≡ h.partition) × (g.nth ≡ h.nth)
+given_agree None exec now g h a b = absurd a
+given_agree (Some set) exec now g h (next, nth) (next', nth') =
+    let p = next_agree set exec now g.partition h.partition next next' in
     (p, nth ∙ ap (λ (q : ℕ). taskset.given_of set q) p ∙ sym nth')
 
 -- the first stage that offers something is one
-stages_agree : (d : DagData) (exec : ℕ) (a b : AttemptId) → IsOffer d exec a → IsOffer d exec b
+stages_agree : (d : DagData) (exec now : ℕ) (a b : AttemptId) → IsOffer d exec now a → IsOffer d exec now b
     → a.stage ≡ b.stage
-stages_agree d exec a b x y = by (nat_lt a.stage b.stage) (nat_lt b.stage a.stage) refl refl
+stages_agree d exec now a b x y = by (nat_lt a.stage b.stage) (nat_lt b.stage a.stage) refl refl
   where
     by : (u v : Bool) → nat_lt a.stage b.stage ≡ u → nat_lt b.stage a.stage ≡ v
         → a.stage ≡ b.stage
     by true v e f =
-        absurd (none_or (newest_at d a.stage) exec (given_of a)
+        absurd (none_or (newest_at d a.stage) exec now (given_of a)
         (y.first a.stage (grind (arith, nat_tests, e))) x.offered)
     by false true e f =
-        absurd (none_or (newest_at d b.stage) exec (given_of b)
+        absurd (none_or (newest_at d b.stage) exec now (given_of b)
         (x.first b.stage (grind (arith, nat_tests, f))) y.offered)
     by false false e f = grind (arith, nat_tests, e, f)
 
-pub offers_agree : (d : DagData) (exec : ℕ) (a b : AttemptId) → IsOffer d exec a → IsOffer d exec b
+pub offers_agree : (d : DagData) (exec now : ℕ) (a b : AttemptId) → IsOffer d exec now a → IsOffer d exec now b
     → a ≡ b
-offers_agree d exec a b x y =
-    let s = stages_agree d exec a b x y in
+offers_agree d exec now a b x y =
+    let s = stages_agree d exec now a b x y in
     let k : a.stage_attempt ≡ b.stage_attempt =
     x.newest ∙ ap (λ (n : ℕ). newest_number d n) s ∙ sym y.newest in
-    let g = given_agree (newest_at d b.stage) exec (given_of a) (given_of b)
-    (subst (λ (n : ℕ). OffersIn (newest_at d n) exec (Some (given_of a))) s x.offered) y.offered in
+    let g = given_agree (newest_at d b.stage) exec now (given_of a) (given_of b)
+    (subst (λ (n : ℕ). OffersIn (newest_at d n) exec now (Some (given_of a))) s x.offered) y.offered in
     λ i. record { stage = s i; stage_attempt = k i; partition = g.0 i; nth = g.1 i }
 
-pub no_offer : (d : DagData) (exec : ℕ) (a : AttemptId) → HasNone d exec → IsOffer d exec a → ⊥
-no_offer d exec a none o = none_or (newest_at d a.stage) exec (given_of a) (none a.stage) o.offered
+pub no_offer : (d : DagData) (exec now : ℕ) (a : AttemptId) → HasNone d exec now → IsOffer d exec now a → ⊥
+no_offer d exec now a none o = none_or (newest_at d a.stage) exec now (given_of a) (none a.stage) o.offered
 
 hand_outs_agree : (c : CoreData) (exec : ℕ) (g h : HandOutData) → IsHandOut c exec g
     → IsHandOut c exec h → g ≡ h
 hand_outs_agree c exec g h a b =
-    let same = offers_agree c.dag exec g.attempt h.attempt a.offer b.offer in
+    let same = offers_agree c.dag exec c.now g.attempt h.attempt a.offer b.offer in
     let epoch : g.epoch ≡ h.epoch = a.epoch ∙ sym b.epoch in
     let inputs : g.inputs ≡ h.inputs =
     a.inputs ∙ ap (λ (x : AttemptId). inputs_of c.dag x.stage) same ∙ sym b.inputs in

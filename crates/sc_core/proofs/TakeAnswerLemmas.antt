@@ -9,6 +9,7 @@ use Rattle.sc_taskset.specs.TaskSetData.{TaskData, TaskSetData, partitions_of}
 use Rattle.sc_taskset.specs.declared.tasks.GivenTask.{GivenTask}
 use Rattle.sc_taskset.proofs.OfferLemmas.{offer_of, offers_nothing, offers_task}
 use Rattle.sc_dag.specs.DagData.{DagData, newest_at}
+use Rattle.sc_taskset.specs.Offers.{is_slow}
 use Rattle.sc_dag.specs.Offers.{HasNone, IsOffer, OffersIn, newest_number}
 use Rattle.sc_dag.specs.Sound.{IsSoundDag}
 use Rattle.sc_dag.proofs.Moving.{newest_among}
@@ -28,11 +29,11 @@ use Rattle.sc_core.proofs.LookupLemmas.{attempt}
 
 -- a set has a task for it, or none
 set_offers :
-    (d : DagData) (s exec : ℕ) → IsSoundDag d → (o : Option TaskSetData) → newest_at d s ≡ o
-    → ((g : GivenTask) × OffersIn o exec (Some g)) ⊎ OffersIn o exec None
-set_offers d s exec sound None e = inr tt
-set_offers d s exec sound (Some set) e =
-    by (offered_task set.is_zombie set.limits.speculation exec set.tasks) refl
+    (d : DagData) (s exec now : ℕ) → IsSoundDag d → (o : Option TaskSetData) → newest_at d s ≡ o
+    → ((g : GivenTask) × OffersIn o exec now (Some g)) ⊎ OffersIn o exec now None
+set_offers d s exec now sound None e = inr tt
+set_offers d s exec now sound (Some set) e =
+    by (offered_task set.is_zombie set.limits.speculation (is_slow set now) exec set.tasks) refl
   where
     rising : AreRising (partitions_of set)
     rising =
@@ -40,26 +41,26 @@ set_offers d s exec sound (Some set) e =
         (λ i x l. (sound.attempts s i x l).set.sound.rising) e
 
     by : (o : Option TaskData)
-        → offered_task set.is_zombie set.limits.speculation exec set.tasks ≡ o
-        → ((g : GivenTask) × OffersIn (Some set) exec (Some g)) ⊎ OffersIn (Some set) exec None
-    by None f = inr (offers_nothing set exec f)
-    by (Some t) f = inl (offer_of t, offers_task set exec t rising f)
+        → offered_task set.is_zombie set.limits.speculation (is_slow set now) exec set.tasks ≡ o
+        → ((g : GivenTask) × OffersIn (Some set) exec now (Some g)) ⊎ OffersIn (Some set) exec now None
+    by None f = inr (offers_nothing set exec now f)
+    by (Some t) f = inl (offer_of t, offers_task set exec now t rising f)
 
 -- the first of some stages that has a task for it, or none has
 first_offers :
-    (d : DagData) (exec : ℕ) → IsSoundDag d → (n : ℕ)
-    → ((a : AttemptId) × IsOffer d exec a)
-    ⊎ ((s : ℕ) → s < n → OffersIn (newest_at d s) exec None)
-first_offers d exec sound zero = inr (λ s lt. absurd (omega (arith, lt)))
-first_offers d exec sound (suc n) =
-    by (first_offers d exec sound n) (set_offers d n exec sound (newest_at d n) refl)
+    (d : DagData) (exec now : ℕ) → IsSoundDag d → (n : ℕ)
+    → ((a : AttemptId) × IsOffer d exec now a)
+    ⊎ ((s : ℕ) → s < n → OffersIn (newest_at d s) exec now None)
+first_offers d exec now sound zero = inr (λ s lt. absurd (omega (arith, lt)))
+first_offers d exec now sound (suc n) =
+    by (first_offers d exec now sound n) (set_offers d n exec now sound (newest_at d n) refl)
   where
-    by : ((a : AttemptId) × IsOffer d exec a)
-        ⊎ ((s : ℕ) → s < n → OffersIn (newest_at d s) exec None)
-        → ((g : GivenTask) × OffersIn (newest_at d n) exec (Some g))
-        ⊎ OffersIn (newest_at d n) exec None
-        → ((a : AttemptId) × IsOffer d exec a)
-        ⊎ ((s : ℕ) → s < suc n → OffersIn (newest_at d s) exec None)
+    by : ((a : AttemptId) × IsOffer d exec now a)
+        ⊎ ((s : ℕ) → s < n → OffersIn (newest_at d s) exec now None)
+        → ((g : GivenTask) × OffersIn (newest_at d n) exec now (Some g))
+        ⊎ OffersIn (newest_at d n) exec now None
+        → ((a : AttemptId) × IsOffer d exec now a)
+        ⊎ ((s : ℕ) → s < suc n → OffersIn (newest_at d s) exec now None)
     by (inl o) next = inl o
     by (inr none) (inl (g, o)) =
         inl (
@@ -69,28 +70,28 @@ first_offers d exec sound (suc n) =
     by (inr none) (inr last) = inr (λ s lt. each s (nat_lt s n) refl lt)
       where
         each : (s : ℕ) (b : Bool) → nat_lt s n ≡ b → s < suc n
-            → OffersIn (newest_at d s) exec None
+            → OffersIn (newest_at d s) exec now None
         each s true e lt = none s (grind (arith, nat_tests, e))
         each s false e lt =
             let is : s ≡ n = grind (arith, nat_tests, e, lt) in
-            subst (λ (r : ℕ). OffersIn (newest_at d r) exec None) (sym is) last
+            subst (λ (r : ℕ). OffersIn (newest_at d r) exec now None) (sym is) last
 
-offer_or_none : (d : DagData) (exec : ℕ) → IsSoundDag d
-    → ((a : AttemptId) × IsOffer d exec a) ⊎ HasNone d exec
-offer_or_none d exec sound = by (first_offers d exec sound (length d.states))
+offer_or_none : (d : DagData) (exec now : ℕ) → IsSoundDag d
+    → ((a : AttemptId) × IsOffer d exec now a) ⊎ HasNone d exec now
+offer_or_none d exec now sound = by (first_offers d exec now sound (length d.states))
   where
-    past : (s : ℕ) → length d.states ≤ s → OffersIn (newest_at d s) exec None
+    past : (s : ℕ) → length d.states ≤ s → OffersIn (newest_at d s) exec now None
     past s le =
-        subst (λ o. OffersIn (newest_among o) exec None) (sym (slice_get_past d.states s le)) tt
+        subst (λ o. OffersIn (newest_among o) exec now None) (sym (slice_get_past d.states s le)) tt
 
-    by : ((a : AttemptId) × IsOffer d exec a)
-        ⊎ ((s : ℕ) → s < length d.states → OffersIn (newest_at d s) exec None)
-        → ((a : AttemptId) × IsOffer d exec a) ⊎ HasNone d exec
+    by : ((a : AttemptId) × IsOffer d exec now a)
+        ⊎ ((s : ℕ) → s < length d.states → OffersIn (newest_at d s) exec now None)
+        → ((a : AttemptId) × IsOffer d exec now a) ⊎ HasNone d exec now
     by (inl o) = inl o
     by (inr none) = inr (λ s. each s (nat_lt s (length d.states)) refl)
       where
         each : (s : ℕ) (b : Bool) → nat_lt s (length d.states) ≡ b
-            → OffersIn (newest_at d s) exec None
+            → OffersIn (newest_at d s) exec now None
         each s true e = none s (grind (arith, nat_tests, e))
         each s false e = past s (grind (arith, nat_tests, e))
 
@@ -104,11 +105,11 @@ takes_there waits c exec sound = runs (job_runs c) refl
     There : Type 0
     There = (answer : Answer) × (after : CoreData) × Takes c exec answer after
 
-    under : IsAsking c exec → HasNone c.dag exec → (o : Option AttemptId) → under_way c ≡ o → There
+    under : IsAsking c exec → HasNone c.dag exec c.now → (o : Option AttemptId) → under_way c ≡ o → There
     under asks none None e = absurd (waits c exec sound asks.runs none e)
     under asks none (Some out) e = (says.Wait out, c, (asks, none, e, refl))
 
-    gives : IsAsking c exec → (a : AttemptId) → IsOffer c.dag exec a → (b : Bool)
+    gives : IsAsking c exec → (a : AttemptId) → IsOffer c.dag exec c.now a → (b : Bool)
         → nat_lt c.handed c.dag.limits.hand_outs ≡ b → There
     gives asks a o true e =
         let h = hand_out a c.dag.tracker.epoch (inputs_of c.dag a.stage) in
@@ -120,7 +121,7 @@ takes_there waits c exec sound = runs (job_runs c) refl
       (a, asks, o, grind (arith, nat_tests, e), refl),
     )
 
-    asking : IsAsking c exec → ((a : AttemptId) × IsOffer c.dag exec a) ⊎ HasNone c.dag exec
+    asking : IsAsking c exec → ((a : AttemptId) × IsOffer c.dag exec c.now a) ⊎ HasNone c.dag exec c.now
         → There
     asking asks (inl (a, o)) = gives asks a o (nat_lt c.handed c.dag.limits.hand_outs) refl
     asking asks (inr none) = under asks none (under_way c) refl
@@ -130,7 +131,7 @@ takes_there waits c exec sound = runs (job_runs c) refl
     holds e f g (Some held) h = (says.Busy held, c, (e, f, g, h, refl))
     holds e f g None h =
         asking (record { runs = e; stays = f; live = g; free = h })
-        (offer_or_none c.dag exec sound.job.dag)
+        (offer_or_none c.dag exec c.now sound.job.dag)
 
     lost : job_runs c ≡ true → c.left_first ≡ None → (b : Bool) → is_lost c exec ≡ b → There
     lost e f true g = (says.Lost, c, (e, f, g, refl))

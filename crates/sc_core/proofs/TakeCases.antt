@@ -26,7 +26,7 @@ pub record SpendsBudget (c after : CoreData) (exec : ℕ) (answer : Answer) : Ty
   pub attempt : AttemptId
   pub told : answer ≡ says.Aborted aborts.Budget
   pub asking : IsAsking c exec
-  pub offer : IsOffer c.dag exec attempt
+  pub offer : IsOffer c.dag exec c.now attempt
   pub most : c.dag.limits.hand_outs ≤ c.handed
   pub is : after ≡ ended c (jobs.Aborted aborts.Budget)
 

@@ -95,9 +95,9 @@ runs_below nth (c ∷ copies) all =
 
 -- what is offered doesn't run yet
 pub offered_new :
-    (d : DagData) (exec : ℕ) (a : AttemptId) → IsOffered d exec a
+    (d : DagData) (exec now : ℕ) (a : AttemptId) → IsOffered d exec now a
     → a.stage_attempt ≡ newest_number d a.stage → runner_of d a ≡ None
-offered_new d exec a o number =
+offered_new d exec now a o number =
     ap (λ s. runner_in s a) (set_of_newest d a number ∙ o.newest)
     ∙ ap (λ t. runner_among t a.nth) o.is_task
     ∙ ap (λ c. exec_of c)
@@ -113,7 +113,7 @@ pub task_sound :
     → IsSoundJob (with_task c exec h)
 task_sound c exec h calls others sound asks out below =
     record {
-      dag = (calls c.dag sound.dag).1 a exec c.now (offered_may c.dag exec a o);
+      dag = (calls c.dag sound.dag).1 a exec c.now (offered_may c.dag exec c.now a o);
       result = sound.result;
       maps = sound.maps;
       running = All-push (RunsWell after) c.running (running_on h exec)
@@ -136,8 +136,8 @@ task_sound c exec h calls others sound asks out below =
     after : CoreData
     after = with_task c exec h
 
-    o : IsOffered c.dag exec h.attempt
-    o = offered c.dag exec h.attempt sound.dag out.offer
+    o : IsOffered c.dag exec c.now h.attempt
+    o = offered c.dag exec c.now h.attempt sound.dag out.offer
 
     moves : Moves (is_same h.attempt) (Some exec) c.dag (handed_out c.dag h.attempt exec c.now)
     moves = handed_out_moves c.dag exec c.now h.attempt o out.offer.newest
@@ -157,7 +157,7 @@ task_sound c exec h calls others sound asks out below =
           rules,
           w.in_set,
           subst (λ b. runner_of c.dag b ≡ None) same
-              (offered_new c.dag exec h.attempt o out.offer.newest),
+              (offered_new c.dag exec c.now h.attempt o out.offer.newest),
         ))
 
     runs : (r : Running) → RunsWell c r → RunsWell after r
@@ -181,7 +181,7 @@ task_sound c exec h calls others sound asks out below =
           there = (live_there c.dag.tracker.trust exec live).0;
           live = (live_there c.dag.tracker.trust exec live).1;
           handed_out = handed_still c.dag (handed_out c.dag h.attempt exec c.now) h carries
-              (handed_new c.dag exec h sound.dag sound.placed o out.offer.newest out.epoch
+              (handed_new c.dag exec c.now h sound.dag sound.placed o out.offer.newest out.epoch
               out.inputs);
         }
 

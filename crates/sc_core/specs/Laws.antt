@@ -77,7 +77,7 @@ EventsAreAnswered =
 -- where an executor asks and no stage has a task for it, an attempt is under way
 abbrev pub WaitsHaveCause : Type 0
 WaitsHaveCause =
-    (c : CoreData) (exec : ℕ) → IsSoundCore c → job_runs c ≡ true → HasNone c.dag exec
+    (c : CoreData) (exec : ℕ) → IsSoundCore c → job_runs c ≡ true → HasNone c.dag exec c.now
     → under_way c ≢ None
 
 -- an answer gives a task, or ends the job by its budget

@@ -26,7 +26,7 @@ pub record IsAsking (c : CoreData) (exec : ℕ) : Type 0 where
 
 -- what goes with the task that comes next
 pub record IsHandOut (c : CoreData) (exec : ℕ) (h : HandOutData) : Type 0 where
-  pub offer : IsOffer c.dag exec h.attempt
+  pub offer : IsOffer c.dag exec c.now h.attempt
   pub epoch : h.epoch ≡ c.dag.tracker.epoch
   pub inputs : h.inputs ≡ inputs_of c.dag h.attempt.stage
 
@@ -57,12 +57,12 @@ Takes c exec (says.Task h) after =
     IsAsking c exec × IsHandOut c exec h × (c.handed < c.dag.limits.hand_outs)
     × (after ≡ with_task c exec h)
 Takes c exec (says.Aborted Budget) after =
-    (a : AttemptId) × IsAsking c exec × IsOffer c.dag exec a
+    (a : AttemptId) × IsAsking c exec × IsOffer c.dag exec c.now a
     × (c.dag.limits.hand_outs ≤ c.handed) × (after ≡ ended c (jobs.Aborted Budget))
 Takes c exec (says.Wait out) after =
-    IsAsking c exec × HasNone c.dag exec × (under_way c ≡ Some out) × (after ≡ c)
+    IsAsking c exec × HasNone c.dag exec c.now × (under_way c ≡ Some out) × (after ≡ c)
 Takes c exec answer after = ⊥
 
 -- where an executor may have to wait, an attempt is under way
 abbrev pub WaitsWell : CoreData → ℕ → Type 0
-WaitsWell c exec = job_runs c ≡ true → HasNone c.dag exec → under_way c ≢ None
+WaitsWell c exec = job_runs c ≡ true → HasNone c.dag exec c.now → under_way c ≢ None

@@ -13,7 +13,7 @@ use sc_ids::{AttemptId, ExecId, Generation};
 impl Core {
     /// The task that there is for an executor, whatever else may keep it from getting one.
     pub fn next_task(&self, exec: ExecId) -> Option<AttemptId>
-        ensures { IsNextTask self.now.dag exec result }
+        ensures { IsNextTask self.now.dag exec self.now.now result }
     {
         self.state.stages.dag().next_task(exec, self.state.tick)
     }

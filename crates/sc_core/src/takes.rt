@@ -76,7 +76,7 @@ impl State {
     /// Hands out a task.
     fn hand_out(&mut self, attempt: AttemptId, exec: ExecId) -> Result<Stepped, AllocError>
         requires asking { IsAsking self.old.0 exec }
-        requires offer { IsOffer self.old.0.dag exec attempt }
+        requires offer { IsOffer self.old.0.dag exec self.old.0.now attempt }
         requires budget { self.old.0.handed < self.old.0.dag.limits.hand_outs }
         requires fits { self.old.0.handed + 1 < 2 ^ 32 }
         ensures answered { IfOk result (λ s. Takes self.old.0 exec s.answer self.new.0) }

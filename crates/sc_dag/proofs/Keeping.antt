@@ -29,7 +29,7 @@ quiet stage a g keeps same = (keeps_with stage a g keeps, same)
 
 pub handed_sound :
     (d : DagData) (a : AttemptId) (exec now : ℕ) → IsSoundDag d
-    → may_be_given_in (newest_at d a.stage) exec a.partition ≡ true
+    → may_be_given_in (newest_at d a.stage) exec now a.partition ≡ true
     → IsSoundDag (handed_out d a exec now)
 handed_sound d a exec now sound may =
     sound_with d a.stage _ (λ state. births_changed state.attempts (length state.attempts - 1)
@@ -44,9 +44,9 @@ handed_sound d a exec now sound may =
   where
     given : (state : StageState) (x : StageAttempt) → slice_get d.states a.stage ≡ Some state
         → slice_get state.attempts (length state.attempts - 1) ≡ Some x
-        → may_be_given x.set exec a.partition ≡ true
+        → may_be_given x.set exec now a.partition ≡ true
     given state x at newest =
-        sym (ap (λ o. may_be_given_in o exec a.partition)
+        sym (ap (λ o. may_be_given_in o exec now a.partition)
         (ap newest_among at ∙ ap set_in newest)) ∙ may
 
 pub ended_sound : (d : DagData) (a : AttemptId) → IsSoundDag d → IsSoundDag (ended_in_own d a)

@@ -81,7 +81,7 @@ partitions_kept q f same tasks = map_kept (λ t. t.partition) (is_task_of q) f s
 -- ---- the changes
 
 pub keeps_handed :
-    (set : TaskSetData) (p exec now : ℕ) → may_be_given set exec p ≡ true
+    (set : TaskSetData) (p exec now : ℕ) → may_be_given set exec now p ≡ true
     → KeepsSet set (handed set p exec now)
 keeps_handed set p exec now may =
     record {

@@ -87,16 +87,16 @@ not_pending set p t live is e = rw (live, is) at e
 
 -- a task of a set that hands out is held back where nothing is on offer
 live_holds :
-    (d : DagData) (s exec : ℕ) (set : TaskSetData) → IsSoundDag d → HasNone d exec
+    (d : DagData) (s exec now : ℕ) (set : TaskSetData) → IsSoundDag d → HasNone d exec now
     → newest_at d s ≡ Some set → set.is_zombie ≡ false → (p : ℕ) × HoldsBack d s p
-live_holds d s exec set sound none is live =
+live_holds d s exec now set sound none is live =
     let of : IsSetOf (stage_at d s) set =
     newest_holds (IsSetOf (stage_at d s)) (slice_get d.states s) set
     (λ i x l. (sound.attempts s i x l).set) is in
     let some : are_finished set.tasks ≡ false =
     by (are_finished set.tasks) refl (λ e. of.sound.ends e) in
     let found = unfinished_task set.tasks of.sound.rising some in
-    let offer : OffersIn (Some set) exec None = rw is at (none s) in (
+    let offer : OffersIn (Some set) exec now None = rw is at (none s) in (
       found.0.partition,
       record {
         set = set;
@@ -117,12 +117,12 @@ live_holds d s exec set sound none is live =
 
 -- a stage that goes on and isn't complete has one, or waits for a stage before it
 stuck_below :
-    (d : DagData) (exec : ℕ) → IsSoundDag d → IsSettled d → HasNone d exec
+    (d : DagData) (exec now : ℕ) → IsSoundDag d → IsSettled d → HasNone d exec now
     → (n s : ℕ) → s < n → IsUnderWay d s → (r : ℕ) × (p : ℕ) × HoldsBack d r p
-stuck_below d exec sound settled none zero s lt under = absurd (omega (arith, lt))
-stuck_below d exec sound settled none (suc n) s lt under =
+stuck_below d exec now sound settled none zero s lt under = absurd (omega (arith, lt))
+stuck_below d exec now sound settled none (suc n) s lt under =
     waits_or (slice_get d.states s) refl under.1
-    (λ p less way. stuck_below d exec sound settled none n p (omega (arith, lt, less)) way)
+    (λ p less way. stuck_below d exec now sound settled none n p (omega (arith, lt, less)) way)
   where
     one : (p : ℕ) × HoldsBack d s p → (r : ℕ) × (p : ℕ) × HoldsBack d r p
     one h = (s, h.0, h.1)
@@ -152,7 +152,7 @@ stuck_below d exec sound settled none (suc n) s lt under =
         → (r : ℕ) × (p : ℕ) × HoldsBack d r p
     live None is e = absurd (true≢false (sym e))
     live (Some set) is e =
-        one (live_holds d s exec set sound none is (not_true set.is_zombie e))
+        one (live_holds d s exec now set sound none is (not_true set.is_zombie e))
 
     or : (state : StageState) → slice_get d.states s ≡ Some state → (w : Bool)
         → state.waits ≡ w → (w || is_live_set (newest_set state)) ≡ true
@@ -168,5 +168,5 @@ stuck_below d exec sound settled none (suc n) s lt under =
     waits_or (Some state) is e below = or state is state.waits refl e below
 
 pub nothing_is_stuck : NothingIsStuck
-nothing_is_stuck d r exec sound settled under none =
-    stuck_below d exec sound settled none (suc r) r (omega arith) under
+nothing_is_stuck d r exec now sound settled under none =
+    stuck_below d exec now sound settled none (suc r) r (omega arith) under

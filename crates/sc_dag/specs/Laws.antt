@@ -54,7 +54,7 @@ CallsKeepSound =
     → ((submitted : ℕ → Bool) (after : DagData) → IsSubmitted d submitted after
     → IsSoundDag after)
     × ((a : AttemptId) (exec now : ℕ)
-    → may_be_given_in (newest_at d a.stage) exec a.partition ≡ true
+    → may_be_given_in (newest_at d a.stage) exec now a.partition ≡ true
     → IsSoundDag (handed_out d a exec now))
     × ((a : AttemptId) (loc : Loc) (epoch now : ℕ) → is_map (stage_at d a.stage).target ≡ true
     → runner_of d a ≡ Some loc.exec → IsSoundDag (after_map_success d a loc epoch now))
@@ -137,5 +137,6 @@ pub record HoldsBack (d : DagData) (s p : ℕ) : Type 0 where
 -- Where a stage is under way and no stage has a task for an executor, some task is held back.
 abbrev pub NothingIsStuck : Type 0
 NothingIsStuck =
-    (d : DagData) (r exec : ℕ) → IsSoundDag d → IsSettled d → IsUnderWay d r → HasNone d exec
+    (d : DagData) (r exec now : ℕ) → IsSoundDag d → IsSettled d → IsUnderWay d r
+    → HasNone d exec now
     → (s : ℕ) × (p : ℕ) × HoldsBack d s p

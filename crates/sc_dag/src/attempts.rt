@@ -88,7 +88,7 @@ pub(crate) fn give_in(
     exec: ExecId,
     now: u64,
 ) -> Result<(), AllocError>
-    requires { may_be_given_in (set_in (slice_get attempts.old.items place)) exec partition
+    requires { may_be_given_in (set_in (slice_get attempts.old.items place)) exec now partition
         ≡ true }
     ensures ok { OnOk result (attempts.new.items ≡ change_at attempts.old.items place
         (with_set (λ set. handed set partition exec now))) }

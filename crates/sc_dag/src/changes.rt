@@ -40,7 +40,7 @@ pub(crate) enum RowChange {
 impl StageRow {
     /// Hands out a task of its newest attempt.
     pub fn give(&mut self, partition: u32, exec: ExecId, now: u64) -> Result<(), AllocError>
-        requires { may_be_given_in (newest_set self.old.state) exec partition ≡ true }
+        requires { may_be_given_in (newest_set self.old.state) exec now partition ≡ true }
         ensures ok { OnOk result (self.new.state
             ≡ changed_newest (λ set. handed set partition exec now) self.old.state) }
         ensures err { OnErr result (self.new.state ≡ self.old.state) }

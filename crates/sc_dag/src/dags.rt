@@ -56,7 +56,7 @@ impl Dag {
 
     /// The next task for an executor: of the first stage that has one.
     pub fn next_task(&self, exec: ExecId, now: u64) -> Option<AttemptId>
-        ensures { IsNextTask self.now.0 exec result }
+        ensures { IsNextTask self.now.0 exec now result }
     {
         for k in 0..self.rows.len() {
             let stage = k as u32;
@@ -74,7 +74,7 @@ impl Dag {
 
     /// What the newest attempt of a stage has for an executor.
     fn offer(&self, stage: StageId, exec: ExecId, now: u64) -> Option<GivenTask>
-        ensures { OffersIn (newest_at self.now.0 stage) exec result }
+        ensures { OffersIn (newest_at self.now.0 stage) exec now result }
     {
         match self.rows.get(stage as usize) {
             Some(row) => row.peek(exec, now),
@@ -84,8 +84,8 @@ impl Dag {
 
     /// Hands out a task of the newest attempt of its stage. A refused call changes nothing.
     pub fn give(&mut self, attempt: AttemptId, exec: ExecId, now: u64) -> Result<(), AllocError>
-        requires { may_be_given_in (newest_at self.old.0 attempt.stage) exec attempt.partition
-            ≡ true }
+        requires { may_be_given_in (newest_at self.old.0 attempt.stage) exec now
+            attempt.partition ≡ true }
         ensures ok { OnOk result (self.new.0 ≡ handed_out self.old.0 attempt exec now) }
         ensures err { OnErr result (self.new.0 ≡ self.old.0) }
         ensures ready { self.new.1 ≡ self.old.1 }

@@ -150,7 +150,7 @@ impl StageRow {
 
     /// What its newest attempt has for an executor at this time.
     pub fn peek(&self, exec: ExecId, now: u64) -> Option<GivenTask>
-        ensures { OffersIn (newest_set self.now.state) exec result }
+        ensures { OffersIn (newest_set self.now.state) exec now result }
     {
         match newest(&self.attempts) {
             Some(attempt) => attempt.set.peek(exec, now),

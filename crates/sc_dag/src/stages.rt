@@ -83,7 +83,7 @@ pub(crate) fn give_at(
     now: u64,
 ) -> Result<(), AllocError>
     requires { (t : TrackerData) (limits : Limits)
-        → may_be_given_in (newest_at (dag_of rows.old.items t limits) a.stage) exec a.partition
+        → may_be_given_in (newest_at (dag_of rows.old.items t limits) a.stage) exec now a.partition
         ≡ true }
     ensures ok { OnOk result (states_of rows.new.items ≡ change_at (states_of rows.old.items)
         a.stage (changed_newest (λ set. handed set a.partition exec now))) }

@@ -39,11 +39,11 @@ is_any_out c = list_any (λ r. r.is_out) c.running
 
 -- nothing else can happen: no attempt is out, and there is no task for this executor
 abbrev pub IsIdle : CoreData → ℕ → Type 0
-IsIdle c exec = (is_any_out c ≡ false) × HasNone c.dag exec
+IsIdle c exec = (is_any_out c ≡ false) × HasNone c.dag exec c.now
 
 -- something else can happen
 abbrev pub IsBusy : CoreData → ℕ → Type 0
-IsBusy c exec = (is_any_out c ≡ true) ⊎ ((a : AttemptId) × IsOffer c.dag exec a)
+IsBusy c exec = (is_any_out c ≡ true) ⊎ ((a : AttemptId) × IsOffer c.dag exec c.now a)
 
 -- the report that is to be told next where this executor asks: the first that is due by how many
 -- were told, or the first of all where nothing else can happen

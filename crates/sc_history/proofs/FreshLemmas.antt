@@ -174,14 +174,14 @@ given_kept c after event answer a step =
 -- ---- attempts that are handed out
 
 -- an attempt that is offered has the number of hand-outs before it
-offered_next : (d : DagData) (exec : ℕ) (a : AttemptId) → IsOffer d exec a
+offered_next : (d : DagData) (exec now : ℕ) (a : AttemptId) → IsOffer d exec now a
     → given_to d a ≡ a.nth
 unfolding given_among given_to
-offered_next d exec a offer =
+offered_next d exec now a offer =
     ap (λ o. given_among o a.partition) (set_of_newest d a offer.newest)
     ∙ by (newest_at d a.stage) offer.offered
   where
-    by : (o : Option TaskSetData) → OffersIn o exec (Some (offers.given_of a))
+    by : (o : Option TaskSetData) → OffersIn o exec now (Some (offers.given_of a))
         → given_among o a.partition ≡ a.nth
     by None h = absurd h
     by (Some set) h = sym h.1
@@ -309,7 +309,7 @@ fresh_kept entries e c after h step = by e.event refl step
             → IsFresh (entries ++ e ∷ []) after
         by (says.Task t) z (asking, out, below, is) =
             one_given entries e c after t.attempt h step (gives (says.Task t) z)
-            (offered_next c.dag exec t.attempt out.offer)
+            (offered_next c.dag exec c.now t.attempt out.offer)
             (task_ran c after exec t (steps_keep_sound c after e.event e.answer h.sound step) is)
         by (says.Wait out) z k = none (gives (says.Wait out) z)
         by (says.Busy held) z k = none (gives (says.Busy held) z)

@@ -5,7 +5,7 @@ use sc_spec::is_speculatable;
 
 /// Durations, the number of tasks, the start of an attempt and the time, in milliseconds, and
 /// whether a second attempt is worth its while.
-const ROWS: [(&[u64], u32, u64, u64, bool); 13] = [
+const ROWS: [(&[u64], usize, u64, u64, bool); 13] = [
     // Three successes of four tasks, each of 100 milliseconds.
     (&[100, 100, 100], 4, 300, 450, false),
     (&[100, 100, 100], 4, 300, 451, true),

@@ -8,18 +8,18 @@ ghost use Rattle.sc_spec.specs.Speculation.{has_run_long, is_speculatable, media
 /// one, have succeeded, and it has run for more than one and a half times their median and more
 /// than 100 milliseconds. `durations` are those of the successes, sorted; `started` and `now` are
 /// times; all are in milliseconds. It looks at one duration, and takes no memory.
-pub fn is_speculatable(durations: &[u64], tasks: u32, started: u64, now: u64) -> bool
+pub fn is_speculatable(durations: &[u64], tasks: usize, started: u64, now: u64) -> bool
     ensures { result ≡ is_speculatable durations.now tasks started now }
 {
-    durations.len() as u64 >= successes_wanted(tasks)
+    durations.len() as u128 >= successes_wanted(tasks)
         && has_run_long(durations, now.saturating_sub(started))
 }
 
 /// How many tasks of a set have to have succeeded.
-fn successes_wanted(tasks: u32) -> u64
+fn successes_wanted(tasks: usize) -> u128
     ensures { result ≡ successes_wanted tasks }
 {
-    (3 * u64::from(tasks) / 4).max(1)
+    (3 * tasks as u128 / 4).max(1)
 }
 
 /// Whether an attempt that has run so long is slow.

@@ -37,7 +37,7 @@ handed_running partition exec now (t ∷ tasks) =
 -- a set after a hand-out
 pub held_handed :
     {failed taken timed kept : ℕ} (s : TaskSetData) (partition exec now taken' kept' : ℕ)
-    → may_be_given s exec partition ≡ true → taken + 1 ≤ taken' → kept + 1 ≤ kept'
+    → may_be_given s exec now partition ≡ true → taken + 1 ≤ taken' → kept + 1 ≤ kept'
     → IsHeld s failed taken timed kept
     → IsHeld (handed s partition exec now) failed taken' timed kept'
 held_handed s partition exec now taken' kept' may more longer held =
@@ -53,7 +53,7 @@ held_handed s partition exec now taken' kept' may more longer held =
         tasks = all_kept IsSoundTask (is_task_of partition) (handed_task exec now) s.tasks
             held.sound.tasks
             (λ t found is.
-            sound_handed exec now t (rw found at (joins_given s exec partition may)) is);
+            sound_handed exec now t (rw found at (joins_given s exec now partition may)) is);
         ends = λ all. held.sound.ends
             (sym (tests_kept is_finished (is_task_of partition) (handed_task exec now) (λ t. refl)
             s.tasks) ∙ all);
@@ -77,15 +77,15 @@ held_handed s partition exec now taken' kept' may more longer held =
 
 -- the row of what may be handed out has room
 pub row_room :
-    (failures : List Failure) (rows : List Row) (s : TaskSetData) (exec partition : ℕ)
-    → s.tasks ≡ tasks_of failures rows → may_be_given s exec partition ≡ true
+    (failures : List Failure) (rows : List Row) (s : TaskSetData) (exec now partition : ℕ)
+    → s.tasks ≡ tasks_of failures rows → may_be_given s exec now partition ≡ true
     → IfSome (find (is_row_of partition) rows) (λ r. length (copies_of r) < 2)
-row_room failures rows s exec partition same may =
+row_room failures rows s exec now partition same may =
     by (find (is_row_of partition) rows)
     (find_viewed (task_of failures) (is_row_of partition) (is_task_of partition) (λ r. refl) rows)
   where
     joins : IfSome (task_at partition (tasks_of failures rows)) (λ t. may_join exec t ≡ true)
-    joins = rw same at (joins_given s exec partition may)
+    joins = rw same at (joins_given s exec now partition may)
 
     by : (o : Option Row)
         → option_map (task_of failures) o ≡ task_at partition (tasks_of failures rows)

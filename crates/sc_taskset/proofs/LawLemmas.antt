@@ -1,11 +1,12 @@
 -- The account of hand-outs.
 use Rattle.std.proofs.Common.{◌≡◌, ℕ, ◌+◌, ◌==◌, Bool, true, false, cond, not, ◌&&◌, ◌||◌, List, [], ◌∷◌, ◌++◌, Option, Some, None, refl, ap, ◌∙◌, arith}
+use Rattle.std.specs.List.{list_any}
 use Rattle.std.specs.Option.{option_map}
 use Rattle.std.proofs.lemmas.Bool.Decides.{nat_tests}
 use Rattle.sc_taskset.specs.declared.tasks.RunningCopy.{RunningCopy}
 use Rattle.sc_taskset.specs.TaskSetData.{TaskData, TaskSetData}
 use Rattle.sc_taskset.specs.Lookups.{is_there_and, is_task_of, task_at, with_task, is_finished, is_idle, is_one_elsewhere}
-use Rattle.sc_taskset.specs.Offers.{Offers, given_in, given_of, handed, handed_task, is_copyable_task, is_pending_task, may_be_given, running}
+use Rattle.sc_taskset.specs.Offers.{Offers, given_in, given_of, handed, handed_task, is_copyable_task, is_pending_task, is_slow, may_be_given, running}
 use Rattle.sc_taskset.specs.Accounting.{is_single, left_in, left_of}
 use Rattle.sc_taskset.proofs.ChangeLemmas.{find_changed, find_other}
 
@@ -32,30 +33,33 @@ task_other partition other f apart same tasks =
 
 -- a task that may be handed out has one hand-out less once it is
 task_account :
-    (exec now : ℕ) (t : TaskData) (c : Bool)
-    → (is_pending_task t || (c && is_copyable_task exec t)) ≡ true
+    (slow : RunningCopy → Bool) (exec now : ℕ) (t : TaskData) (c : Bool)
+    → (is_pending_task t || (c && is_copyable_task slow exec t)) ≡ true
     → t.given + 1 + left_in (Some (handed_task exec now t)) ≡ t.given + left_in (Some t)
-task_account exec now t c may = by (is_finished t) t.copies t.denied may
+task_account slow exec now t c may =
+    by (is_finished t) t.copies t.denied (list_any slow t.copies) may
   where
     left : Bool → List RunningCopy → Bool → ℕ
     left f copies d =
         cond (not f && (is_idle copies && not d)) 2
         (cond (not f && (is_single copies && not d)) 1 0)
 
-    by : (f : Bool) (copies : List RunningCopy) (d : Bool)
+    by : (f : Bool) (copies : List RunningCopy) (d w : Bool)
         → ((not f && (is_idle copies && not d))
-        || (c && (not f && (is_one_elsewhere exec copies && (not d && false))))) ≡ true
+        || (c && (not f && (is_one_elsewhere exec copies && (not d && w))))) ≡ true
         → t.given + 1 + left f (copies ++ running t.given exec now ∷ []) d
         ≡ t.given + left f copies d
-    by false [] false m = omega arith
-    by false [] true m = absurd (grind (arith, nat_tests, m))
-    by true copies d m = absurd (grind (arith, nat_tests, m))
-    by false (x ∷ []) d m = absurd (grind (arith, nat_tests, m))
-    by false (x ∷ y ∷ copies) d m = absurd (grind (arith, nat_tests, m))
+    by false [] false w m = omega arith
+    by false [] true w m = absurd (grind (arith, nat_tests, m))
+    by true copies d w m = absurd (grind (arith, nat_tests, m))
+    by false (x ∷ []) false w m = omega arith
+    by false (x ∷ []) true w m = absurd (grind (arith, nat_tests, m))
+    by false (x ∷ y ∷ copies) d w m = absurd (grind (arith, nat_tests, m))
 
 -- a zombie has nothing for anyone
-pub zombies_nothing : (s : TaskSetData) (exec : ℕ) → s.is_zombie ≡ true → Offers s exec None
-zombies_nothing s exec z =
+pub zombies_nothing :
+    (s : TaskSetData) (exec now : ℕ) → s.is_zombie ≡ true → Offers s exec now None
+zombies_nothing s exec now z =
     rw z (λ p. refl, λ p. none s.limits.speculation)
   where
     none : (c : Bool) → (c && false) ≡ false
@@ -64,7 +68,7 @@ zombies_nothing s exec z =
 
 -- a hand-out of a partition is one of those that were left of it
 pub account_kept :
-    (s : TaskSetData) (exec partition now : ℕ) → may_be_given s exec partition ≡ true
+    (s : TaskSetData) (exec partition now : ℕ) → may_be_given s exec now partition ≡ true
     → given_of (handed s partition exec now) partition
     + left_of (handed s partition exec now) partition
     ≡ given_of s partition + left_of s partition
@@ -74,10 +78,11 @@ account_kept s exec partition now may =
   where
     by : (z : Bool) (o : Option TaskData)
         → ((not z && is_there_and is_pending_task o)
-        || (s.limits.speculation && (not z && is_there_and (is_copyable_task exec) o))) ≡ true
+        || (s.limits.speculation && (not z && is_there_and (is_copyable_task (is_slow s now) exec) o))) ≡ true
         → given_in (option_map (handed_task exec now) o)
         + cond z 0 (left_in (option_map (handed_task exec now) o))
         ≡ given_in o + cond z 0 (left_in o)
     by true o m = absurd (grind (arith, nat_tests, m))
     by false None m = absurd (grind (arith, nat_tests, m))
-    by false (Some t) m = task_account exec now t s.limits.speculation m
+    by false (Some t) m =
+        task_account (is_slow s now) exec now t s.limits.speculation m

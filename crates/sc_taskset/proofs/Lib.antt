@@ -7,6 +7,7 @@ pub mod OfferLemmas
 pub mod HandLemmas
 pub mod FailureLemmas
 pub mod SuccessLemmas
+pub mod DurationLemmas
 pub mod RoomLemmas
 pub mod TableLemmas
 pub mod LawLemmas

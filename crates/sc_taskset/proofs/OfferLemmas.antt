@@ -1,13 +1,13 @@
 -- What is there for an executor.
 use Rattle.std.proofs.Common.{◌≡◌, ℕ, ◌<◌, Bool, true, false, cond, not, ◌&&◌, ◌||◌, List, [], ◌∷◌, length, map, Option, Some, None, IfSome, inl, inr, ⊎_elim, ◌⊎◌, refl, ◌∙◌, arith, rules}
-use Rattle.std.specs.List.{find}
+use Rattle.std.specs.List.{find, list_any}
 use Rattle.std.specs.Option.{option_or}
 use Rattle.std.proofs.lemmas.Bool.Decides.{nat_tests}
 use Rattle.sc_taskset.specs.declared.tasks.GivenTask.{GivenTask}
 use Rattle.sc_taskset.specs.declared.tasks.RunningCopy.{RunningCopy}
 use Rattle.sc_taskset.specs.TaskSetData.{TaskData, TaskSetData}
 use Rattle.sc_taskset.specs.Lookups.{is_there_and, task_at, is_finished, is_idle, is_one_elsewhere}
-use Rattle.sc_taskset.specs.Offers.{IsNever, IsSmallest, Offers, is_copyable_task, is_pending_task, may_be_given, given_of}
+use Rattle.sc_taskset.specs.Offers.{IsNever, IsSmallest, Offers, is_copyable_task, is_pending_task, is_slow, may_be_given, given_of}
 use Rattle.sc_taskset.specs.Sound.{AreRising}
 use Rattle.sc_taskset.specs.Rows.{offered_task}
 use Rattle.sc_taskset.proofs.FindLemmas.{first_found, found_passes, none_found}
@@ -19,42 +19,42 @@ offer_of t = record { partition = t.partition; nth = t.given }
 
 -- nothing is there where no task is offered
 pub offers_nothing :
-    (s : TaskSetData) (exec : ℕ)
-    → offered_task s.is_zombie s.limits.speculation exec s.tasks ≡ None → Offers s exec None
-offers_nothing s exec none = by s.is_zombie s.limits.speculation none
+    (s : TaskSetData) (exec now : ℕ)
+    → offered_task s.is_zombie s.limits.speculation (is_slow s now) exec s.tasks ≡ None → Offers s exec now None
+offers_nothing s exec now none = by s.is_zombie s.limits.speculation none
   where
     pend : ℕ → Bool
     pend p = is_there_and is_pending_task (task_at p s.tasks)
 
-    by : (z c : Bool) → offered_task z c exec s.tasks ≡ None
+    by : (z c : Bool) → offered_task z c (is_slow s now) exec s.tasks ≡ None
         → ((p : ℕ) → (not z && is_there_and is_pending_task (task_at p s.tasks)) ≡ false)
         × ((p : ℕ)
-        → (c && (not z && is_there_and (is_copyable_task exec) (task_at p s.tasks))) ≡ false)
+        → (c && (not z && is_there_and (is_copyable_task (is_slow s now) exec) (task_at p s.tasks))) ≡ false)
     by true true n = (λ p. refl, λ p. refl)
     by true false n = (λ p. refl, λ p. refl)
     by false c n = or (find is_pending_task s.tasks) refl c n
       where
         or : (o : Option TaskData) → find is_pending_task s.tasks ≡ o → (d : Bool)
-            → option_or o (cond d (find (is_copyable_task exec) s.tasks) None) ≡ None
+            → option_or o (cond d (find (is_copyable_task (is_slow s now) exec) s.tasks) None) ≡ None
             → ((p : ℕ) → is_there_and is_pending_task (task_at p s.tasks) ≡ false)
-            × ((p : ℕ) → (d && is_there_and (is_copyable_task exec) (task_at p s.tasks)) ≡ false)
+            × ((p : ℕ) → (d && is_there_and (is_copyable_task (is_slow s now) exec) (task_at p s.tasks)) ≡ false)
         or None e true m =
-            (none_found is_pending_task s.tasks e, none_found (is_copyable_task exec) s.tasks m)
+            (none_found is_pending_task s.tasks e, none_found (is_copyable_task (is_slow s now) exec) s.tasks m)
         or None e false m = (none_found is_pending_task s.tasks e, λ p. refl)
         or (Some t) e d m = absurd (search (rules, m))
 
 -- the offered task is the next one
 pub offers_task :
-    (s : TaskSetData) (exec : ℕ) (t : TaskData) → AreRising (map (λ u. u.partition) s.tasks)
-    → offered_task s.is_zombie s.limits.speculation exec s.tasks ≡ Some t
-    → Offers s exec (Some (offer_of t))
-offers_task s exec t rising some = by s.is_zombie s.limits.speculation some
+    (s : TaskSetData) (exec now : ℕ) (t : TaskData) → AreRising (map (λ u. u.partition) s.tasks)
+    → offered_task s.is_zombie s.limits.speculation (is_slow s now) exec s.tasks ≡ Some t
+    → Offers s exec now (Some (offer_of t))
+offers_task s exec now t rising some = by s.is_zombie s.limits.speculation some
   where
     pends : Bool → ℕ → Bool
     pends z p = not z && is_there_and is_pending_task (task_at p s.tasks)
 
     copies : Bool → Bool → ℕ → Bool
-    copies z c p = c && (not z && is_there_and (is_copyable_task exec) (task_at p s.tasks))
+    copies z c p = c && (not z && is_there_and (is_copyable_task (is_slow s now) exec) (task_at p s.tasks))
 
     Next : Bool → Bool → Type 0
     Next z c =
@@ -70,15 +70,15 @@ offers_task s exec t rising some = by s.is_zombie s.limits.speculation some
         let f = first_found test s.tasks t rising e in
         (record { passes = rw f.0 (found_passes test s.tasks t e); smallest = f.1 }, rw f.0 refl)
 
-    by : (z c : Bool) → offered_task z c exec s.tasks ≡ Some t → Next z c
+    by : (z c : Bool) → offered_task z c (is_slow s now) exec s.tasks ≡ Some t → Next z c
     by true c e = absurd (search (rules, e))
     by false c e = or (find is_pending_task s.tasks) refl c e
       where
         or : (o : Option TaskData) → find is_pending_task s.tasks ≡ o → (d : Bool)
-            → option_or o (cond d (find (is_copyable_task exec) s.tasks) None) ≡ Some t
+            → option_or o (cond d (find (is_copyable_task (is_slow s now) exec) s.tasks) None) ≡ Some t
             → Next false d
         or None e true m =
-            let g = smallest (is_copyable_task exec) m in
+            let g = smallest (is_copyable_task (is_slow s now) exec) m in
             (inr (none_found is_pending_task s.tasks e, g.0), g.1)
         or None e false m = absurd (search (rules, m))
         or (Some u) e d m =
@@ -86,38 +86,39 @@ offers_task s exec t rising some = by s.is_zombie s.limits.speculation some
 
 -- a task that is pending or copyable has room for one more attempt
 task_joins :
-    (exec : ℕ) (t : TaskData) (z c : Bool)
-    → ((not z && is_pending_task t) || (c && (not z && is_copyable_task exec t))) ≡ true
+    (slow : RunningCopy → Bool) (exec : ℕ) (t : TaskData) (z c : Bool)
+    → ((not z && is_pending_task t) || (c && (not z && is_copyable_task slow exec t))) ≡ true
     → may_join exec t ≡ true
-task_joins exec t z c may =
-    by z c (is_finished t) (is_idle t.copies) t.denied (is_one_elsewhere exec t.copies) may
+task_joins slow exec t z c may =
+    by z c (is_finished t) (is_idle t.copies) t.denied (is_one_elsewhere exec t.copies)
+    (list_any slow t.copies) may
   where
-    by : (z c f i d o : Bool)
+    by : (z c f i d o w : Bool)
         → ((not z && (not f && (i && not d)))
-        || (c && (not z && (not f && (o && (not d && false))))))
+        || (c && (not z && (not f && (o && (not d && w))))))
         ≡ true → (i || o) ≡ true
-    by z c f true d o m = refl
-    by z c f false d true m = refl
-    by z c f false d false m = absurd (grind (arith, nat_tests, m))
+    by z c f true d o w m = refl
+    by z c f false d true w m = refl
+    by z c f false d false w m = absurd (grind (arith, nat_tests, m))
 
 -- what may be handed out has room for one more attempt
 pub joins_given :
-    (s : TaskSetData) (exec partition : ℕ) → may_be_given s exec partition ≡ true
+    (s : TaskSetData) (exec now partition : ℕ) → may_be_given s exec now partition ≡ true
     → IfSome (task_at partition s.tasks) (λ t. may_join exec t ≡ true)
-joins_given s exec partition may = by (task_at partition s.tasks) may
+joins_given s exec now partition may = by (task_at partition s.tasks) may
   where
     by : (o : Option TaskData)
         → ((not s.is_zombie && is_there_and is_pending_task o)
-        || (s.limits.speculation && (not s.is_zombie && is_there_and (is_copyable_task exec) o)))
+        || (s.limits.speculation && (not s.is_zombie && is_there_and (is_copyable_task (is_slow s now) exec) o)))
         ≡ true → IfSome o (λ t. may_join exec t ≡ true)
     by None m = tt
-    by (Some t) m = task_joins exec t s.is_zombie s.limits.speculation m
+    by (Some t) m = task_joins (is_slow s now) exec t s.is_zombie s.limits.speculation m
 
 -- an offered task may be handed out
 pub offered_given :
-    (s : TaskSetData) (exec : ℕ) (g : GivenTask) → Offers s exec (Some g)
-    → may_be_given s exec g.partition ≡ true
-offered_given s exec g offers =
+    (s : TaskSetData) (exec now : ℕ) (g : GivenTask) → Offers s exec now (Some g)
+    → may_be_given s exec now g.partition ≡ true
+offered_given s exec now g offers =
     ⊎_elim (λ first. rw first.passes refl)
     (λ later. rw (later.0 g.partition, later.1.passes) refl) offers.0
 

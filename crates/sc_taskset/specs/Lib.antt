@@ -1,6 +1,7 @@
 pub mod TaskSetData
 pub mod Lookups
 pub mod Offers
+pub mod Paces
 pub mod Reports
 pub mod Sound
 pub mod Accounting

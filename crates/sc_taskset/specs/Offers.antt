@@ -1,5 +1,7 @@
 -- What a task set hands out.
-use Rattle.std.specs.Prelude.{ℕ, ◌+◌, ◌<◌, ◌≡◌, ◌⊎◌, ◌&&◌, ◌||◌, not, Bool, true, false, [], ◌∷◌, ◌++◌, Option, Some, None}
+use Rattle.std.specs.Prelude.{ℕ, ◌+◌, ◌<◌, ◌≡◌, ◌⊎◌, ◌&&◌, ◌||◌, not, Bool, true, false, List, [], ◌∷◌, ◌++◌, Option, Some, None, length}
+use Rattle.std.specs.List.{list_any}
+use Rattle.sc_spec.specs.Speculation.{is_speculatable}
 use Rattle.sc_taskset.specs.declared.tasks.GivenTask.{GivenTask}
 use Rattle.sc_taskset.specs.declared.tasks.RunningCopy.{RunningCopy}
 use Rattle.sc_taskset.specs.TaskSetData.{TaskData, TaskSetData, with_tasks}
@@ -13,25 +15,29 @@ is_pending_task t = not (is_finished t) && (is_idle t.copies && not t.denied)
 abbrev pub is_pending : TaskSetData → ℕ → Bool
 is_pending s partition = not s.is_zombie && has_task_and is_pending_task s partition
 
--- Whether the one running attempt of a task is so slow that a second one is worth its while. The
--- rule of speculation comes here, over the durations of the set, the start of the attempt and the
--- time; until then a second one never is.
-abbrev pub is_slow : Bool
-is_slow = false
+-- A running attempt is so slow at this time that a second one is worth its while, by how long the
+-- successes of its set took, and how many tasks the set has.
+abbrev pub slow_by : List ℕ → ℕ → ℕ → RunningCopy → Bool
+slow_by durations tasks now c = is_speculatable durations tasks c.started now
 
--- a second attempt of a task may run on this executor beside the one that runs elsewhere
-abbrev pub is_copyable_task : ℕ → TaskData → Bool
-is_copyable_task exec t =
-    not (is_finished t) && (is_one_elsewhere exec t.copies && (not t.denied && is_slow))
+abbrev pub is_slow : TaskSetData → ℕ → RunningCopy → Bool
+is_slow s now = slow_by s.durations (length s.tasks) now
 
--- a partition may be copied on this executor
-abbrev pub is_copyable : TaskSetData → ℕ → ℕ → Bool
-is_copyable s exec partition =
-    s.limits.speculation && (not s.is_zombie && has_task_and (is_copyable_task exec) s partition)
+-- a second attempt of a task may run on this executor, beside the slow one that runs elsewhere
+abbrev pub is_copyable_task : (RunningCopy → Bool) → ℕ → TaskData → Bool
+is_copyable_task slow exec t =
+    not (is_finished t)
+    && (is_one_elsewhere exec t.copies && (not t.denied && list_any slow t.copies))
 
--- a partition may be handed out to this executor
-abbrev pub may_be_given : TaskSetData → ℕ → ℕ → Bool
-may_be_given s exec partition = is_pending s partition || is_copyable s exec partition
+-- a partition may be copied on this executor at this time
+abbrev pub is_copyable : TaskSetData → ℕ → ℕ → ℕ → Bool
+is_copyable s exec now partition =
+    s.limits.speculation
+    && (not s.is_zombie && has_task_and (is_copyable_task (is_slow s now) exec) s partition)
+
+-- a partition may be handed out to this executor at this time
+abbrev pub may_be_given : TaskSetData → ℕ → ℕ → ℕ → Bool
+may_be_given s exec now partition = is_pending s partition || is_copyable s exec now partition
 
 -- no partition passes a test
 abbrev pub IsNever : (ℕ → Bool) → Type 0
@@ -44,10 +50,10 @@ pub record IsSmallest (test : ℕ → Bool) (partition : ℕ) : Type 0 where
 
 -- the partition that comes next: the smallest pending one, or the smallest copyable one where
 -- nothing is pending
-abbrev pub IsNext : TaskSetData → ℕ → ℕ → Type 0
-IsNext s exec partition =
+abbrev pub IsNext : TaskSetData → ℕ → ℕ → ℕ → Type 0
+IsNext s exec now partition =
     IsSmallest (is_pending s) partition
-    ⊎ (IsNever (is_pending s) × IsSmallest (is_copyable s exec) partition)
+    ⊎ (IsNever (is_pending s) × IsSmallest (is_copyable s exec now) partition)
 
 -- how often a task was handed out, where there is one
 abbrev pub given_in : Option TaskData → ℕ
@@ -58,10 +64,11 @@ given_in (Some t) = t.given
 abbrev pub given_of : TaskSetData → ℕ → ℕ
 given_of s partition = given_in (task_at partition s.tasks)
 
--- what a set has for an executor: nothing exactly where nothing is pending and nothing copyable
-abbrev pub Offers : TaskSetData → ℕ → Option GivenTask → Type 0
-Offers s exec None = IsNever (is_pending s) × IsNever (is_copyable s exec)
-Offers s exec (Some g) = IsNext s exec g.partition × (g.nth ≡ given_of s g.partition)
+-- What a set has for an executor at this time: nothing exactly where nothing is pending and nothing
+-- copyable.
+abbrev pub Offers : TaskSetData → ℕ → ℕ → Option GivenTask → Type 0
+Offers s exec now None = IsNever (is_pending s) × IsNever (is_copyable s exec now)
+Offers s exec now (Some g) = IsNext s exec now g.partition × (g.nth ≡ given_of s g.partition)
 
 -- a running attempt
 abbrev pub running : ℕ → ℕ → ℕ → RunningCopy

@@ -72,11 +72,12 @@ is_row_of partition r = r.partition == partition
 
 -- The first task of some that is there for an executor: the first pending one, or else the first
 -- copyable one.
-abbrev pub offered_task : Bool → Bool → ℕ → List TaskData → Option TaskData
-offered_task is_zombie speculation exec tasks =
+abbrev pub offered_task :
+    Bool → Bool → (RunningCopy → Bool) → ℕ → List TaskData → Option TaskData
+offered_task is_zombie speculation slow exec tasks =
     if is_zombie then None else
     option_or (find is_pending_task tasks)
-    (if speculation then find (is_copyable_task exec) tasks else None)
+    (if speculation then find (is_copyable_task slow exec) tasks else None)
 
 -- a set is sound, and has room for what its running attempts may leave
 pub record IsHeld (s : TaskSetData) (failed taken timed kept : ℕ) : Type 0 where

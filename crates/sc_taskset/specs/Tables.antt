@@ -1,10 +1,9 @@
 -- What is known of all rows of a set without a search.
 use Rattle.std.specs.Prelude.{ℕ, ◌≡◌, ◌<◌, Bool, false, not, List, [], Some, count_by, get_or}
-use Rattle.std.specs.List.{fold, position_or_len}
+use Rattle.std.specs.List.{position_or_len}
 use Rattle.sc_taskset.specs.declared.rows.Row.{Row}
 use Rattle.sc_taskset.specs.Lookups.{is_finish}
 use Rattle.sc_taskset.specs.Offers.{is_pending_task}
-use Rattle.sc_taskset.specs.Reports.{with_duration}
 use Rattle.sc_taskset.specs.Rooms.{row_partitions}
 use Rattle.sc_taskset.specs.Rows.{task_of}
 use Rattle.sc_taskset.specs.Sound.{AreRising}
@@ -28,7 +27,3 @@ pub record IsIndexed (rows : List Row) (unfinished pending : ℕ) : Type 0 where
   pub rising : AreRising (row_partitions rows)
   pub counted : unfinished ≡ count_by is_open_row rows
   pub first : pending ≡ position_or_len is_pending_row rows
-
--- durations in order, which were told in this one
-abbrev pub in_order : List ℕ → List ℕ
-in_order told = fold (λ durations d. with_duration (Some d) durations) [] told

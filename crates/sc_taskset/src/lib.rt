@@ -22,6 +22,7 @@ mod changes;
 mod copies;
 mod laws;
 mod notes;
+mod paces;
 mod rooms;
 mod rows;
 mod scans;

@@ -3,10 +3,10 @@
 
 ghost use Rattle.std.specs.Prelude.{◌≡◌, ◌↔◌, ◌<◌, ◌≤◌, ◌+◌, ◌&&◌, IfSome, OnOk, List, length, true, if◌then◌else◌, nat_le, vec_capacity, vec_len};
 ghost use Rattle.std.specs.List.{filter};
+ghost use Rattle.std.specs.List.Sorted.{IsNonDecreasing};
 ghost use Rattle.std.specs.Option.{option_to_list};
 ghost use Rattle.sc_taskset.specs.Reports.{with_duration};
 ghost use Rattle.sc_taskset.specs.Rows.{is_failure_of, noted};
-ghost use Rattle.sc_taskset.specs.Tables.{in_order};
 
 use crate::rows::Failure;
 use crate::scans::failure_count;
@@ -52,17 +52,24 @@ pub fn verdict(failures: &[Failure], partition: u32, counts: bool, limit: u32) -
     }
 }
 
-/// Notes a duration. There is room for it.
+/// Notes a duration among those that rise. There is room for it.
 pub fn note_duration(durations: &mut Vec<u64>, duration: Option<u64>)
-    requires { IfSome duration (λ d. vec_len durations.old < vec_capacity durations.old) }
-    ensures items { in_order durations.new.items
-        ≡ with_duration duration (in_order durations.old.items) }
+    requires rising { IsNonDecreasing durations.old.items }
+    requires room { IfSome duration (λ d. vec_len durations.old < vec_capacity durations.old) }
+    ensures items { durations.new.items ≡ with_duration duration durations.old.items }
     ensures kept { vec_capacity durations.old ≤ vec_capacity durations.new }
     ensures len { vec_len durations.new
         ≡ vec_len durations.old + length (option_to_list duration) }
 {
     match duration {
-        Some(new) => durations.push_reserved(new),
+        Some(new) => {
+            let place = durations.partition_point(|one| *one <= new);
+            // With room it isn't refused.
+            match durations.insert(place, new) {
+                Ok(()) => {}
+                Err(_) => unreachable!(),
+            }
+        }
         None => {}
     }
 }

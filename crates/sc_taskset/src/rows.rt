@@ -5,12 +5,14 @@ ghost use Rattle.std.specs.Prelude.{◌≡◌, ◌<◌, ◌+◌, ◌++◌, ◌&&
 ghost use Rattle.std.specs.Option.{option_to_list};
 ghost use Rattle.sc_taskset.specs.declared.rows.Failure.{Failure};
 ghost use Rattle.sc_taskset.specs.Lookups.{copy_at, is_finish, is_finish_on, is_one_elsewhere, is_running, without_copy, without_exec};
-ghost use Rattle.sc_taskset.specs.Offers.{handed_task, is_copyable_task, is_pending_task, is_slow};
+ghost use Rattle.sc_taskset.specs.Offers.{handed_task, is_copyable_task, is_pending_task};
+ghost use Rattle.sc_taskset.specs.Paces.{slow_at};
 ghost use Rattle.sc_taskset.specs.Reports.{ended_task, held_task, is_first_success, lost_task, succeeded_task, task_duration};
 ghost use Rattle.sc_taskset.specs.Rows.{copies_of, task_of};
 ghost use Rattle.sc_taskset.specs.TaskSetData.{fresh_task};
 
 use crate::copies::{is_one_elsewhere, nth_of, unless_nth, unless_on};
+use crate::paces::Pace;
 use crate::tasks::{Finish, RunningCopy};
 use sc_ids::ExecId;
 
@@ -80,14 +82,14 @@ impl Row {
         !self.is_finished() && self.first.is_none() && self.second.is_none() && !self.denied
     }
 
-    /// Whether a second attempt may run on an executor.
-    pub fn is_copyable(self, exec: ExecId) -> bool
-        ensures { result ≡ is_copyable_task exec (task_of [] self) }
+    /// Whether a second attempt may run on an executor, at a pace of its set.
+    pub fn is_copyable(self, exec: ExecId, pace: Pace<'_>) -> bool
+        ensures { result ≡ is_copyable_task (slow_at pace.entry) exec (task_of [] self) }
     {
         !self.is_finished()
             && is_one_elsewhere(self.first, self.second, exec)
             && !self.denied
-            && is_slow()
+            && (pace.is_slow(self.first) || pace.is_slow(self.second))
     }
 
     /// Whether a success is the first of it.
@@ -197,14 +199,6 @@ impl Row {
             ..self
         }
     }
-}
-
-/// Whether the attempt of a task is so slow that a second one is worth its while: never, until
-/// there is speculation.
-fn is_slow() -> bool
-    ensures { result ≡ is_slow }
-{
-    false
 }
 
 /// Whether a task is finished after an executor was lost.

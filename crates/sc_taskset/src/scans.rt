@@ -8,9 +8,11 @@ ghost use Rattle.sc_ids.specs.Failures.{is_counted};
 ghost use Rattle.sc_taskset.specs.declared.rows.Failure.{Failure};
 ghost use Rattle.sc_taskset.specs.Lookups.{are_finished, is_there_and, task_at};
 ghost use Rattle.sc_taskset.specs.Offers.{is_copyable_task, is_pending_task};
+ghost use Rattle.sc_taskset.specs.Paces.{slow_at};
 ghost use Rattle.sc_taskset.specs.Reports.{duration_in, is_failure, is_first_success};
 ghost use Rattle.sc_taskset.specs.Rows.{is_failure_of, is_row_of, offered_task, task_of, tasks_of};
 
+use crate::paces::Pace;
 use crate::rows::{Failure, Row};
 use crate::tables::Table;
 use sc_ids::{ExecId, FailureCause};
@@ -31,15 +33,15 @@ fn first_pending(rows: &Table) -> Option<Row>
     rows.first_pending()
 }
 
-/// The first row of which a second attempt may run on an executor.
-fn first_copyable(rows: &Table, exec: ExecId) -> Option<Row>
+/// The first row of which a second attempt may run on an executor, at a pace of the set.
+fn first_copyable(rows: &Table, exec: ExecId, pace: Pace<'_>) -> Option<Row>
     ensures { (failures : List Failure)
         → option_map (task_of failures) result
-        ≡ find (is_copyable_task exec) (tasks_of failures rows.now) }
+        ≡ find (is_copyable_task (slow_at pace.entry) exec) (tasks_of failures rows.now) }
 {
     rows.as_slice()
         .iter()
-        .find(|row| row.is_copyable(exec))
+        .find(|row| row.is_copyable(exec, pace))
         .copied()
 }
 
@@ -61,10 +63,16 @@ pub fn failure_count(failures: &[Failure], partition: u32) -> usize
         .count()
 }
 
-/// The first row that is there for an executor.
-pub fn offered(rows: &Table, is_zombie: bool, speculation: bool, exec: ExecId) -> Option<Row>
+/// The first row that is there for an executor, at a pace of the set.
+pub fn offered(
+    rows: &Table,
+    is_zombie: bool,
+    speculation: bool,
+    exec: ExecId,
+    pace: Pace<'_>,
+) -> Option<Row>
     ensures { (failures : List Failure) → option_map (task_of failures) result
-        ≡ offered_task is_zombie speculation exec (tasks_of failures rows.now) }
+        ≡ offered_task is_zombie speculation (slow_at pace.entry) exec (tasks_of failures rows.now) }
 {
     if is_zombie {
         return None;
@@ -72,7 +80,7 @@ pub fn offered(rows: &Table, is_zombie: bool, speculation: bool, exec: ExecId) -
     match first_pending(rows) {
         Some(row) => Some(row),
         None => if speculation {
-            first_copyable(rows, exec)
+            first_copyable(rows, exec, pace)
         } else {
             None
         },

@@ -9,6 +9,7 @@ ghost use Rattle.sc_taskset.specs.Sound.{IsSoundSet};
 
 use crate::changes::{end_in, hand_in, hold_in, succeed_in};
 use crate::notes::{note_duration, note_failure, reserve_one, verdict};
+use crate::paces::Pace;
 use crate::rows::Failure;
 use crate::scans::{are_finished, duration_in, ends, fails_in, is_first_in, offered, row_at};
 use crate::tables::Table;
@@ -22,7 +23,7 @@ use std::marker::Model;
 pub struct TaskSet {
     pub(crate) rows: Table,
     pub(crate) failures: Vec<Failure>,
-    /// How long its first successes took, in the order in which they were told.
+    /// How long its first successes took, rising.
     pub(crate) durations: Vec<u64>,
     pub(crate) is_map: bool,
     pub(crate) is_zombie: bool,
@@ -34,14 +35,13 @@ impl Model for TaskSet {
     ghost use Rattle.std.specs.Prelude.{vec_capacity, vec_len};
     ghost use Rattle.sc_taskset.specs.TaskSetData.{TaskSetData};
     ghost use Rattle.sc_taskset.specs.Rows.{IsHeld, set_of};
-    ghost use Rattle.sc_taskset.specs.Tables.{in_order};
 
     ghost Value = { TaskSetData };
 
-    ghost view = { λ s. set_of s.rows s.failures.items (in_order s.durations.items)
+    ghost view = { λ s. set_of s.rows s.failures.items s.durations.items
         s.is_map s.is_zombie s.limits s.born };
 
-    ghost invariant = { λ s. IsHeld (set_of s.rows s.failures.items (in_order s.durations.items)
+    ghost invariant = { λ s. IsHeld (set_of s.rows s.failures.items s.durations.items
         s.is_map s.is_zombie s.limits s.born)
         (vec_len s.failures) (vec_capacity s.failures)
         (vec_len s.durations) (vec_capacity s.durations) };
@@ -128,10 +128,15 @@ impl TaskSet {
 
     /// What it has for an executor at this time: the smallest pending partition or, where nothing
     /// is pending, the smallest one that may be copied there.
-    pub fn peek(&self, exec: ExecId, _now: u64) -> Option<GivenTask>
-        ensures { Offers self.now exec result }
+    pub fn peek(&self, exec: ExecId, now: u64) -> Option<GivenTask>
+        ensures { Offers self.now exec now result }
     {
-        let row = offered(&self.rows, self.is_zombie, self.limits.speculation, exec)?;
+        let pace = Pace {
+            durations: &self.durations,
+            tasks: self.rows.as_slice().len(),
+            now,
+        };
+        let row = offered(&self.rows, self.is_zombie, self.limits.speculation, exec, pace)?;
         Some(GivenTask {
             partition: row.partition,
             nth: row.given,
@@ -141,7 +146,7 @@ impl TaskSet {
     /// Hands a partition out to an executor, and takes room for what may come of it. A refused
     /// call changes nothing.
     pub fn give(&mut self, partition: u32, exec: ExecId, now: u64) -> Result<(), AllocError>
-        requires { may_be_given self.old exec partition ≡ true }
+        requires { may_be_given self.old exec now partition ≡ true }
         ensures ok { OnOk result (self.new ≡ handed self.old partition exec now) }
         ensures err { OnErr result (self.new ≡ self.old) }
     {

@@ -136,7 +136,7 @@ none_under_way work w sound runs rests empty =
 -- an executor that isn't lost doesn't wait where all rest and no report is due
 waits_not : (work : WorkData) (w : WorldData) (exec : ℕ) → IsSoundWorld work w
     → job_runs (core_in w) ≡ true → IsResting w → IsDueReport (core_in w) exec None
-    → HasNone (core_in w).dag exec → (out : AttemptId) → under_way (core_in w) ≡ Some out → ⊥
+    → HasNone (core_in w).dag exec (core_in w).now → (out : AttemptId) → under_way (core_in w) ≡ Some out → ⊥
 waits_not work w exec sound runs rests (none, inl empty) has out under =
     let bad : None ≡ Some out = sym (none_under_way work w sound runs rests empty) ∙ under in
     search (rules, bad)
@@ -148,7 +148,7 @@ waits_not work w exec sound runs rests (none, inr (inr (a, offer))) has out unde
 -- so it gets a task, or the job ends
 asks_well : (c after : CoreData) (exec : ℕ) (answer : Answer) → job_runs c ≡ true
     → c.left_first ≡ None → taking.is_lost c exec ≡ false → held_by c exec ≡ None
-    → (HasNone c.dag exec → (out : AttemptId) → under_way c ≡ Some out → ⊥)
+    → (HasNone c.dag exec c.now → (out : AttemptId) → under_way c ≡ Some out → ⊥)
     → taking.Takes c exec answer after → spends_nothing c (Take exec) answer ≡ false
 asks_well c after exec says.Ended runs stays live free waits (e, is) = absurd (clash runs e)
 asks_well c after exec (says.Stopped first) runs stays live free waits (e, left, is) =

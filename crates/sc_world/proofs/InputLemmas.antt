@@ -99,8 +99,8 @@ given_stand w exec h sound out numbered tied =
     graph : List StageData
     graph = w.desk.job.graph
 
-    o : IsOffered (core_in w).dag exec h.attempt
-    o = offered (core_in w).dag exec h.attempt sound.job.dag out.offer
+    o : IsOffered (core_in w).dag exec (core_in w).now h.attempt
+    o = offered (core_in w).dag exec (core_in w).now h.attempt sound.job.dag out.offer
 
     -- the blocks of a parent
     stood : (parent : ℕ) → Contains (stage_at d h.attempt.stage).parents parent → (m : ℕ)

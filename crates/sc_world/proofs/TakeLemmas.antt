@@ -42,9 +42,9 @@ use Rattle.sc_world.proofs.OutLemmas.{AreOut, more_out}
 -- ---- what is handed out
 
 -- what is handed out wasn't before
-offered_fresh : (d : DagData) (exec : ℕ) (a : AttemptId) → IsOffered d exec a
+offered_fresh : (d : DagData) (exec now : ℕ) (a : AttemptId) → IsOffered d exec now a
     → a.stage_attempt ≡ newest_number d a.stage → was_given d a ≡ false
-offered_fresh d exec a o number =
+offered_fresh d exec now a o number =
     ap (λ s. given_in s a) (set_of_newest d a number ∙ o.newest)
     ∙ ap (λ t. given_among t a.nth) o.is_task
     ∙ ap (λ (n : ℕ). nat_lt n o.task.given) o.nth ∙ itself o.task.given
@@ -60,7 +60,7 @@ new_attempt c exec h sound out = by (running_of c h.attempt) refl
     fresh : runner_of c.dag h.attempt ≡ None
     fresh =
         offered_new c.dag exec h.attempt
-        (offered c.dag exec h.attempt sound.job.dag out.offer) out.offer.newest
+        (offered c.dag exec c.now h.attempt sound.job.dag out.offer) out.offer.newest
 
     by : (o : Option Running) → running_of c h.attempt ≡ o → o ≡ None
     by None e = refl
@@ -119,8 +119,8 @@ task_sound work w exec h desk sound core later numbered asks out is job shelved 
     new : AttemptData
     new = assigned (task_data w.desk.job h) 0
 
-    o : IsOffered (core_in w).dag exec h.attempt
-    o = offered (core_in w).dag exec h.attempt core.job.dag out.offer
+    o : IsOffered (core_in w).dag exec (core_in w).now h.attempt
+    o = offered (core_in w).dag exec (core_in w).now h.attempt core.job.dag out.offer
 
     moves : Moves (is_same h.attempt) (Some exec) (core_in w).dag
         (handed_out (core_in w).dag h.attempt exec (core_in w).now)
@@ -156,7 +156,7 @@ task_sound work w exec h desk sound core later numbered asks out is job shelved 
             absurd (clash g
             (subst (λ n. was_given c.dag n ≡ false)
             (same_is h.attempt (task_of a).hand_out.attempt e)
-            (offered_fresh c.dag exec h.attempt o out.offer.newest)))
+            (offered_fresh c.dag exec c.now h.attempt o out.offer.newest)))
 
 -- ---- any answer
 

@@ -17,7 +17,7 @@ give-requires c =
     let is = newest_there d c.args.a.stage c.index_mut.result.now.state
     (state_there v.items c.args.a.stage c.index_mut.result.now (omega (arith, v.ok.0))
     c.index_mut.ensures.value) in
-    ap (λ s. may_be_given_in s c.args.exec c.args.a.partition) (sym is)
+    ap (λ s. may_be_given_in s c.args.exec c.args.now c.args.a.partition) (sym is)
     ∙ c.requires (tracker_data [] [] 0) default_limits
 
 pub returns-then-stage-len : goal.returns-then-stage-len

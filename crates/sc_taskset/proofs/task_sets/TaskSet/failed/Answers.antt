@@ -5,14 +5,13 @@ use Rattle.sc_taskset.specs.Lookups.{is_there_and, task_at}
 use Rattle.sc_taskset.specs.Reports.{is_failure, is_last_failure}
 use Rattle.sc_taskset.specs.Rows.{is_failure_of, set_of, tasks_of}
 use Rattle.sc_taskset.proofs.FailureLemmas.{failure_room, held_failed, limit_noted, view_failed}
-use Rattle.sc_taskset.specs.Tables.{in_order}
 use Rattle.sc_taskset.proofs.task_sets.TaskSet.failed.Goals as goal
 
 pub note_failure-requires : goal.note_failure-requires
 note_failure-requires c =
     let s = c.self.inside in
     failure_room
-    (set_of s.rows s.failures.items (in_order s.durations.items) s.is_map s.is_zombie s.limits
+    (set_of s.rows s.failures.items s.durations.items s.is_map s.is_zombie s.limits
     s.born)
     c.args.partition c.args.nth (is_counted c.args.cause && not s.is_zombie) c.fails_in-fails.result
     (c.fails_in-fails.ensures s.failures.items)
@@ -34,7 +33,7 @@ invariant_of-self c =
           counts c.fails_in-fails.result c.self.invariant.sound.rising c.end_in.ensures fails,
     )
     (held_failed
-    (set_of s.rows s.failures.items (in_order s.durations.items) s.is_map s.is_zombie s.limits
+    (set_of s.rows s.failures.items s.durations.items s.is_map s.is_zombie s.limits
     s.born)
     c.args.partition c.args.nth counts c.fails_in-fails.result fails c.self.invariant)
 
