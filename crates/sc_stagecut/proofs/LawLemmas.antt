@@ -228,7 +228,7 @@ module _ (work : WorkData) (sound : IsSoundScript work.script) (carried : Carrie
       let last = cut.is_result.is_numbered in
       subst Q (sym cut.all)
       (AllPairs-append R cut.maps (cut.result ∷ [])
-      (maps_rise work cut.numbers cut.next cut.numbers cut.maps cut.are_maps
+      (maps_rise work ordered cut.next cut.numbers cut.maps cut.are_maps
       (numbers_rising work.script sound carried node cut.numbers cut.next cut.are_numbers known))
       (AllPairs-cons R cut.result [] (All-nil (R cut.result)) none)
       (All-weaker (Contains cut.maps) (λ a. All (R a) (cut.result ∷ []))
@@ -258,7 +258,7 @@ module _ (work : WorkData) (sound : IsSoundScript work.script) (carried : Carrie
       ap (filter_map give) cut.all
       ∙ filter_map-append give cut.maps (cut.result ∷ [])
       ∙ ap₂ (λ ms rest. ms ++ rest)
-      (new_of_maps work cut.numbers carried.next cut.numbers cut.maps cut.are_maps)
+      (new_of_maps work ordered carried.next cut.numbers cut.maps cut.are_maps)
       (ap (λ (o : Option Numbered). cons_option o [])
       (new_of_result carried.next node cut.result cut.is_result.makes))
       ∙ append-nil (filter from cut.numbers)
