@@ -1,5 +1,5 @@
 -- What happens beside the reports leaves what holds of every core, and as much to do.
-use Rattle.std.proofs.Common.{◌≡◌, ◌≢◌, ℕ, All, Bool, true, false, cond, List, [], ◌∷◌, map, Option, Some, None, IfSome, find, length, option_map, refl, ap, sym, subst, ◌∙◌, arith, rules, true≢false}
+use Rattle.std.proofs.Common.{◌≡◌, ◌≢◌, ℕ, ◌≤◌, All, Bool, true, false, cond, List, [], ◌∷◌, map, max, Option, Some, None, IfSome, find, length, option_map, refl, ap, sym, subst, ◌∙◌, arith, rules, true≢false}
 use Rattle.std.specs.List.{AllPairs, filter}
 use Rattle.std.proofs.lemmas.List.{map-id}
 use Rattle.std.proofs.lemmas.List.Elements.{All-map, All-weaker}
@@ -19,11 +19,11 @@ use Rattle.sc_core.specs.Sides.{IsAside, IsFurther, Sides, StepsAside, first_wit
 use Rattle.sc_core.specs.Sound.{AreLostAsPlanned, AreOnLive, AreTwo, AwaitsTelling, GoesOn, HasLive, IsShelvedWell, IsSoundCore, IsSoundJob, IsSoundShelf, RunsWell, WasHandedOut, is_shelved}
 use Rattle.sc_core.specs.declared.answers.Answer.{Answer}
 use Rattle.sc_core.specs.declared.answers.SideAnswer.{SideAnswer}
-use Rattle.sc_core.specs.declared.answers.SideAnswer.TheVariants.{Ignored, Left}
+use Rattle.sc_core.specs.declared.answers.SideAnswer.TheVariants.{Ignored, Left, Ticked}
 use Rattle.sc_core.specs.declared.events.Outcome.{Outcome}
 use Rattle.sc_core.specs.declared.events.Outcome.TheVariants as outcomes
 use Rattle.sc_core.specs.declared.events.SideEvent.{SideEvent}
-use Rattle.sc_core.specs.declared.events.SideEvent.TheVariants.{Leave}
+use Rattle.sc_core.specs.declared.events.SideEvent.TheVariants.{Leave, Tick}
 use Rattle.sc_core.specs.declared.running.Running.{Running}
 use Rattle.sc_core.specs.declared.running.Shelved.{Shelved}
 use Rattle.sc_core.proofs.ShelfLemmas.{find_mapped, fits_still}
@@ -33,14 +33,14 @@ use Rattle.sc_core.proofs.ShelfLemmas.{find_mapped, fits_still}
 itself : (r : Running) → IsFurther r r
 itself r = record { hand_out = refl; exec = refl; is_out = refl; phase = λ h. refl }
 
--- a core where another executor left first
-led_aside : (c : CoreData) (first : Option ℕ)
+-- a core where another executor left first, and at another time
+aside_with : (c : CoreData) (first : Option ℕ) (now : ℕ) → c.now ≤ now
     → IfSome c.left_first (λ before. first ≡ Some before)
-    → IsAside c (record c { left_first = first })
-led_aside c first leads =
+    → IsAside c (record c { left_first = first; now = now })
+aside_with c first now later leads =
     record {
       told = refl;
-      ticks = omega arith;
+      ticks = later;
       leaver = leads;
       handed = refl;
       job = refl;
@@ -54,17 +54,25 @@ led_aside c first leads =
       plan = refl;
     }
 
+stays : (first : Option ℕ) → IfSome first (λ before. first ≡ Some before)
+stays None = tt
+stays (Some before) = refl
+
+same_aside : (c : CoreData) → IsAside c c
+same_aside c = aside_with c c.left_first c.now (omega arith) (stays c.left_first)
+
 sides_aside : (c after : CoreData) (event : SideEvent) (said : SideAnswer)
     → Sides c event said after → IsAside c after
-sides_aside c after (Leave exec) Ignored (runs, is) =
-    subst (IsAside c) (sym is) (led_aside c c.left_first (stays c.left_first))
-  where
-    stays : (first : Option ℕ) → IfSome first (λ before. first ≡ Some before)
-    stays None = tt
-    stays (Some before) = refl
+sides_aside c after (Leave exec) Ignored (runs, is) = subst (IsAside c) (sym is) (same_aside c)
+sides_aside c after (Tick now) Ignored (runs, is) = subst (IsAside c) (sym is) (same_aside c)
+sides_aside c after (Tick now) Left step = absurd step
+sides_aside c after (Leave exec) Ticked step = absurd step
+sides_aside c after (Tick now) Ticked (runs, is) =
+    subst (IsAside c) (sym is)
+    (aside_with c c.left_first (max c.now now) (omega arith) (stays c.left_first))
 sides_aside c after (Leave exec) Left (runs, is) =
     subst (IsAside c) (sym is)
-    (led_aside c (first_with c.left_first exec) (leads c.left_first))
+    (aside_with c (first_with c.left_first exec) c.now (omega arith) (leads c.left_first))
   where
     leads : (first : Option ℕ) → IfSome first (λ before. first_with first exec ≡ Some before)
     leads None = tt

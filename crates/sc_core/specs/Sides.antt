@@ -1,13 +1,13 @@
 -- What happens beside the reports, what it is answered, and what that leaves.
-use Rattle.std.specs.Prelude.{ℕ, ◌≡◌, ◌≤◌, true, false, Option, Some, None, IfSome, map}
+use Rattle.std.specs.Prelude.{ℕ, ◌≡◌, ◌≤◌, true, false, Option, Some, None, IfSome, map, max}
 use Rattle.sc_core.specs.CoreData.{CoreData, job_runs}
 use Rattle.sc_core.specs.Posts.{is_save}
 use Rattle.sc_core.specs.declared.answers.Answer.{Answer}
 use Rattle.sc_core.specs.declared.answers.Answer.TheVariants as says
 use Rattle.sc_core.specs.declared.answers.SideAnswer.{SideAnswer}
-use Rattle.sc_core.specs.declared.answers.SideAnswer.TheVariants.{Ignored, Left}
+use Rattle.sc_core.specs.declared.answers.SideAnswer.TheVariants.{Ignored, Left, Ticked}
 use Rattle.sc_core.specs.declared.events.SideEvent.{SideEvent}
-use Rattle.sc_core.specs.declared.events.SideEvent.TheVariants.{Leave}
+use Rattle.sc_core.specs.declared.events.SideEvent.TheVariants.{Leave, Tick}
 use Rattle.sc_core.specs.declared.running.Running.{Running}
 
 -- the first executor that left early, once this one has left too
@@ -18,10 +18,16 @@ first_with (Some first) exec = Some first
 abbrev pub with_leaver : CoreData → ℕ → CoreData
 with_leaver c exec = record c { left_first = first_with c.left_first exec }
 
+-- the greatest time that the clock showed, once it showed this one too
+abbrev pub with_tick : CoreData → ℕ → CoreData
+with_tick c now = record c { now = max c.now now }
+
 -- the answers to what happens beside the reports, each with its cause, and what they leave
 abbrev pub Sides : CoreData → SideEvent → SideAnswer → CoreData → Type 0
-Sides c (Leave exec) Ignored after = (job_runs c ≡ false) × (after ≡ c)
+Sides c event Ignored after = (job_runs c ≡ false) × (after ≡ c)
 Sides c (Leave exec) Left after = (job_runs c ≡ true) × (after ≡ with_leaver c exec)
+Sides c (Tick now) Ticked after = (job_runs c ≡ true) × (after ≡ with_tick c now)
+Sides c event said after = ⊥
 
 -- the same among all answers
 abbrev pub StepsAside : CoreData → SideEvent → Answer → CoreData → Type 0

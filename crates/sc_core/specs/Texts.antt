@@ -22,7 +22,7 @@ use Rattle.sc_core.specs.declared.entries.Entry.{Entry}
 use Rattle.sc_core.specs.declared.events.Event.{Event}
 use Rattle.sc_core.specs.declared.events.Event.TheVariants.{Post, Release, Side, Take, TellLost}
 use Rattle.sc_core.specs.declared.events.SideEvent.{SideEvent}
-use Rattle.sc_core.specs.declared.events.SideEvent.TheVariants.{Leave}
+use Rattle.sc_core.specs.declared.events.SideEvent.TheVariants.{Leave, Tick}
 use Rattle.sc_core.specs.declared.events.Outcome.{Outcome}
 use Rattle.sc_core.specs.declared.events.Outcome.TheVariants as outcomes
 
@@ -75,6 +75,7 @@ outcome_text (outcomes.Failed cause) = codes "failed: " ++ cause_text cause
 
 abbrev pub side_event_text : SideEvent → List ℕ
 side_event_text (Leave exec) = codes "leave " ++ decimal exec
+side_event_text (Tick now) = codes "tick " ++ decimal now
 
 abbrev pub event_text : Event → List ℕ
 event_text (Take exec) = codes "take"
@@ -99,6 +100,7 @@ abort_text aborts.Budget = codes "budget"
 abbrev pub side_answer_text : SideAnswer → List ℕ
 side_answer_text sides.Ignored = codes "ignored"
 side_answer_text sides.Left = codes "left"
+side_answer_text sides.Ticked = codes "ticked"
 
 abbrev pub answer_text : Answer → List ℕ
 answer_text (says.Task h) = task_text h

@@ -49,6 +49,8 @@ pub enum SideAnswer {
     Ignored,
     /// The executor has left. Whoever asks from now on is stopped.
     Left,
+    /// The time is noted, unless it was later before.
+    Ticked,
 }
 
 /// What a core answers.

@@ -22,6 +22,11 @@ pub enum SideEvent {
         /// The executor.
         exec: ExecId,
     },
+    /// The clock was read.
+    Tick {
+        /// What it showed, in milliseconds.
+        now: u64,
+    },
 }
 
 /// What happens to a core.

@@ -4,7 +4,7 @@
 ghost use Rattle.std.specs.Prelude.{◌≡◌};
 ghost use Rattle.sc_core.specs.Owners.{IsThrice};
 ghost use Rattle.sc_core.specs.Sides.{Sides, StepsAside};
-ghost use Rattle.sc_core.specs.declared.events.SideEvent.TheVariants.{Leave};
+ghost use Rattle.sc_core.specs.declared.events.SideEvent.TheVariants.{Leave, Tick};
 
 use crate::answers::{Answer, SideAnswer, Stepped};
 use crate::events::SideEvent;
@@ -27,6 +27,7 @@ impl State {
     {
         match event {
             SideEvent::Leave { exec } => self.leave(exec),
+            SideEvent::Tick { now } => self.note_tick(now),
         }
     }
 
@@ -41,5 +42,16 @@ impl State {
             self.left_first = Some(exec);
         }
         SideAnswer::Left
+    }
+
+    /// The clock was read. The greatest time is kept, so none goes back.
+    fn note_tick(&mut self, now: u64) -> SideAnswer
+        ensures { Sides self.old.0 (Tick now) result self.new.0 }
+    {
+        if !self.runs() {
+            return SideAnswer::Ignored;
+        }
+        self.tick = self.tick.max(now);
+        SideAnswer::Ticked
     }
 }

@@ -105,7 +105,7 @@ impl Stages {
 
     /// Hands out a task of the newest attempt of its stage.
     pub fn give(&mut self, attempt: AttemptId, exec: ExecId, now: u64) -> Result<(), AllocError>
-        requires { may_be_given_in (newest_at self.old.0 attempt.stage) exec attempt.partition
+        requires { may_be_given_in (newest_at self.old.0 attempt.stage) exec now attempt.partition
             ≡ true }
         ensures answered { OnOk result (self.new.0 ≡ handed_out self.old.0 attempt exec now) }
         ensures unchanged { OnErr result (self.new.0 ≡ self.old.0) }

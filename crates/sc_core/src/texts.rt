@@ -87,6 +87,7 @@ impl fmt::Display for SideEvent {
     fn fmt<W: fmt::Write>(&self, f: &mut fmt::Formatter<W>) -> fmt::Result {
         match *self {
             SideEvent::Leave { exec } => write!(f, "leave {exec}"),
+            SideEvent::Tick { now } => write!(f, "tick {now}"),
         }
     }
 }
@@ -101,6 +102,7 @@ impl fmt::Display for SideAnswer {
         match *self {
             SideAnswer::Ignored => write!(f, "ignored"),
             SideAnswer::Left => write!(f, "left"),
+            SideAnswer::Ticked => write!(f, "ticked"),
         }
     }
 }

@@ -97,27 +97,28 @@ word_count_room limits last plan c o =
 
 -- ---- results alone
 
-pub results_alone_job : IsJob results_alone
-results_alone_job =
+pub results_alone_job : (tasks : ℕ) → 0 < tasks → IsJob (results_alone tasks)
+results_alone_job tasks some =
     record {
       maps = [];
-      result = stage_data 0 (targets.Result 0) 2 [];
+      result = stage_data 0 (targets.Result 0) tasks [];
       all = refl;
       are_maps = All-nil (λ stage. is_map stage.target ≡ true);
       is_result = refl;
-      some = omega arith;
+      some = some;
       rising = alone (λ a b. a.id < b.id);
       older = one (λ stage. All (λ parent. parent < stage.id) stage.parents)
-          (stage_data 0 (targets.Result 0) 2 []) (All-nil (λ parent. parent < 0));
+          (stage_data 0 (targets.Result 0) tasks []) (All-nil (λ parent. parent < 0));
       apart = alone (λ a b. AreOfTwo a.target b.target);
     }
   where
-    alone : (R : StageData → StageData → Type 0) → AllPairs R results_alone
+    alone : (R : StageData → StageData → Type 0) → AllPairs R (results_alone tasks)
     alone R =
-        AllPairs-cons R (stage_data 0 (targets.Result 0) 2 []) []
-        (All-nil (R (stage_data 0 (targets.Result 0) 2 []))) (no_pairs R)
+        AllPairs-cons R (stage_data 0 (targets.Result 0) tasks []) []
+        (All-nil (R (stage_data 0 (targets.Result 0) tasks []))) (no_pairs R)
 
-pub results_alone_fits : (limits : Limits) → FitsJob (tracker_behind None limits) results_alone
-results_alone_fits limits =
-    one (FitsIn (tracker_behind None limits)) (stage_data 0 (targets.Result 0) 2 [])
-    (no_shuffle (tracker_behind None limits) (stage_data 0 (targets.Result 0) 2 []) refl)
+pub results_alone_fits : (limits : Limits) (tasks : ℕ)
+    → FitsJob (tracker_behind None limits) (results_alone tasks)
+results_alone_fits limits tasks =
+    one (FitsIn (tracker_behind None limits)) (stage_data 0 (targets.Result 0) tasks [])
+    (no_shuffle (tracker_behind None limits) (stage_data 0 (targets.Result 0) tasks []) refl)

@@ -16,9 +16,9 @@ word_count last =
     stage_data 0 (targets.Map words_shuffle) 2 []
     ∷ stage_data last (targets.Result 3) 2 (0 ∷ []) ∷ []
 
--- two results, with no shuffle before them
-abbrev pub results_alone : List StageData
-results_alone = stage_data 0 (targets.Result 0) 2 [] ∷ []
+-- so many results, with no shuffle before them
+abbrev pub results_alone : ℕ → List StageData
+results_alone tasks = stage_data 0 (targets.Result 0) tasks [] ∷ []
 
 -- how many outputs of the shuffle a core has room for
 abbrev pub room_of : CoreData → ℕ

@@ -1,5 +1,5 @@
-//! Jobs under fault plans: reports that come late or twice, executors that are told lost, and those
-//! that leave early.
+//! Jobs under fault plans: reports that come late or twice, executors that are told lost, those that
+//! leave early, and attempts that are slow.
 #![tactic(auto)]
 
 use crate::transcripts::assert_jobs;
@@ -105,6 +105,61 @@ results: task failures 1, stage attempts 4, hand-outs 99
 0 leave 0: ignored
 1 take: ended
 told 1
+==== an attempt that is slow by more than one and a half medians gets a copy, which counts alone
+four results: task failures 4, stage attempts 4, hand-outs 99, speculation
+----
+0 tick 0: ticked
+0 take: task 0.0.0.0, epoch 0
+0 tick 100: ticked
+0 post 0.0.0.0 result: finished
+0 take: task 0.0.1.0, epoch 0
+0 tick 200: ticked
+0 post 0.0.1.0 result: finished
+0 take: task 0.0.2.0, epoch 0
+0 tick 300: ticked
+0 post 0.0.2.0 result: finished
+0 take: task 0.0.3.0, epoch 0
+1 tick 450: ticked
+1 take: wait for 0.0.3.0
+1 tick 451: ticked
+1 take: task 0.0.3.1, epoch 0
+1 post 0.0.3.1 result: finished
+0 post 0.0.3.0 result: ignored
+1 tick 500: ignored
+told 4
+==== a slow attempt gets no copy on its own executor, and no third one
+four results: task failures 4, stage attempts 4, hand-outs 99, speculation
+----
+0 take: task 0.0.0.0, epoch 0
+0 post 0.0.0.0 result: finished
+0 take: task 0.0.1.0, epoch 0
+0 post 0.0.1.0 result: finished
+0 take: task 0.0.2.0, epoch 0
+0 post 0.0.2.0 result: finished
+0 take: task 0.0.3.0, epoch 0
+1 tick 101: ticked
+0 take: busy with 0.0.3.0
+1 tick 50: ticked
+1 take: task 0.0.3.1, epoch 0
+1 post 0.0.3.1 failed: planned: again
+1 take: task 0.0.3.2, epoch 0
+1 take: busy with 0.0.3.2
+0 post 0.0.3.0 result: finished
+1 post 0.0.3.2 result: ignored
+told 5
+==== without speculation no attempt is copied
+four results: task failures 4, stage attempts 4, hand-outs 99
+----
+0 take: task 0.0.0.0, epoch 0
+0 post 0.0.0.0 result: finished
+0 take: task 0.0.1.0, epoch 0
+0 post 0.0.1.0 result: finished
+0 take: task 0.0.2.0, epoch 0
+0 post 0.0.2.0 result: finished
+0 take: task 0.0.3.0, epoch 0
+1 tick 100000: ticked
+1 take: wait for 0.0.3.0
+told 3
 "#;
 
 #[test]

@@ -32,9 +32,11 @@ pub fn counting_again<R: Abort + AllocGlobal>(rt: &R, limits: Limits, last: &Cor
     begun(rt, &graph, limits, &plan_of(rt, ""), Some(last))
 }
 
-/// That of a job without a shuffle, of two results.
-pub fn results<R: Abort + AllocGlobal>(rt: &R, limits: Limits) -> Journal {
-    let graph = results_alone(rt);
+/// That of a job without a shuffle, of so many results.
+pub fn results<R: Abort + AllocGlobal>(rt: &R, limits: Limits, tasks: u32) -> Journal
+    requires { 0 < tasks }
+{
+    let graph = results_alone(rt, tasks);
     begun(rt, &graph, limits, &plan_of(rt, ""), None)
 }
 
@@ -109,12 +111,12 @@ fn word_count<R: Abort + AllocGlobal>(rt: &R, last: StageId) -> StageGraph
     graph
 }
 
-/// One stage of two results.
-fn results_alone<R: Abort + AllocGlobal>(rt: &R) -> StageGraph
-    ensures { result ≡ results_alone }
+/// One stage of so many results.
+fn results_alone<R: Abort + AllocGlobal>(rt: &R, tasks: u32) -> StageGraph
+    ensures { result ≡ results_alone tasks }
 {
     let mut graph = StageGraph::new(rt.alloc());
-    let alone = Stage::new(0, Target::Result { node: 0 }, 2, Vec::new(rt.alloc()));
+    let alone = Stage::new(0, Target::Result { node: 0 }, tasks, Vec::new(rt.alloc()));
     graph.push(alone).expect(rt, "memory");
     graph
 }

@@ -35,8 +35,10 @@ fn assert_job<R: Abort + AllocGlobal>(rt: &R, case: &str) {
     let limits = limits_of(rt, head);
     let mut journal = if head.starts_with("counts") {
         counting_under(rt, limits, plan)
+    } else if head.starts_with("four results") {
+        results(rt, limits, 4)
     } else {
-        results(rt, limits)
+        results(rt, limits, 2)
     };
     assert_transcript(rt, &mut journal, want, label);
 }
@@ -48,6 +50,7 @@ fn limits_of<R: Abort + AllocGlobal>(rt: &R, head: &str) -> Limits {
         task_failures: at(&numbers, 0),
         stage_attempts: at(&numbers, 1),
         hand_outs: at(&numbers, 2),
+        speculation: head.ends_with("speculation"),
         ..Limits::default()
     }
 }
@@ -140,6 +143,11 @@ fn event_of(line: &str, numbers: &[u32]) -> Event {
     if line.contains(" leave ") {
         return Event::Side(SideEvent::Leave {
             exec: at(numbers, 1),
+        });
+    }
+    if line.contains(" tick ") {
+        return Event::Side(SideEvent::Tick {
+            now: u64::from(at(numbers, 1)),
         });
     }
     if line.contains(" lost ") {
