@@ -4,9 +4,9 @@
 //! ([`Event::Take`]) or reports on one ([`Event::Post`]); a report that the fault plan delayed
 //! reaches the driver ([`Event::Release`]); the driver learns that an executor is lost
 //! ([`Event::TellLost`]); or something happens beside the reports ([`Event::Side`]), such as an
-//! executor that leaves, or the clock that is read. What an event is answered and what it leaves is one relation, `Steps` of
-//! `specs/Steps.antt`, with a file for each event. A [`Journal`] keeps the events with their
-//! answers, so that its state is the replay of its entries.
+//! executor that leaves, or the clock that is read. What an event is answered and what it leaves is
+//! one relation, `Steps` of `specs/Steps.antt`, with a file for each event. A [`Journal`] keeps the
+//! events with their answers, so that its state is the replay of its entries.
 //!
 //! Contracts see a [`Core`] as the record `CoreData` of `specs/CoreData.antt`; what holds of every
 //! core stands in `specs/Sound.antt`, and what follows for every list of events in

@@ -15,7 +15,8 @@
 //! that the set doesn't have, or an attempt that doesn't run, changes nothing. Only what hands out
 //! and what begins may want memory.
 //!
-//! It stands on `sc_ids`, and knows nothing of outputs, grants and other sets of its stage.
+//! It stands on `sc_ids` and on `sc_spec`, which says when an attempt is slow. It knows nothing of
+//! outputs, grants and other sets of its stage.
 #![tactic(auto)]
 
 mod changes;

@@ -136,7 +136,13 @@ impl TaskSet {
             tasks: self.rows.as_slice().len(),
             now,
         };
-        let row = offered(&self.rows, self.is_zombie, self.limits.speculation, exec, pace)?;
+        let row = offered(
+            &self.rows,
+            self.is_zombie,
+            self.limits.speculation,
+            exec,
+            pace,
+        )?;
         Some(GivenTask {
             partition: row.partition,
             nth: row.given,
