@@ -7,3 +7,4 @@ pub mod Places
 pub mod Runs
 pub mod Laws
 pub mod Serial
+pub mod Turns

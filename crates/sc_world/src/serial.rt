@@ -1,11 +1,11 @@
 //! The serial run of a job.
 #![tactic(auto)]
 
-ghost use Rattle.std.specs.Prelude.{◌≡◌, ◌<◌, IfOk, IfSome, OnOk, false, true};
+ghost use Rattle.std.specs.Prelude.{◌≡◌, ◌+◌, ◌<◌, ◌^◌, IfOk, IfSome, OnErr, OnOk, false, true};
 ghost use Rattle.sc_core.specs.CoreData.{job_runs};
-ghost use Rattle.sc_core.specs.Takes.{is_lost};
 ghost use Rattle.sc_world.specs.Runs.{Reaches};
 ghost use Rattle.sc_world.specs.Serial.{GoesOn, IsLive, IsResting, IsSameJob, Turns};
+ghost use Rattle.sc_world.specs.Turns.{FindsLive, FindsNext, LeavesTurn, RunsByTurns, RunsShort, TakesTurn};
 ghost use Rattle.sc_world.specs.WorldData.{core_in};
 
 use crate::worlds::World;
@@ -22,6 +22,8 @@ impl<W: Naming> World<W> {
     pub fn serial(&mut self, alloc: Global) -> Result<(), AllocError>
         requires rests { IsResting self.old }
         ensures ended { OnOk result (job_runs (core_in self.new) ≡ false) }
+        ensures turns { OnOk result (RunsByTurns W.work 0 self.old self.new) }
+        ensures short { OnErr result (RunsShort W.work 0 self.old self.new) }
         ensures reaches { Reaches W.work self.old self.new }
         ensures same { IsSameJob self.old self.new }
     {
@@ -38,6 +40,8 @@ impl<W: Naming> World<W> {
         requires rests { IsResting self.old }
         ensures turns { OnOk result (Turns W.work self.old self.new) }
         ensures on { GoesOn W.work self.old self.new }
+        ensures takes { IfOk result (λ next. TakesTurn W.work from next self.old self.new) }
+        ensures leaves { OnErr result (LeavesTurn W.work from self.old self.new) }
     {
         let Some(exec) = self.next_live(from) else {
             return Err(AllocError);
@@ -46,12 +50,14 @@ impl<W: Naming> World<W> {
             return Ok(exec);
         }
         self.run_task(alloc, exec)?;
-        Ok(exec.saturating_add(1))
+        Ok(exec + 1)
     }
 
     /// The next executor that wasn't told lost, from one on and round again.
     fn next_live(&self, from: ExecId) -> Option<ExecId>
-        ensures { IfSome result (IsLive self.now) }
+        ensures live { IfSome result (IsLive self.now) }
+        ensures next { FindsNext W.work.limits.executors (core_in self.now) from result }
+        ensures fits { IfSome result (λ exec. exec + 1 < 2 ^ 32) }
     {
         self.desk.work().is_named();
         let executors = self.desk.work().get().limits().executors;
@@ -63,7 +69,7 @@ impl<W: Naming> World<W> {
 
     /// The first executor within a range of numbers that wasn't told lost.
     fn live_between(&self, from: ExecId, end: ExecId) -> Option<ExecId>
-        ensures { IfSome result (λ exec. (exec < end) × (is_lost (core_in self.now) exec ≡ false)) }
+        ensures { FindsLive (core_in self.now) from end result }
     {
         for exec in from..end {
             if !self.desk.core().is_lost(exec) {

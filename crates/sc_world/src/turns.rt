@@ -3,9 +3,12 @@
 
 ghost use Rattle.std.specs.Prelude.{◌≡◌, ◌<◌, IfOk, None, OnErr, OnOk, is_some, length, true};
 ghost use Rattle.sc_core.specs.CoreData.{job_runs};
-ghost use Rattle.sc_desk.specs.Dues.{IsDueReport};
+ghost use Rattle.sc_core.specs.declared.answers.Answer.{Answer};
+ghost use Rattle.sc_desk.specs.Dues.{IsDueLoss, IsDueReport};
 ghost use Rattle.sc_desk.specs.Orders.{IsDueOrder};
 ghost use Rattle.sc_world.specs.Serial.{Advances, Asks, Drives, Finishes, GoesOn, IsAlone, IsLive, IsResting, Turns};
+ghost use Rattle.sc_world.specs.Steps.{Takes};
+ghost use Rattle.sc_world.specs.Turns.{AdvancesBy, AdvancesOne, CarriesOut, DoesDueIf, StopsWork, Works};
 ghost use Rattle.sc_world.specs.WorldData.{core_in, held_at};
 
 use crate::places::AttemptState;
@@ -21,6 +24,7 @@ impl<W: Naming> World<W> {
         requires runs { job_runs (core_in self.old) ≡ true }
         requires rests { IsResting self.old }
         ensures drives { IfOk result (λ driven. Drives W.work exec driven self.old self.new) }
+        ensures due { IfOk result (λ driven. DoesDueIf driven W.work exec self.old self.new) }
         ensures refused { OnErr result (self.new ≡ self.old) }
     {
         self.is_world();
@@ -37,7 +41,9 @@ impl<W: Naming> World<W> {
     fn tell_next(&mut self, exec: ExecId) -> Result<bool, AllocError>
         requires runs { job_runs (core_in self.old) ≡ true }
         requires rests { IsResting self.old }
+        requires no_loss { IsDueLoss (core_in self.old) None }
         ensures drives { IfOk result (λ driven. Drives W.work exec driven self.old self.new) }
+        ensures due { IfOk result (λ driven. DoesDueIf driven W.work exec self.old self.new) }
         ensures refused { OnErr result (self.new ≡ self.old) }
     {
         self.is_world();
@@ -54,8 +60,10 @@ impl<W: Naming> World<W> {
     fn order_next(&mut self, exec: ExecId) -> bool
         requires runs { job_runs (core_in self.old) ≡ true }
         requires rests { IsResting self.old }
+        requires no_loss { IsDueLoss (core_in self.old) None }
         requires due { IsDueReport (core_in self.old) exec None }
-        ensures { Drives W.work exec result self.old self.new }
+        ensures drives { Drives W.work exec result self.old self.new }
+        ensures due { DoesDueIf result W.work exec self.old self.new }
     {
         self.is_world();
         match self.next_order() {
@@ -75,6 +83,7 @@ impl<W: Naming> World<W> {
         ensures on { GoesOn W.work self.old self.new }
         ensures desk { self.new.desk ≡ self.old.desk }
         ensures held { self.new.held ≡ self.old.held }
+        ensures obeys { CarriesOut W.work order self.old self.new }
     {
         match order.kind {
             OrderKind::Drop | OrderKind::Lose => {
@@ -92,6 +101,8 @@ impl<W: Naming> World<W> {
         requires live { IsLive self.old exec }
         ensures turns { OnOk result (Turns W.work self.old self.new) }
         ensures on { GoesOn W.work self.old self.new }
+        ensures works { OnOk result (Works W.work exec self.old self.new) }
+        ensures stops { OnErr result (StopsWork W.work exec self.old self.new) }
     {
         self.ask(alloc, exec)?;
         self.finish(alloc, exec)
@@ -104,6 +115,7 @@ impl<W: Naming> World<W> {
         requires due { IsDueReport (core_in self.old) exec None }
         requires live { IsLive self.old exec }
         ensures asks { OnOk result (Asks W.work exec self.old self.new) }
+        ensures takes { OnOk result ((answer : Answer) × Takes self.old exec answer self.new) }
         ensures refused { OnErr result (self.new ≡ self.old) }
     {
         self.is_world();
@@ -116,6 +128,7 @@ impl<W: Naming> World<W> {
         requires alone { IsAlone exec self.old }
         ensures finishes { OnOk result (Finishes W.work self.old self.new) }
         ensures on { GoesOn W.work self.old self.new }
+        ensures goes { AdvancesBy W.work exec self.old self.new }
     {
         while self.is_out(exec) {
             self.advance(alloc, exec)?;
@@ -128,6 +141,7 @@ impl<W: Naming> World<W> {
         requires out { is_some (held_at self.old exec) ≡ true }
         requires alone { IsAlone exec self.old }
         ensures advances { OnOk result (Advances W.work exec self.old self.new) }
+        ensures goes { OnOk result (AdvancesOne W.work exec self.old self.new) }
         ensures refused { OnErr result (self.new ≡ self.old) }
     {
         self.is_world();

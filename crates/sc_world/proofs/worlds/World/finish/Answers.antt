@@ -1,4 +1,5 @@
 use Rattle.std.proofs.Common.{arith}
+use Rattle.sc_world.specs.Turns.{no_step, one_step}
 use Rattle.sc_world.proofs.CodeRuns.{goes_then, stays}
 use Rattle.sc_world.proofs.CodeTurns.{no_more_then}
 use Rattle.sc_world.proofs.worlds.World.finish.Goals as goal
@@ -9,6 +10,7 @@ loop-alloc-init g c =
       on = stays g.W.Naming.work c.args.self.now;
       alone = c.requires.alone;
       no_more = λ runs. (runs, omega arith);
+      goes = no_step;
     }
 
 pub loop-alloc-preserved : goal.loop-alloc-preserved
@@ -19,4 +21,6 @@ loop-alloc-preserved g c =
       alone = c.in_ok-advance.ensures.advances.alone;
       no_more = no_more_then g.W.Naming.work c.args.self.now c.loop-alloc.self c.advance.new.self
           c.loop-alloc.invariant.no_more c.in_ok-advance.ensures.advances.no_more;
+      goes = one_step c.loop-alloc.self c.advance.new.self c.loop-alloc.invariant.goes
+          c.in_ok-advance.ensures.goes;
     }

@@ -1,4 +1,5 @@
 use Rattle.sc_world.specs.Serial.{GoesOn, IsAlone, IsNoMore, steps_left}
+use Rattle.sc_world.specs.Turns.{AdvancesBy}
 use Rattle.sc_world.specs.WorldData.{held_at}
 use Rattle.sc_world.proofs.worlds.World.finish.Given as goal
 
@@ -7,6 +8,7 @@ invariant-loop-alloc g l = record {
   on : GoesOn g.W.Naming.work l.fn.self l.self;
   alone : IsAlone l.exec l.self;
   no_more : IsNoMore g.W.Naming.work l.fn.self l.self;
+  goes : AdvancesBy g.W.Naming.work l.exec l.fn.self l.self;
 }
 
 abbrev pub decreases-loop-alloc : goal.decreases-loop-alloc

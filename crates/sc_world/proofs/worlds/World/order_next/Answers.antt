@@ -1,5 +1,4 @@
-use Rattle.std.proofs.Common.{subst}
-use Rattle.sc_world.specs.Steps.{HandsOrder}
+use Rattle.std.proofs.Common.{inr}
 use Rattle.sc_world.proofs.CodeTurns.{order_due, order_there, orders_turn}
 use Rattle.sc_world.proofs.worlds.World.order_next.Goals as goal
 
@@ -13,8 +12,21 @@ carry_out-requires-clause-there g c =
     order_there g.W.Naming.work c.args.self.now c.next_order.new.self c.in-Some.order
     c.is_world.ensures c.in-Some.ensures
 
-pub returns-in-Some : goal.returns-in-Some
-returns-in-Some g c =
+pub returns-in-Some-clause-drives : goal.returns-in-Some-clause-drives
+returns-in-Some-clause-drives g c =
     orders_turn g.W.Naming.work c.args.self.now c.next_order.new.self c.carry_out.new.self
     c.in-Some.order c.requires.rests c.in-Some.ensures c.carry_out.ensures.on
     c.carry_out.ensures.desk c.carry_out.ensures.held
+
+pub returns-in-Some-clause-due : goal.returns-in-Some-clause-due
+returns-in-Some-clause-due g c =
+    inr (inr (
+      c.requires.no_loss,
+      c.requires.due,
+      record {
+        order = c.in-Some.order;
+        handed = c.next_order.new.self;
+        hands = c.in-Some.ensures;
+        obeys = c.carry_out.ensures.obeys;
+      },
+    ))
