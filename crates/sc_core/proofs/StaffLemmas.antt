@@ -1,14 +1,16 @@
 -- Who is live.
-use Rattle.std.proofs.Common.{◌≡◌, ◌≢◌, ℕ, zero, suc, ◌<◌, ◌&&◌, Bool, true, false, List, [], ◌∷◌, length, replicate, ap, sym, subst, ◌∙◌, refl, arith, true≢false}
+use Rattle.std.proofs.Common.{◌≡◌, ◌≢◌, ℕ, zero, suc, ◌<◌, ◌&&◌, Bool, true, false, List, [], ◌∷◌, length, not, replicate, slice_get, ap, sym, subst, ◌∙◌, refl, arith, true≢false}
 use Rattle.std.proofs.lemmas.List.{length-replicate}
 use Rattle.sc_tracker.specs.TrackerData.{TrackerData, trust_of}
-use Rattle.sc_tracker.specs.Trust.{are_lost, trust_at, untold}
+use Rattle.sc_tracker.specs.Trust.{are_lost, is_live, trust_at, untold}
 use Rattle.sc_tracker.specs.declared.trust.Trust.{Trust}
 use Rattle.sc_dag.proofs.Tests.{clash}
 use Rattle.sc_core.specs.CoreData.{CoreData, is_running_job, job_runs}
 use Rattle.sc_core.specs.Laws.{FirstHasLive}
-use Rattle.sc_core.specs.Sound.{HasLive, IsLive}
+use Rattle.sc_core.specs.Sound.{HasLive, IsLive, IsSoundCore}
+use Rattle.sc_core.specs.Takes.{is_lost}
 use Rattle.sc_core.specs.declared.answers.Abort.{Abort}
+use Rattle.sc_core.specs.declared.answers.Abort.TheVariants.{NoExecutor}
 use Rattle.sc_core.specs.declared.answers.JobState.TheVariants as jobs
 
 -- somebody is live still, where nobody more is lost
@@ -59,3 +61,18 @@ pub first_has_live : FirstHasLive
 first_has_live limits some =
     let many = length-replicate limits.executors untold in
     (0, record { there = omega (arith, some, many); live = none_lost limits.executors 0 })
+
+-- where somebody is live, an executor that is is told so
+is_live_at : (trust : List Trust) (exec : ℕ) → exec < length trust
+    → (trust_at trust exec).lost ≡ false → is_live (slice_get trust exec) ≡ true
+is_live_at [] exec there live = absurd (omega (arith, there))
+is_live_at (t ∷ trust) zero there live = ap not live
+is_live_at (t ∷ trust) (suc exec) there live = is_live_at trust exec (omega (arith, there)) live
+
+-- not all executors are lost while the job runs
+pub runs_not_lost : (c : CoreData) → IsSoundCore c → job_runs c ≡ true
+    → ((exec : ℕ) → exec < length c.dag.tracker.trust → is_lost c exec ≡ true) → ⊥
+runs_not_lost c sound runs lost =
+    let some = sound.staffed (runs_not_aborted c NoExecutor runs) in
+    true≢false (sym (lost some.0 some.1.there)
+    ∙ ap not (is_live_at c.dag.tracker.trust some.0 some.1.there some.1.live))

@@ -161,11 +161,6 @@ abbrev pub FindsLive : CoreData → ℕ → ℕ → Option ℕ → Type 0
 FindsLive c from end (Some exec) = IsFirstLive c from end exec
 FindsLive c from end None = AreLost c from end
 
--- whose turn it is, if not all were told lost
-abbrev pub FindsNext : ℕ → CoreData → ℕ → Option ℕ → Type 0
-FindsNext executors c from (Some exec) = IsNextLive executors c from exec
-FindsNext executors c from None = AreLost c 0 executors
-
 -- whether something was due, which was done
 abbrev pub DoesDueIf : Bool → WorkData → ℕ → WorldData → WorldData → Type 0
 DoesDueIf true work exec w after = DoesDue work exec w after

@@ -5,7 +5,7 @@ ghost use Rattle.std.specs.Prelude.{◌≡◌, ◌+◌, ◌<◌, ◌^◌, IfOk, 
 ghost use Rattle.sc_core.specs.CoreData.{job_runs};
 ghost use Rattle.sc_world.specs.Runs.{Reaches};
 ghost use Rattle.sc_world.specs.Serial.{GoesOn, IsLive, IsResting, IsSameJob, Turns};
-ghost use Rattle.sc_world.specs.Turns.{FindsLive, FindsNext, LeavesTurn, RunsByTurns, RunsShort, TakesTurn};
+ghost use Rattle.sc_world.specs.Turns.{FindsLive, IsNextLive, LeavesTurn, RunsByTurns, RunsShort, TakesTurn};
 ghost use Rattle.sc_world.specs.WorldData.{core_in};
 
 use crate::worlds::World;
@@ -43,9 +43,7 @@ impl<W: Naming> World<W> {
         ensures takes { IfOk result (λ next. TakesTurn W.work from next self.old self.new) }
         ensures leaves { OnErr result (LeavesTurn W.work from self.old self.new) }
     {
-        let Some(exec) = self.next_live(from) else {
-            return Err(AllocError);
-        };
+        let exec = self.next_live(from);
         if self.drive(exec)? {
             return Ok(exec);
         }
@@ -53,17 +51,23 @@ impl<W: Naming> World<W> {
         Ok(exec + 1)
     }
 
-    /// The next executor that wasn't told lost, from one on and round again.
-    fn next_live(&self, from: ExecId) -> Option<ExecId>
-        ensures live { IfSome result (IsLive self.now) }
-        ensures next { FindsNext W.work.limits.executors (core_in self.now) from result }
-        ensures fits { IfSome result (λ exec. exec + 1 < 2 ^ 32) }
+    /// The next executor that wasn't told lost, from one on and round again. There is one while the
+    /// job runs.
+    fn next_live(&self, from: ExecId) -> ExecId
+        requires runs { job_runs (core_in self.now) ≡ true }
+        ensures live { IsLive self.now result }
+        ensures next { IsNextLive W.work.limits.executors (core_in self.now) from result }
+        ensures fits { result + 1 < 2 ^ 32 }
     {
+        self.is_world();
         self.desk.work().is_named();
         let executors = self.desk.work().get().limits().executors;
-        match self.live_between(from, executors) {
-            Some(exec) => Some(exec),
-            None => self.live_between(0, executors),
+        if let Some(exec) = self.live_between(from, executors) {
+            return exec;
+        }
+        match self.live_between(0, executors) {
+            Some(exec) => exec,
+            None => unreachable!(),
         }
     }
 

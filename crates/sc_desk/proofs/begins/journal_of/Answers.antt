@@ -9,13 +9,13 @@ pub open-requires-clause-fits : goal.open-requires-clause-fits
 open-requires-clause-fits g c =
     rw c.graph.ensures
     (fits_job g.W.Naming.work c.limits-limits.result c.args.job.now
-    (option_map (λ l. l.now) c.args.last) c.is_job.ensures c.requires)
+    (option_map (λ l. l.now) c.args.last) c.is_job.ensures c.requires.fits)
 
 pub open-requires-2-clause-fits : goal.open-requires-2-clause-fits
 open-requires-2-clause-fits g c =
     rw c.graph-2.ensures
     (fits_job g.W.Naming.work c.limits-limits.result c.args.job.now
-    (option_map (λ l. l.now) c.args.last) c.is_job.ensures c.requires)
+    (option_map (λ l. l.now) c.args.last) c.is_job.ensures c.requires.fits)
 
 pub begin-requires : goal.begin-requires
 begin-requires g c =
@@ -23,7 +23,7 @@ begin-requires g c =
     ∙ ap (λ (w : WorkData). w.plan) (c.get-2.ensures ∙ c.is_named.ensures) in
     opened_alike g.W.Naming.work c.limits-limits.result c.args.job.now
     (option_map (λ l. l.now) c.args.last) c.in_ok-core.core c.in_ok-opening.opening
-    c.is_job.ensures c.requires c.are_sound.ensures
+    c.is_job.ensures c.requires.fits c.are_sound.ensures
     (subst (λ p. IsOpening c.args.job.now.graph c.limits-limits.result false p
     (option_map (λ l. l.now) c.args.last) c.in_ok-core.core) plan
     (subst (λ graph. IsOpening graph c.limits-limits.result false c.plan-plan.result.now
