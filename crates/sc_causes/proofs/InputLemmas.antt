@@ -131,6 +131,6 @@ module _ (d : DagData) (s : ℕ) (set : TaskSetData) (sound : IsSoundDag d)
 
 pub missing_inputs_were_lost : MissingInputsWereLost
 missing_inputs_were_lost c exec h sound out =
-    let o = offered c.dag exec h.attempt sound.job.dag out.offer in
+    let o = offered c.dag exec c.now h.attempt sound.job.dag out.offer in
     subst (λ inputs. All (IsThereOrLost c.dag.tracker) inputs) (sym out.inputs)
     (inputs_were c.dag h.attempt.stage o.set sound.job.dag o.newest)
