@@ -1,6 +1,8 @@
-use Rattle.std.proofs.Common.{subst}
+use Rattle.std.proofs.Common.{subst, sym}
 use Rattle.sc_core.proofs.LimitLemmas.{done_jobs_are_whole}
+use Rattle.sc_core.specs.CoreData.{CoreData}
 use Rattle.sc_core.specs.Sound.{IsSoundCore}
+use Rattle.sc_desk.specs.Begins.{FitsRun}
 use Rattle.sc_desk.specs.DeskData.{desk_data}
 use Rattle.sc_desk.proofs.EndLemmas.{all_there}
 use Rattle.sc_desk.proofs.EvidenceLemmas.{evident_as}
@@ -21,3 +23,9 @@ returns-clause-evidence g c =
     c.close-history.result.end j.entries c.close-history.result.entries.items
     c.close-history.ensures.opening c.close-history.ensures.entries c.close-history.ensures.end
     c.self.invariant.evidence
+
+pub returns-clause-fits : goal.returns-clause-fits
+returns-clause-fits g c =
+    let is = c.self.invariant in
+    subst (λ (x : CoreData). FitsRun g.W.Naming.work x) (sym c.close-history.ensures.end)
+    (record { tracker = is.fits; execs = is.execs; plan = is.plan; seen = is.seen })
