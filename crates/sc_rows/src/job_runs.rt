@@ -8,8 +8,9 @@
 
 use crate::jobs::{counting_again, counting_under};
 use crate::transcripts::{assert_jobs, assert_transcript};
-use sc_core::story;
+use sc_core::{Journal, story};
 use sc_ids::{AttemptId, Limits};
+use std::process::Abort;
 
 const RUNS: &str = r#"==== one wipe is survived
 counts: task failures 4, stage attempts 4, hand-outs 99
@@ -164,17 +165,27 @@ const STORY: &str = "\
 
 #[test]
 fn a_second_job_reuses_the_map_stage(rt: HostRuntime) {
-    let mut first = counting_under(&rt, Limits::default(), "");
-    assert_transcript(&rt, &mut first, FIRST, "the first job");
-    let mut second = counting_again(&rt, Limits::default(), first.core());
+    let mut second = second_job(&rt);
     second.reserve(5).expect(&rt, "memory");
     assert_transcript(&rt, &mut second, SECOND, "the second job");
+    assert_story(&rt, &second);
+}
+
+/// The journal of a job that begins behind the first one.
+fn second_job<R: Abort + AllocGlobal>(rt: &R) -> Journal {
+    let mut first = counting_under(rt, Limits::default(), "");
+    assert_transcript(rt, &mut first, FIRST, "the first job");
+    counting_again(rt, Limits::default(), first.core())
+}
+
+/// Sees how the story of an attempt of the second job reads.
+fn assert_story<R: Abort + AllocGlobal>(rt: &R, second: &Journal) {
     let attempt = AttemptId {
         stage: 2,
         stage_attempt: 0,
         partition: 1,
         nth: 0,
     };
-    let told = story(rt.alloc(), second.entries(), attempt).expect(&rt, "memory");
+    let told = story(rt.alloc(), second.entries(), attempt).expect(rt, "memory");
     assert_eq!(rt; told.as_str(), STORY);
 }

@@ -56,6 +56,7 @@ fn desk_of<W: Naming, R: Abort + AllocGlobal>(rt: &R, work: &SharedWork<W>) -> D
     ensures { IsFirstDesk W.work result }
 {
     work.is_named();
+    work.get().is_sound();
     let shared = work.share().expect(rt, "memory");
     let passed = Passed::first(rt.alloc(), work.get()).expect(rt, "memory");
     assert_no_sort(rt, work.get(), &passed.carried);
@@ -177,15 +178,40 @@ fn answers_of<W: Naming, R: Abort + AllocGlobal>(rt: &R, work: Work, lines: Stri
     requires { work ≡ W.work }
 {
     let mut world = world_of::<W, R>(rt, work);
-    let mut told = String::new(rt.alloc());
-    for line in lines.as_str().lines() {
-        let (words, _) = halves(line, ": ");
-        let answer = answer_of(rt, &mut world, words);
-        writeln!(told, "{words}: {answer}").expect(rt, "memory");
-    }
-    let results = results_of(rt, &world);
-    told.push_str(results.as_str()).expect(rt, "memory");
+    let mut told = replayed(rt, &mut world, lines.as_str());
+    push_results(rt, &world, &mut told);
     told
+}
+
+/// The lines as they are answered, one after the other.
+fn replayed<W: Naming, R: Abort + AllocGlobal>(
+    rt: &R,
+    world: &mut World<W>,
+    lines: &str,
+) -> String {
+    let mut told = String::new(rt.alloc());
+    for line in lines.lines() {
+        tell(rt, world, line, &mut told);
+    }
+    told
+}
+
+/// Lets the step of a line happen, and writes the line with its answer.
+fn tell<W: Naming, R: Abort + AllocGlobal>(
+    rt: &R,
+    world: &mut World<W>,
+    line: &str,
+    told: &mut String,
+) {
+    let (words, _) = halves(line, ": ");
+    let answer = answer_of(rt, world, words);
+    writeln!(told, "{words}: {answer}").expect(rt, "memory");
+}
+
+/// Writes the results that are there.
+fn push_results<W: Naming, R: Abort + AllocGlobal>(rt: &R, world: &World<W>, told: &mut String) {
+    let results = results_of(rt, world);
+    told.push_str(results.as_str()).expect(rt, "memory");
 }
 
 /// The results that are there, in order, as they are printed.
