@@ -59,7 +59,7 @@ new_attempt c exec h sound out = by (running_of c h.attempt) refl
   where
     fresh : runner_of c.dag h.attempt ≡ None
     fresh =
-        offered_new c.dag exec h.attempt
+        offered_new c.dag exec c.now h.attempt
         (offered c.dag exec c.now h.attempt sound.job.dag out.offer) out.offer.newest
 
     by : (o : Option Running) → running_of c h.attempt ≡ o → o ≡ None
