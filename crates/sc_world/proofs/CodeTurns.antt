@@ -136,14 +136,15 @@ none_under_way work w sound runs rests empty =
 -- an executor that isn't lost doesn't wait where all rest and no report is due
 waits_not : (work : WorkData) (w : WorldData) (exec : ℕ) → IsSoundWorld work w
     → job_runs (core_in w) ≡ true → IsResting w → IsDueReport (core_in w) exec None
-    → HasNone (core_in w).dag exec (core_in w).now → (out : AttemptId) → under_way (core_in w) ≡ Some out → ⊥
+    → HasNone (core_in w).dag exec (core_in w).now → (out : AttemptId)
+    → under_way (core_in w) ≡ Some out → ⊥
 waits_not work w exec sound runs rests (none, inl empty) has out under =
     let bad : None ≡ Some out = sym (none_under_way work w sound runs rests empty) ∙ under in
     search (rules, bad)
 waits_not work w exec sound runs rests (none, inr (inl any)) has out under =
     clash any (none_out work w sound runs rests)
 waits_not work w exec sound runs rests (none, inr (inr (a, offer))) has out under =
-    no_offer (core_in w).dag exec a has offer
+    no_offer (core_in w).dag exec (core_in w).now a has offer
 
 -- so it gets a task, or the job ends
 asks_well : (c after : CoreData) (exec : ℕ) (answer : Answer) → job_runs c ≡ true
