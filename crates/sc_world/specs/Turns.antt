@@ -58,6 +58,7 @@ CarriesOutAs kinds.Lose work order w after =
     (answer : WipeAnswer) × WipesOne work w order answer after
 CarriesOutAs kinds.Evict work order w after = EvictsOne w order.exec after
 
+-- as its kind says
 abbrev pub CarriesOut : WorkData → Order → WorldData → WorldData → Type 0
 CarriesOut work order w after = CarriesOutAs order.kind work order w after
 
