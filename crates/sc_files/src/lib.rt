@@ -13,9 +13,11 @@
 #![tactic(auto)]
 
 mod files;
+mod host;
 mod listed;
 mod memory;
 mod paths;
 
 pub use files::{FileAnswer, Files, MakeAnswer};
+pub use host::HostFiles;
 pub use memory::MemFiles;
