@@ -1,5 +1,5 @@
 -- Paths that are read from one end.
-use Rattle.std.proofs.Common.{◌≡◌, ◌∙◌, ℕ, zero, suc, ◌<◌, cond, false, length, take, drop, get_or, arith, not-suc-le-zero, List, [], ◌∷◌, refl, ap}
+use Rattle.std.proofs.Common.{◌≡◌, ◌∙◌, ℕ, zero, suc, ◌<◌, cond, false, length, take, drop, get_or, arith, not-suc-le-zero, [], ◌∷◌, refl, ap}
 use Rattle.std.specs.Prelude.{◌==◌, Some, None}
 use Rattle.sc_base.specs.Trees.{Path, dir_part, dir_step, lies_under}
 

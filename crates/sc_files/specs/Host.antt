@@ -1,5 +1,5 @@
 -- The files of the system.
-use Rattle.std.specs.Prelude.{◌≡◌, ◌≢◌, ◌⊎◌, List, ℕ, None, Result, Ok, Err}
+use Rattle.std.specs.Prelude.{◌≡◌, ◌≢◌, List, ℕ, None, Result, Ok, Err}
 use Rattle.std.specs.IoError.{error_kind}
 use Rattle.std.specs.declared.io.Error.{Error}
 use Rattle.std.specs.declared.io.ErrorKind.{ErrorKind}
@@ -39,10 +39,6 @@ EndsUnseen before after ends.NoFile = after ≡ with_clash before
 EndsUnseen before after ends.Failed = after ≡ with_fault before
 EndsUnseen before after ends.OutOfMemory = ⊥
 
--- what a path names isn't there, or something in front of it is no directory
-abbrev pub IsMissing : ErrorKind → Type 0
-IsMissing kind = (kind ≡ kinds.NotFound) ⊎ (kind ≡ kinds.NotADirectory)
-
 -- what is answered where the system made a directory, or had this error
 abbrev pub SettlesMake : Result (Unit {0}) Error → MakeAnswer → Type 0
 SettlesMake (Ok u) makes.Made = Unit {0}
@@ -52,8 +48,8 @@ SettlesMake made answer = ⊥
 
 -- what is answered where the system couldn't open a file for an error of this kind
 abbrev pub RefusesWrite : ErrorKind → FileAnswer → Type 0
-RefusesWrite kind ends.NoDir = IsMissing kind
-RefusesWrite kind ends.Failed = IsMissing kind → ⊥
+RefusesWrite kind ends.NoDir = kind ≡ kinds.NotFound
+RefusesWrite kind ends.Failed = kind ≢ kinds.NotFound
 RefusesWrite kind answer = ⊥
 
 -- what is answered of bytes that were put into a file: its writer took all of them and sent them
@@ -72,8 +68,8 @@ Closes kept answer = ⊥
 -- what is answered where the system renamed a file, or had this error
 abbrev pub SettlesRename : Result (Unit {0}) Error → FileAnswer → Type 0
 SettlesRename (Ok u) ends.Done = Unit {0}
-SettlesRename (Err error) ends.NoFile = IsMissing (error_kind error)
-SettlesRename (Err error) ends.Failed = IsMissing (error_kind error) → ⊥
+SettlesRename (Err error) ends.NoFile = error_kind error ≡ kinds.NotFound
+SettlesRename (Err error) ends.Failed = error_kind error ≢ kinds.NotFound
 SettlesRename renamed answer = ⊥
 
 -- what is answered where the system removed a directory, or had this error

@@ -16,10 +16,10 @@ use std::marker::Model;
 /// The files of the system, by their paths. It shows none of them to contracts.
 ///
 /// A directory is made with the parents that it lacks. What is there already, a file or a link too,
-/// is a clash where a directory is to be made, and so is a path whose directory isn't there, or is
-/// no directory, where a file is to be written or renamed. Any other error is a fault; want of
-/// memory of the system is one, since a part of the call may be done. Counts stand still at their
-/// type's last value.
+/// is a clash where a directory is to be made, and what isn't there is one where a file is to be
+/// written or renamed. Any other error is a fault: a path through a file, a directory that can't be
+/// written in, a device without room, a name that is too long. So is want of memory, since part of
+/// the call may be done by then. Counts stand still at their type's last value.
 #[derive(Drop)]
 pub struct HostFiles<R: fs::Files + AllocGlobal + Drop> {
     rt: R,
@@ -140,7 +140,7 @@ impl<R: fs::Files + AllocGlobal + Drop> HostFiles<R> {
         ensures told { RefusesWrite kind result }
     {
         match kind {
-            io::ErrorKind::NotFound | io::ErrorKind::NotADirectory => {
+            io::ErrorKind::NotFound => {
                 self.clashes = self.clashes.saturating_add(1);
                 FileAnswer::NoDir
             }
@@ -191,7 +191,7 @@ impl<R: fs::Files + AllocGlobal + Drop> HostFiles<R> {
         match renamed {
             Ok(()) => FileAnswer::Done,
             Err(error) => match error.kind() {
-                io::ErrorKind::NotFound | io::ErrorKind::NotADirectory => {
+                io::ErrorKind::NotFound => {
                     self.clashes = self.clashes.saturating_add(1);
                     FileAnswer::NoFile
                 }
