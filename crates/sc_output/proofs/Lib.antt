@@ -1,0 +1,5 @@
+mod ApartLemmas
+mod CallLemmas
+mod LoopLemmas
+mod NameLemmas
+mod ReadyLemmas

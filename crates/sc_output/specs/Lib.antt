@@ -1,0 +1,5 @@
+pub mod Calls
+pub mod Commits
+pub mod Ends
+pub mod NameLaws
+pub mod Names
