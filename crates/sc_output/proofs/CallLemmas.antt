@@ -11,7 +11,7 @@ use Rattle.sc_output.specs.Calls.{AreOpen, Call, HasPath, IsNotDone, IsPartOfThe
 
 -- ---- calls behind others
 
-after_calls-append : (xs ys : List Call) (t : Tree)
+pub after_calls-append : (xs ys : List Call) (t : Tree)
     → after_calls t (xs ++ ys) ≡ after_calls (after_calls t xs) ys
 after_calls-append [] ys t = refl
 after_calls-append (x ∷ xs) ys t = after_calls-append xs ys (after_call t x)

@@ -3,3 +3,5 @@ mod CallLemmas
 mod LoopLemmas
 mod NameLemmas
 mod ReadyLemmas
+mod SavedLemmas
+mod WithinLemmas

@@ -143,7 +143,7 @@ staged-committed dir a b e =
     bytes-differ _ _ 99 115 refl refl (omega arith)
     (sym (ap (λ l. get_or l 12 0) (append_cancel_left dir _ _ e)))
 
-final-success : (dir : Path) (p : ℕ) → final_path dir p ≢ success_path dir
+pub final-success : (dir : Path) (p : ℕ) → final_path dir p ≢ success_path dir
 final-success dir p e =
     bytes-differ _ _ 95 112 refl refl (omega arith)
     (sym (ap (λ l. get_or l 1 0) (append_cancel_left dir _ _ e)))

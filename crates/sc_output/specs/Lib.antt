@@ -3,3 +3,4 @@ pub mod Commits
 pub mod Ends
 pub mod NameLaws
 pub mod Names
+pub mod Saved

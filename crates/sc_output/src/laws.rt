@@ -2,10 +2,21 @@
 #![tactic(auto)]
 
 ghost use Rattle.sc_output.specs.NameLaws.{NamesDiffer, NamesLieWithin, NoneUnderBoth};
+ghost use Rattle.sc_output.specs.Saved.{AbortedIsEmpty, CommitsStayWithin, CommittedIsSaved, SavesKeepApart, StopsLeave};
 
 /// The laws of names: which differ, and which directories they lie in. A call does nothing.
 pub fn laws_of_names()
     ensures differ { NamesDiffer }
     ensures within { NamesLieWithin }
     ensures apart { NoneUnderBoth }
+{}
+
+/// The laws of commits: what stands behind one that was through, behind one that stopped, and
+/// behind an abort. A call does nothing.
+pub fn laws_of_commits()
+    ensures saved { CommittedIsSaved }
+    ensures aborted { AbortedIsEmpty }
+    ensures within { CommitsStayWithin }
+    ensures stopped { StopsLeave }
+    ensures apart { SavesKeepApart }
 {}
