@@ -96,7 +96,8 @@ files_in-put path bytes old others are =
     ∙ cond-cond (tie q path) bytes (maps.get (files_in old) q)
     ∙ sym (maps.get-insert nat_list_cmp_total (files_in old) path bytes q))
   where
-    gone : (q : Path) → maps.get (files_in others) q ≡ cond (tie q path) None (maps.get (files_in old) q)
+    gone : (q : Path)
+        → maps.get (files_in others) q ≡ cond (tie q path) None (maps.get (files_in old) q)
     gone q =
         ap (λ (files : FileMap). maps.get files q) are
         ∙ maps.get-remove nat_list_cmp_total (files_in old) path q

@@ -89,18 +89,21 @@ not_done-then R s u v quiet change (inr rose) =
       subst (λ n. Rose n v.clashes) quiet.clashes rose.1,
     )
 
-pub calls-then : (xs ys : List Call) (s u v : FilesState) (result : Result (Unit {0}) (OrMemory Path))
+pub calls-then : (xs ys : List Call) (s u v : FilesState)
+    (result : Result (Unit {0}) (OrMemory Path))
     → MakesCalls xs s u (Ok tt) → MakesCalls ys u v result → MakesCalls (xs ++ ys) s v result
 calls-then xs ys s u v (Ok x) one two = (
   quiet-then s u v one.0 two.0,
   changes-compose _ _ (λ t k. k ≡ after_calls t (xs ++ ys)) s.shown u.shown v.shown
-      (λ t k l e f. f ∙ ap (λ m. after_calls m ys) e ∙ sym (after_calls-append xs ys t)) one.1 two.1,
+      (λ t k l e f. f ∙ ap (λ m. after_calls m ys) e ∙ sym (after_calls-append xs ys t))
+      one.1 two.1,
 )
 calls-then xs ys s u v (Err (Fault path)) one two = (
   path-back xs ys path two.0,
   not_done-then _ s u v one.0 one.1 two.1,
   changes-compose _ _ (IsStoppedAt (xs ++ ys) path) s.shown u.shown v.shown
-      (λ t k l e f. stopped-back xs ys path t l (subst (λ m. IsStoppedAt ys path m l) e f)) one.1 two.2,
+      (λ t k l e f. stopped-back xs ys path t l (subst (λ m. IsStoppedAt ys path m l) e f))
+      one.1 two.2,
 )
 calls-then xs ys s u v (Err OutOfMemory) one two = (
   quiet-then s u v one.0 two.0,

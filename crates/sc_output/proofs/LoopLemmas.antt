@@ -12,9 +12,9 @@ use Rattle.sc_output.specs.Commits.{final_rename}
 use Rattle.sc_output.proofs.CallLemmas.{calls-ended, calls-none, calls-then}
 
 -- the first k winners' files were renamed, and nothing keeps the others from being
-pub record HasRenamed (dir : Path) (ws : List AttemptId) (k : ℕ) (start now : FilesState) : Type 0 where
-  pub calls : MakesCalls (map (final_rename dir) (take k ws)) start now (Ok tt)
-  pub left : IfSome now.shown (AreOpen (map (final_rename dir) (drop k ws)))
+pub record HasRenamed (dir : Path) (ws : List AttemptId) (k : ℕ) (s u : FilesState) : Type 0 where
+  pub calls : MakesCalls (map (final_rename dir) (take k ws)) s u (Ok tt)
+  pub left : IfSome u.shown (AreOpen (map (final_rename dir) (drop k ws)))
 
 no_items : (w : AttemptId) (vs : List AttemptId) → [] ≡ w ∷ vs → ⊥
 no_items w vs e = no_length (length vs) (ap length e)

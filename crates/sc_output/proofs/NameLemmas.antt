@@ -159,7 +159,8 @@ names_differ = record {
 
 pub committed-under : (dir : Path) (a : AttemptId)
     → lies_under (staging_path dir) (committed_path dir a) ≡ true
-committed-under dir a = lies_under-append dir (codes "/_temporary") (codes "/_temporary/c-" ++ dashed a)
+committed-under dir a =
+    lies_under-append dir (codes "/_temporary") (codes "/_temporary/c-" ++ dashed a)
 
 pub final-beside : (dir : Path) (p : ℕ) → lies_under (staging_path dir) (final_path dir p) ≡ false
 final-beside dir p = lies_under-append dir (codes "/_temporary") (codes "/part-" ++ five_digits p)

@@ -20,7 +20,8 @@ use Rattle.sc_output.proofs.NameLemmas.{committed-injective, committed-under, de
 -- ---- the directories of names
 
 slash-no_digit : (c : ℕ) (b : Bool) → digit_value c < 10 → (c == 47) ≡ b → (c == 47) ≡ false
-slash-no_digit c true digit is = absurd (no (subst (λ k. digit_value k < 10) (eqb-true c 47 is) digit))
+slash-no_digit c true digit is =
+    absurd (no (subst (λ k. digit_value k < 10) (eqb-true c 47 is) digit))
   where
     no : digit_value 47 < 10 → ⊥
     no h = omega (arith, h)
@@ -50,7 +51,8 @@ dir_part-five_digits n within =
 dir_part-final : (dir : Path) (p : ℕ) → p < 2 ^ 64 → dir_part (final_path dir p) ≡ Some dir
 dir_part-final dir p within =
     dir_part-append dir (codes "/part-" ++ five_digits p) []
-    (ap (λ o. dir_step 47 (dir_step 112 (dir_step 97 (dir_step 114 (dir_step 116 (dir_step 45 o))))))
+    (ap (λ found. dir_step 47 (dir_step 112 (dir_step 97 (dir_step 114 (dir_step 116
+    (dir_step 45 found))))))
     (dir_part-five_digits p within))
     ∙ ap Some (append-nil dir)
 
@@ -64,7 +66,8 @@ has_place-dir t dir path is there = ap (dir_is_there t.dirs) is ∙ there
 -- ---- the staging area doesn't hold its directory
 
 pub is_in-staging : (dir : Path) → is_in (staging_path dir) dir ≡ false
-is_in-staging dir = by (bytes_eq (staging_path dir) dir) (lies_under (staging_path dir) dir) refl refl
+is_in-staging dir =
+    by (bytes_eq (staging_path dir) dir) (lies_under (staging_path dir) dir) refl refl
   where
     by : (a b : Bool) → bytes_eq (staging_path dir) dir ≡ a → lies_under (staging_path dir) dir ≡ b
         → (bytes_eq (staging_path dir) dir || lies_under (staging_path dir) dir) ≡ false

@@ -173,7 +173,8 @@ cleared-dirs dir ws opening t apart way =
         ∙ apart.dirs q under)
     at q false beside =
         and-true (sets.contains (sets.insert (sets.insert opening.dirs dir) (staging_path dir)) q)
-        ∙ sets.contains-insert nat_list_cmp_total (sets.insert opening.dirs dir) (staging_path dir) q
+        ∙ sets.contains-insert nat_list_cmp_total (sets.insert opening.dirs dir)
+        (staging_path dir) q
         ∙ ap (λ b. b || sets.contains (sets.insert opening.dirs dir) q)
         (ties-other q (staging_path dir)
         (λ e. true≢false (sym (ap (is_in (staging_path dir)) e ∙ is_in-itself (staging_path dir))

@@ -26,6 +26,8 @@ mod committing;
 #[cfg(test)]
 mod failures;
 #[cfg(test)]
+mod files;
+#[cfg(test)]
 mod given;
 #[cfg(test)]
 mod histories;
@@ -54,11 +56,15 @@ mod raises;
 #[cfg(test)]
 mod readers;
 #[cfg(test)]
+mod saves;
+#[cfg(test)]
 mod sequences;
 #[cfg(test)]
 mod streams;
 #[cfg(test)]
 mod transcripts;
+#[cfg(test)]
+mod veiled;
 #[cfg(test)]
 mod words;
 #[cfg(test)]
