@@ -2,7 +2,17 @@
 #![tactic(auto)]
 
 ghost use Rattle.sc_output.specs.NameLaws.{NamesDiffer, NamesLieWithin, NoneUnderBoth};
+ghost use Rattle.sc_output.specs.Names.{IsWithinTypes};
 ghost use Rattle.sc_output.specs.Saved.{AbortedIsEmpty, CommitsStayWithin, CommittedIsSaved, SavesKeepApart, StopsLeave};
+
+use sc_ids::AttemptId;
+
+/// What a commit needs to know of the numbers of each winner. A call does nothing.
+pub fn is_within_types(attempt: AttemptId)
+    ensures { IsWithinTypes attempt }
+{
+    let _ = attempt;
+}
 
 /// The laws of names: which differ, and which directories they lie in. A call does nothing.
 pub fn laws_of_names()

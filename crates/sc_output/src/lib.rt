@@ -19,6 +19,6 @@ mod names;
 mod parts;
 
 pub use commits::{abort_job, commit_job};
-pub use laws::{laws_of_commits, laws_of_names};
+pub use laws::{is_within_types, laws_of_commits, laws_of_names};
 pub use names::{committed_name, final_name, staged_name, staging_name, success_name};
 pub use parts::part_text;

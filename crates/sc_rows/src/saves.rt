@@ -10,8 +10,8 @@ use sc_columns::Rows;
 use sc_files::{FileAnswer, Files, MakeAnswer, MemFiles};
 use sc_ids::AttemptId;
 use sc_output::{
-    abort_job, commit_job, committed_name, final_name, laws_of_commits, laws_of_names, part_text,
-    staged_name, staging_name, success_name,
+    abort_job, commit_job, committed_name, final_name, is_within_types, laws_of_commits,
+    laws_of_names, part_text, staged_name, staging_name, success_name,
 };
 use sc_value::Name;
 use std::process::Abort;
@@ -234,6 +234,7 @@ fn names_are_those_of_the_format(rt: HostRuntime) {
         partition: 45,
         nth: 678,
     };
+    is_within_types(attempt);
     let staged = staged_name(rt.alloc(), &dir, attempt).expect(&rt, "memory");
     assert!(rt;
         staged.as_str() == "out/_temporary/s-1-23-45-678",
