@@ -26,6 +26,8 @@ mod committing;
 #[cfg(test)]
 mod failures;
 #[cfg(test)]
+mod files;
+#[cfg(test)]
 mod given;
 #[cfg(test)]
 mod histories;
@@ -54,6 +56,8 @@ mod raises;
 #[cfg(test)]
 mod readers;
 #[cfg(test)]
+mod saves;
+#[cfg(test)]
 mod sequences;
 #[cfg(test)]
 mod slow_attempts;
@@ -61,6 +65,8 @@ mod slow_attempts;
 mod streams;
 #[cfg(test)]
 mod transcripts;
+#[cfg(test)]
+mod veiled;
 #[cfg(test)]
 mod words;
 #[cfg(test)]

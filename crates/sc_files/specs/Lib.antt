@@ -1,0 +1,4 @@
+pub mod Calls
+pub mod Host
+pub mod Listed
+pub mod Memory

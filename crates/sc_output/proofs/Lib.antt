@@ -1,0 +1,7 @@
+mod ApartLemmas
+mod CallLemmas
+mod LoopLemmas
+mod NameLemmas
+mod ReadyLemmas
+mod SavedLemmas
+mod WithinLemmas

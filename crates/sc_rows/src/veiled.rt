@@ -1,0 +1,89 @@
+//! Files in memory that show contracts nothing, and of which one call wants memory.
+#![tactic(auto)]
+
+ghost use Rattle.std.specs.Prelude.{◌≡◌};
+
+use sc_files::{FileAnswer, Files, MakeAnswer, MemFiles};
+use sc_ids::Counts;
+use sc_value::Name;
+use std::marker::Model;
+
+/// Files in memory behind a veil, so that a test need not show what is there. The call of one
+/// number wants memory; the first call has the number 1.
+#[derive(Drop)]
+pub struct Veiled {
+    files: MemFiles,
+    calls: u64,
+    wanting: u64,
+}
+
+impl Model for Veiled {
+    ghost use Rattle.sc_ids.specs.declared.failures.Counts.{Counts};
+
+    ghost Value = { Counts };
+
+    ghost view = { λ v. record { faults = v.files.faults; clashes = v.files.clashes } };
+}
+
+impl Files for Veiled {
+    ghost use Rattle.std.specs.Prelude.{None};
+    ghost use Rattle.sc_base.specs.Outside.{files_state};
+
+    ghost state = { λ v. files_state None v.faults v.clashes };
+
+    fn counts(&self) -> Counts {
+        self.files.counts()
+    }
+
+    fn make(&mut self, dir: &Name) -> MakeAnswer {
+        if self.wants_memory() {
+            return MakeAnswer::OutOfMemory;
+        }
+        self.files.make(dir)
+    }
+
+    fn write(&mut self, path: &Name, bytes: &[u8]) -> FileAnswer {
+        if self.wants_memory() {
+            return FileAnswer::OutOfMemory;
+        }
+        self.files.write(path, bytes)
+    }
+
+    fn rename(&mut self, from: &Name, to: &Name) -> FileAnswer {
+        if self.wants_memory() {
+            return FileAnswer::OutOfMemory;
+        }
+        self.files.rename(from, to)
+    }
+
+    fn remove_tree(&mut self, dir: &Name) -> FileAnswer {
+        if self.wants_memory() {
+            return FileAnswer::OutOfMemory;
+        }
+        self.files.remove_tree(dir)
+    }
+}
+
+impl Veiled {
+    /// Files of which the call of this number wants memory.
+    pub fn new(files: MemFiles, wanting: u64) -> Veiled {
+        Veiled {
+            files,
+            calls: 0,
+            wanting,
+        }
+    }
+
+    /// The files behind the veil.
+    pub fn files(&self) -> &MemFiles {
+        &self.files
+    }
+
+    /// Counts a call, and says whether it wants memory.
+    fn wants_memory(&mut self) -> bool
+        ensures { self.new ≡ self.old }
+    {
+        self.calls = self.calls.saturating_add(1);
+        self.calls == self.wanting
+    }
+}
