@@ -16,6 +16,7 @@ ghost use Rattle.sc_stagecut.specs.Carrying.{HasBounds};
 
 use crate::transcripts::{at, numbers_of};
 use crate::works::{INPUT, halves, work_of};
+use sc_compute::TaskResult;
 use sc_desk::{Desk, Passed};
 use sc_jobs::Goal;
 use sc_lineage::{Action, NodeId, Work};
@@ -192,7 +193,7 @@ fn answers_of<W: Naming, R: Abort + AllocGlobal>(rt: &R, work: Work, lines: Stri
 fn results_of<W: Naming, R: Abort + AllocGlobal>(rt: &R, world: &World<W>) -> String {
     let mut out = Vec::new(rt.alloc());
     for result in world.desk().results() {
-        if let Some(rows) = result {
+        if let Some(TaskResult::Rows(rows)) = result {
             rows.print_lines(&mut out).expect(rt, "memory");
         }
     }
