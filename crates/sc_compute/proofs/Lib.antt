@@ -15,4 +15,5 @@ pub mod HandedLemmas
 pub mod LeftLemmas
 pub mod InputLemmas
 pub mod SettleLemmas
+pub mod ResultLemmas
 pub mod AskingLemmas

@@ -4,6 +4,7 @@ pub mod Inputs
 pub mod Reading
 pub mod Evaluations
 pub mod Gathering
+pub mod Results
 pub mod Tasks
 pub mod Caching
 pub mod Needs

@@ -10,10 +10,12 @@ ghost use Rattle.sc_expr.specs.Views.{expr_data_of};
 ghost use Rattle.sc_lineage.specs.Actions.{outcome_of_rows, reduced as reduced_outcome};
 ghost use Rattle.sc_lineage.specs.ScriptData.{ActionData};
 ghost use Rattle.sc_lineage.specs.Views.{action_data_of};
-ghost use Rattle.sc_compute.specs.Gathering.{IsGathered, rows_counted};
+ghost use Rattle.sc_compute.specs.Gathering.{IsGathered, Takes, rows_counted};
 ghost use Rattle.sc_compute.specs.Evaluations.{Settles};
+ghost use Rattle.sc_compute.specs.Results.{rows_told};
 
 use crate::evaluation::Evaluated;
+use crate::results::TaskResult;
 use sc_base::OrMemory;
 use sc_columns::{Rows, RowsBuilder};
 use sc_expr::Expr;
@@ -46,24 +48,26 @@ impl<'a> Gathered<'a> {
         }
     }
 
-    /// Adds the rows of a result, which is the first of so many that are left.
-    pub fn add(&mut self, alloc: Global, rows: &Rows, left: u32) -> Result<(), AllocError>
-        requires { rows_counted self.old < 2 ^ 128 - 2 ^ 64 }
+    /// Adds a result, which is the first of so many that are left.
+    pub fn add(&mut self, alloc: Global, given: &TaskResult, left: u32) -> Result<(), AllocError>
+        requires count { rows_counted self.old < 2 ^ 128 - 2 ^ 64 }
+        requires takes { Takes self.old given.now }
         ensures gathered { (action : ActionData) (before : List Datum)
             → IsGathered action self.old before
-            → OnOk result (IsGathered action self.new (before ++ rows.now)) }
+            → OnOk result (IsGathered action self.new (before ++ rows_told given.now)) }
         ensures count { OnOk result (rows_counted self.new < rows_counted self.old + 2 ^ 64) }
     {
         match self {
             Gathered::Lines(bytes) => {
+                let rows = given.rows();
                 make_room(bytes, rows.printed_len_hint(), left);
                 rows.print_lines(bytes)
             }
             Gathered::Count(n) => {
-                *n += rows.len() as u128;
+                *n += given.count() as u128;
                 Ok(())
             }
-            Gathered::Rows(_, all) => all.append(alloc, rows),
+            Gathered::Rows(_, all) => all.append(alloc, given.rows()),
         }
     }
 

@@ -12,7 +12,8 @@
 //! once, and lets a stream go as soon as nothing is left to read it. Streams that several
 //! dependencies read are kept in between.
 //!
-//! [`settle`] puts the results of an action together, as the driver does.
+//! A [`TaskResult`] is what the task of a partition hands over of its result: the rows, or for a
+//! `count` their number alone. [`settle`] puts those of an action together, as the driver does.
 //!
 //! It chooses an order and nothing else: what a node makes of its inputs is done by `sc_ops` and
 //! `sc_combine`. Another kind of task is a further variant of [`TaskTarget`].
@@ -32,6 +33,7 @@ mod nodes;
 mod parents;
 mod partitions;
 mod readers;
+mod results;
 mod settling;
 mod shuffles;
 mod stages;
@@ -40,6 +42,7 @@ mod targets;
 pub use asking::Asking;
 pub use caching::CachedPart;
 pub use evaluation::Evaluated;
+pub use results::TaskResult;
 pub use settling::{bounds_of_results, settle};
 pub use stages::ShuffleInputs;
 pub use targets::{TaskOutput, TaskTarget, compute, compute_cached, node_of};

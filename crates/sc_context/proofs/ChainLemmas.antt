@@ -4,7 +4,7 @@ use Rattle.std.specs.Option.{option_map}
 use Rattle.std.proofs.lemmas.List.{append-nil, length-append}
 use Rattle.sc_base.specs.declared.refusals.OrMemory.{OrMemory}
 use Rattle.sc_base.specs.declared.refusals.OrMemory.TheVariants.{Fault, OutOfMemory}
-use Rattle.sc_value.specs.Datum.{Datum}
+use Rattle.sc_compute.specs.declared.results.TaskResult.{TaskResult}
 use Rattle.sc_lineage.specs.ScriptData.{WorkData, IsSoundScript}
 use Rattle.sc_core.specs.declared.answers.Abort.{Abort}
 use Rattle.sc_core.specs.CoreData.{CoreData}
@@ -106,10 +106,10 @@ stops_short work c why histories come none all =
 -- or behind one that is done
 pub stops_ended : (work : WorkData) (c : ContextData) (goal : Goal) (why : OrMemory Abort)
     (passed : PassedData) (stores : List StoreData) (histories left : List JobHistory)
-    (rows : List (List Datum)) → HasCome work (first_progress work) c.histories c.progress
-    → IsEnded work c goal passed stores histories rows → why ≡ OutOfMemory → left ≡ histories
+    (given : List TaskResult) → HasCome work (first_progress work) c.histories c.progress
+    → IsEnded work c goal passed stores histories given → why ≡ OutOfMemory → left ≡ histories
     → Stops work c why left
-stops_ended work c goal why passed stores histories left rows come ended none all =
+stops_ended work c goal why passed stores histories left given come ended none all =
     subst (λ w. Stops work c w left) (sym none) (
       (ended.history ∷ [], all ∙ ended.all),
       ended_short work c.progress c.histories left ended.history goal come ended.is

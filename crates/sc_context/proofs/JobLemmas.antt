@@ -3,7 +3,7 @@ use Rattle.std.proofs.Common.{◌≡◌, ◌∙◌, ℕ, zero, suc, ◌<◌, ◌
 use Rattle.sc_base.specs.Lists.{at_or}
 use Rattle.sc_base.specs.declared.refusals.OrMemory.{OrMemory}
 use Rattle.sc_base.specs.declared.refusals.OrMemory.TheVariants.{Fault, OutOfMemory}
-use Rattle.sc_value.specs.Datum.{Datum}
+use Rattle.sc_compute.specs.declared.results.TaskResult.{TaskResult}
 use Rattle.sc_lineage.specs.ScriptData.{WorkData, IsSoundWork}
 use Rattle.sc_stagecut.specs.Carrying.{IsCarriedFor, after_job}
 use Rattle.sc_stagecut.specs.Cuts.{IsCut}
@@ -25,7 +25,7 @@ use Rattle.sc_world.specs.Serial.{IsResting}
 use Rattle.sc_world.specs.WorldData.{WorldData}
 use Rattle.sc_context.specs.Contexts.{ContextData, IsContext, IsEnded, IsReady, Stops, context_data}
 use Rattle.sc_context.specs.Histories.{HasCome, IsHistory, last_end}
-use Rattle.sc_context.specs.Jobs.{AreRowsFor, AreRowsOf, HasBegunFor, HasNoRows}
+use Rattle.sc_context.specs.Jobs.{AreResultsFor, HasBegunFor, HasNoResults, HasResults}
 use Rattle.sc_context.specs.Progress.{IsNext, Progress, actions_behind, behind_job, carried_behind, first_progress, progress}
 use Rattle.sc_context.proofs.AbortLemmas.{AreCauses, is_aborted}
 use Rattle.sc_context.proofs.ChainLemmas.{ended_come, ended_short, last_more}
@@ -79,20 +79,20 @@ module _ (work : WorkData) (p : Progress) (goal : Goal) (passed : PassedData)
             ∙ ap (λ c. after_job c begun.desk.job.graph) same;
       }
 
--- the rows of a job that is done are those for its goal
-pub rows_for : (work : WorkData) (own goal : Goal) (end : CoreData) (rows : List (List Datum))
-    → own ≡ goal → AreRowsOf work own end rows → AreRowsFor work goal rows
-rows_for work own goal end rows same are =
-    subst (λ g. AreRowsFor work g rows) same are.results
+-- the results of a job that is done are those for its goal
+pub results_for : (work : WorkData) (own goal : Goal) (end : CoreData) (given : List TaskResult)
+    → own ≡ goal → HasResults work own end given → AreResultsFor work goal given
+results_for work own goal end given same has =
+    subst (λ g. AreResultsFor work g given) same has.all
 
 -- a job that is done
 pub ended_is : (work : WorkData) (c : ContextData) (goal : Goal) (h : JobHistory)
     (passed : PassedData) (stores : List StoreData) (histories : List JobHistory)
-    (rows : List (List Datum)) → HasWent work c.progress goal h passed
+    (given : List TaskResult) → HasWent work c.progress goal h passed
     → histories ≡ c.histories ++ h ∷ [] → h.end.job ≡ Done
-    → IsReady work passed stores (Some h.end) → AreRowsFor work goal rows
-    → IsEnded work c goal passed stores histories rows
-ended_is work c goal h passed stores histories rows went all done ready rows_are =
+    → IsReady work passed stores (Some h.end) → AreResultsFor work goal given
+    → IsEnded work c goal passed stores histories given
+ended_is work c goal h passed stores histories rows went all done ready given_are =
     record {
       history = h;
       all = all;
@@ -100,17 +100,17 @@ ended_is work c goal h passed stores histories rows went all done ready rows_are
       done = done;
       carried = went.carried;
       ready = ready;
-      results = rows_are;
+      results = given_are;
     }
 
--- one that has no rows
+-- one that has no results
 pub stops_job : AreCauses → (work : WorkData) → IsSoundWork work → (c : ContextData) (goal : Goal)
     (h : JobHistory) (histories : List JobHistory) → IsHistory work c.progress goal h
     → IsSoundCore h.end → FitsRun work h.end
     → HasCome work (first_progress work) c.histories c.progress
     → histories ≡ c.histories ++ h ∷ [] → c.progress.actions < length work.script.actions
     → IsCarriedFor work.script.nodes c.progress.carried → IsGoal work goal
-    → FitsLast work c.progress.last → (why : OrMemory Abort) → HasNoRows h.end why
+    → FitsLast work c.progress.last → (why : OrMemory Abort) → HasNoResults h.end why
     → Stops work c why histories
 stops_job causes work sound c goal h histories is core fits come all within carried known last
     (Fault abort) e = (
@@ -126,15 +126,15 @@ stops_job causes work sound c goal h histories is core fits come all within carr
 
 -- behind a job that is done stands a context
 pub context_behind : (work : WorkData) (c : ContextData) (goal : Goal) (passed after : PassedData)
-    (stores : List StoreData) (histories : List JobHistory) (rows : List (List Datum))
+    (stores : List StoreData) (histories : List JobHistory) (given : List TaskResult)
     (actions : ℕ) → HasCome work (first_progress work) c.histories c.progress
-    → (ended : IsEnded work c goal passed stores histories rows)
+    → (ended : IsEnded work c goal passed stores histories given)
     → after.carried ≡ carried_behind work goal ended.is.graph c.progress.carried
     → actions ≡ actions_behind goal c.progress.actions → actions ≤ length work.script.actions
     → IsPassedFor work after → length after.carried.bounds ≡ length work.script.nodes
     → IsContext work after stores (context_data actions after.carried histories)
-context_behind work c goal passed after stores histories rows actions come ended carried many within
-    serves places =
+context_behind work c goal passed after stores histories given actions come ended carried many
+    within serves places =
     record {
       come = subst (λ hs. HasCome work (first_progress work) hs
           (progress actions after.carried (last_end histories))) (sym ended.all)

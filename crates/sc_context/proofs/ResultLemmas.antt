@@ -1,4 +1,4 @@
--- The rows of the results of a job that is done.
+-- The results of a job that is done.
 use Rattle.std.proofs.Common.{◌≡◌, ◌≢◌, ◌∙◌, ℕ, ◌+◌, ◌-◌, ◌<◌, List, [], ◌∷◌, ◌++◌, Option, Some, None, length, map, take, get_or, slice_get, Result, Ok, Err, IfOk, is_some, unwrap_or, true≢false, refl, ap, sym, subst, arith}
 use Rattle.std.specs.List.{All}
 use Rattle.std.specs.Option.{option_map}
@@ -6,11 +6,12 @@ use Rattle.std.proofs.lemmas.Option.{slice_get-map, slice_get_read}
 use Rattle.std.proofs.lemmas.List.{ext_get_or, get_or-map, length-map, map-append, take_more}
 use Rattle.std.proofs.lemmas.List.Elements.{All-from_get_or, All-get_or, All-head, All-tail}
 use Rattle.sc_base.specs.Lists.{at_or}
-use Rattle.sc_value.specs.Datum.{Datum}
 use Rattle.sc_ids.specs.Graphs.{StageData}
+use Rattle.sc_value.specs.Datum.{Datum}
 use Rattle.sc_lineage.specs.Actions.{action_outcome, local_results, outcome_of_results, outcome_of_rows, result_of}
 use Rattle.sc_lineage.specs.ScriptData.{ActionData, WorkData, IsSoundScript, collect_action, node_of_action}
 use Rattle.sc_lineage.specs.Streams.{whole_stream}
+use Rattle.sc_lineage.specs.Targets.{result_target}
 use Rattle.sc_lineage.specs.declared.streams.Stream.{Stream}
 use Rattle.sc_lineage.proofs.PlaceLemmas.{at_or-found, at_or-get_or}
 use Rattle.sc_lineage.specs.Meaning.{local_streams}
@@ -19,6 +20,10 @@ use Rattle.sc_compute.specs.Stages.{local_count, mapped_in, node_at}
 use Rattle.sc_jobs.specs.declared.goals.Goal.{Goal}
 use Rattle.sc_jobs.specs.declared.goals.Goal.TheVariants as goals
 use Rattle.sc_compute.specs.Evaluations.{Gives, Settles}
+use Rattle.sc_compute.specs.Results.{HandsOver, result_by, rows_told}
+use Rattle.sc_compute.specs.declared.results.TaskResult.{TaskResult}
+use Rattle.sc_compute.specs.declared.results.TaskResult.TheVariants as given
+use Rattle.sc_compute.proofs.ResultLemmas.{collected_rows}
 use Rattle.sc_compute.specs.declared.evaluation.Evaluated.{Evaluated}
 use Rattle.sc_compute.specs.declared.evaluation.Evaluated.TheVariants as evaluated
 use Rattle.sc_lineage.specs.Views.{action_data_of}
@@ -31,11 +36,11 @@ use Rattle.sc_jobs.specs.Plans.{IsJobFor}
 use Rattle.sc_desk.specs.DeskData.{DeskData, core_of}
 use Rattle.sc_desk.specs.Sound.{AreAllResults, IsSoundDesk, result_at}
 use Rattle.sc_context.specs.Contexts.{Evaluates}
-use Rattle.sc_context.specs.Jobs.{AreRowsFor}
+use Rattle.sc_context.specs.Jobs.{AreResultsFor}
 use Rattle.sc_context.specs.Results.{AreThere}
 
 -- where all results are there none is wanting
-pub all_are_there : (work : WorkData) (job : JobData) (results : List (Option (List Datum)))
+pub all_are_there : (work : WorkData) (job : JobData) (results : List (Option TaskResult))
     → AreAllResults work job results → AreThere results
 all_are_there work job results all =
     All-from_get_or (λ found. found ≢ None) results None there
@@ -76,51 +81,93 @@ places_are law work d sound job =
 pub some_inside : {A : Type 0} (x y : A) → Some x ≡ Some y → x ≡ y
 some_inside x y e = ap (λ o. unwrap_or o x) e
 
--- The rows of all partitions of a job.
-module _ (work : WorkData) (job : JobData) (results : List (Option (List Datum)))
-    (rows : List (List Datum)) (all : AreAllResults work job results)
-    (many : length results ≡ local_count work (goal_node work job.goal))
-    (are : results ≡ map Some rows) where
-  long : length rows ≡ local_count work (goal_node work job.goal)
-  long = sym (ap length are ∙ length-map rows Some) ∙ many
+-- The results of all partitions of a job.
+module _ (work : WorkData) (job : JobData) (places : List (Option TaskResult))
+    (results : List TaskResult) (all : AreAllResults work job places)
+    (many : length places ≡ local_count work (goal_node work job.goal))
+    (are : places ≡ map Some results) where
+  abbrev own_action : ActionData
+  own_action = goal_action work job.goal
 
-  found : (p : ℕ) → p < length rows → result_at results p ≡ Some (get_or rows p [])
+  abbrev locals : List Stream
+  locals = local_results work own_action
+
+  abbrev own_rows : List (List Datum)
+  own_rows = map (λ (s : Stream). s.rows) locals
+
+  abbrev none : TaskResult
+  none = given.Count 0
+
+  long : length results ≡ local_count work (goal_node work job.goal)
+  long = sym (ap length are ∙ length-map results Some) ∙ many
+
+  count : length locals ≡ length results
+  count = length-results work own_action ∙ sym long
+
+  found : (p : ℕ) → p < length results → result_at places p ≡ Some (get_or results p none)
   found p lt =
-      at_or-get_or results p None
+      at_or-get_or places p None
       ∙ ap (λ rs. get_or rs p None) are
-      ∙ get_or-map Some rows p [] None lt
+      ∙ get_or-map Some results p none None lt
 
-  each : (p : ℕ) → p < length (local_results work (goal_action work job.goal))
-      → get_or (local_results work (goal_action work job.goal)) p (whole_stream [])
-      ≡ get_or (map whole_stream rows) p (whole_stream [])
+  -- each is handed over for its partition
+  handed : (p : ℕ) → p < length results
+      → HandsOver work (result_target own_action p) (get_or results p none)
+  handed p lt =
+      let has = all p (omega (arith, lt, long, many)) in
+      subst (HandsOver work (result_target own_action p))
+      (some_inside has.0 (get_or results p none) (sym has.1 ∙ found p lt)) has.2
+
+  local : (p : ℕ) (lt : p < length results)
+      → get_or locals p (whole_stream []) ≡ whole_stream (handed p lt).rows
+  local p lt =
+      result_of_partition work own_action p (whole_stream []) (omega (arith, lt, long))
+      ∙ (handed p lt).own
+
+  row : (p : ℕ) (lt : p < length results) → get_or own_rows p [] ≡ (handed p lt).rows
+  row p lt =
+      get_or-map (λ (s : Stream). s.rows) locals p (whole_stream []) [] (omega (arith, lt, count))
+      ∙ ap (λ (s : Stream). s.rows) (local p lt)
+
+  wide : length own_rows ≡ length results
+  wide = length-map locals (λ (s : Stream). s.rows) ∙ count
+
+  each : (p : ℕ) → p < length locals
+      → get_or locals p (whole_stream []) ≡ get_or (map whole_stream own_rows) p (whole_stream [])
   each p within =
-      let len = length-results work (goal_action work job.goal) in
-      let below : p < local_count work (goal_node work job.goal) = omega (arith, within, len) in
-      let lt : p < length rows = omega (arith, below, long) in
-      let has = all p (omega (arith, below, many)) in
-      let same = some_inside has.0 (get_or rows p []) (sym has.1 ∙ found p lt) in
-      result_of_partition work (goal_action work job.goal) p (whole_stream []) below
-      ∙ has.2
-      ∙ ap whole_stream same
-      ∙ sym (get_or-map whole_stream rows p [] (whole_stream []) lt)
+      let lt : p < length results = omega (arith, within, count) in
+      local p lt
+      ∙ ap whole_stream (sym (row p lt))
+      ∙ sym (get_or-map whole_stream own_rows p [] (whole_stream []) (omega (arith, lt, wide)))
+
+  tells : (p : ℕ) → p < length results
+      → get_or results p none ≡ get_or (map (result_by own_action) own_rows) p none
+  tells p lt =
+      (handed p lt).told
+      ∙ ap (result_by own_action) (sym (row p lt))
+      ∙ sym (get_or-map (result_by own_action) own_rows p [] none (omega (arith, lt, wide)))
 
   -- they are those that its action has by the local meaning
-  pub rows_are : AreRowsFor work job.goal rows
-  rows_are =
-      ext_get_or (whole_stream []) (local_results work (goal_action work job.goal))
-      (map whole_stream rows)
-      (length-results work (goal_action work job.goal) ∙ sym long
-      ∙ sym (length-map rows whole_stream)) each
+  pub results_are : AreResultsFor work job.goal results
+  results_are =
+      record {
+        rows = own_rows;
+        whole = ext_get_or (whole_stream []) locals (map whole_stream own_rows)
+            (count ∙ sym wide ∙ sym (length-map own_rows whole_stream)) each;
+        told = ext_get_or none results (map (result_by own_action) own_rows)
+            (sym wide ∙ sym (length-map own_rows (result_by own_action))) tells;
+      }
 
--- the rows of a job whose desk has all its results
-pub rows_of_job : JobsGiveResults → (work : WorkData) (d : DeskData) (goal : Goal) (job : JobData)
-    (results : List (Option (List Datum))) (rows : List (List Datum)) → IsSoundDesk work d
-    → IsJobFor work d.job → results ≡ d.results → job ≡ d.job → d.job.goal ≡ goal
-    → AreAllResults work job results → results ≡ map Some rows → AreRowsFor work goal rows
-rows_of_job law work d goal job results rows sound is_job is same goal_is all are =
-    subst (λ g. AreRowsFor work g rows) goal_is
-    (rows_are work d.job results rows
-    (subst (λ (j : JobData). AreAllResults work j results) same all)
+-- the results of a job whose desk has them all
+pub results_of_job : JobsGiveResults → (work : WorkData) (d : DeskData) (goal : Goal)
+    (job : JobData) (places : List (Option TaskResult)) (results : List TaskResult)
+    → IsSoundDesk work d → IsJobFor work d.job → places ≡ d.results → job ≡ d.job
+    → d.job.goal ≡ goal → AreAllResults work job places → places ≡ map Some results
+    → AreResultsFor work goal results
+results_of_job law work d goal job places results sound is_job is same goal_is all are =
+    subst (λ g. AreResultsFor work g results) goal_is
+    (results_are work d.job places results
+    (subst (λ (j : JobData). AreAllResults work j places) same all)
     (ap length is ∙ places_are law work d sound is_job) are)
 
 -- ---- what they give
@@ -198,13 +245,16 @@ collected : (k : ℕ) (streams : List Stream) → map (result_of (collect_action
 collected k [] = refl
 collected k (s ∷ streams) = ap (λ xs. s ∷ xs) (collected k streams)
 
--- rows for the bounds of a sort are those of its parent
-pub parent_rows : (work : WorkData) (sort parent n : ℕ) (rows : List (List Datum))
+-- results for the bounds of a sort tell the rows of its parent
+pub parent_rows : (work : WorkData) (sort parent n : ℕ) (results : List TaskResult)
     → node_at work sort ≡ shuffle_node sort_by_key parent n
-    → AreRowsFor work (goals.Bounds sort) rows
-    → local_streams work parent ≡ map whole_stream rows
-parent_rows work sort parent n rows node are =
-    subst (λ k. local_streams work k ≡ map whole_stream rows)
+    → AreResultsFor work (goals.Bounds sort) results
+    → local_streams work parent ≡ map whole_stream (map rows_told results)
+parent_rows work sort parent n results node are =
+    let k = mapped_in (node_at work sort) 0 in
+    subst (λ i. local_streams work i ≡ map whole_stream (map rows_told results))
     (ap (λ x. mapped_in x 0) node)
-    (sym (collected (mapped_in (node_at work sort) 0)
-    (local_streams work (mapped_in (node_at work sort) 0))) ∙ are)
+    (sym (collected k (local_streams work k))
+    ∙ are.whole
+    ∙ ap (map whole_stream)
+    (sym (ap (map rows_told) are.told ∙ collected_rows k are.rows)))

@@ -2,7 +2,7 @@
 use Rattle.std.specs.Prelude.{ℕ, ◌+◌, ◌≡◌, ◌≤◌, List, [], ◌∷◌, ◌++◌, Option, Some, length}
 use Rattle.sc_base.specs.declared.refusals.OrMemory.{OrMemory}
 use Rattle.sc_base.specs.declared.refusals.OrMemory.TheVariants.{Fault, OutOfMemory}
-use Rattle.sc_value.specs.Datum.{Datum}
+use Rattle.sc_compute.specs.declared.results.TaskResult.{TaskResult}
 use Rattle.sc_lineage.specs.Actions.{action_outcome, faults, prints}
 use Rattle.sc_lineage.specs.ScriptData.{ActionData, WorkData}
 use Rattle.sc_compute.specs.declared.evaluation.Evaluated.{Evaluated}
@@ -22,7 +22,7 @@ use Rattle.sc_desk.specs.DeskData.{PassedData}
 use Rattle.sc_world.specs.Runs.{AreReady}
 use Rattle.sc_context.specs.Aborts.{IsAborted}
 use Rattle.sc_context.specs.Histories.{HasCome, IsCutShort, IsHistory, last_end}
-use Rattle.sc_context.specs.Jobs.{AreRowsFor}
+use Rattle.sc_context.specs.Jobs.{AreResultsFor}
 use Rattle.sc_context.specs.Progress.{Progress, first_progress, progress}
 
 -- a context
@@ -62,9 +62,9 @@ pub record IsContext (work : WorkData) (passed : PassedData) (stores : List Stor
   pub places : length c.progress.carried.bounds ≡ length work.script.nodes
 
 -- the job that came next is done: its history stands behind the others, what goes on serves the
--- next job, and these are the rows of its results
+-- next job, and these are its results
 pub record IsEnded (work : WorkData) (c : ContextData) (goal : Goal) (passed : PassedData)
-    (stores : List StoreData) (histories : List JobHistory) (rows : List (List Datum))
+    (stores : List StoreData) (histories : List JobHistory) (given : List TaskResult)
     : Type 0 where
   pub history : JobHistory
   pub all : histories ≡ c.histories ++ history ∷ []
@@ -72,7 +72,7 @@ pub record IsEnded (work : WorkData) (c : ContextData) (goal : Goal) (passed : P
   pub done : history.end.job ≡ Done
   pub carried : passed.carried ≡ after_job c.progress.carried is.graph
   pub ready : IsReady work passed stores (Some history.end)
-  pub results : AreRowsFor work goal rows
+  pub results : AreResultsFor work goal given
 
 -- an action gives this, by the sequential meaning
 abbrev pub Evaluates : WorkData → ActionData → Evaluated → Type 0

@@ -1,11 +1,10 @@
 -- How one job of a run begins and ends.
-use Rattle.std.specs.Prelude.{◌≡◌, List, Option, map}
+use Rattle.std.specs.Prelude.{◌≡◌, List, Option}
 use Rattle.sc_base.specs.declared.refusals.OrMemory.{OrMemory}
 use Rattle.sc_base.specs.declared.refusals.OrMemory.TheVariants.{Fault, OutOfMemory}
-use Rattle.sc_value.specs.Datum.{Datum}
-use Rattle.sc_lineage.specs.Actions.{local_results}
 use Rattle.sc_lineage.specs.ScriptData.{WorkData}
-use Rattle.sc_lineage.specs.Streams.{whole_stream}
+use Rattle.sc_compute.specs.Results.{AreResultsOf}
+use Rattle.sc_compute.specs.declared.results.TaskResult.{TaskResult}
 use Rattle.sc_core.specs.CoreData.{CoreData}
 use Rattle.sc_core.specs.declared.answers.Abort.{Abort}
 use Rattle.sc_core.specs.declared.answers.JobState.TheVariants as jobs
@@ -25,17 +24,17 @@ pub record HasBegunFor (work : WorkData) (passed : PassedData) (stores : List St
   pub begins : Begins work passed last goal desk
   pub idle : w ≡ idle_world work desk stores
 
--- rows are those of the results of all partitions for a goal, of which none raises
-abbrev pub AreRowsFor : WorkData → Goal → List (List Datum) → Type 0
-AreRowsFor work goal rows = local_results work (goal_action work goal) ≡ map whole_stream rows
+-- results are those of all partitions for a goal, of which none raises
+abbrev pub AreResultsFor : WorkData → Goal → List TaskResult → Type 0
+AreResultsFor work goal results = AreResultsOf work (goal_action work goal) results
 
--- the job of a core is done, and these are the rows of its results
-pub record AreRowsOf (work : WorkData) (goal : Goal) (end : CoreData) (rows : List (List Datum))
+-- the job of a core is done, and these are its results
+pub record HasResults (work : WorkData) (goal : Goal) (end : CoreData) (results : List TaskResult)
     : Type 0 where
   pub done : end.job ≡ jobs.Done
-  pub results : AreRowsFor work goal rows
+  pub all : AreResultsFor work goal results
 
 -- it has none, since it was aborted or memory ran out
-abbrev pub HasNoRows : CoreData → OrMemory Abort → Type 0
-HasNoRows end (Fault abort) = end.job ≡ jobs.Aborted abort
-HasNoRows end OutOfMemory = IsUnaborted end
+abbrev pub HasNoResults : CoreData → OrMemory Abort → Type 0
+HasNoResults end (Fault abort) = end.job ≡ jobs.Aborted abort
+HasNoResults end OutOfMemory = IsUnaborted end

@@ -3,7 +3,7 @@
 
 ghost use Rattle.std.specs.Prelude.{◌≡◌, ◌<◌, IfErr, IfOk, length};
 ghost use Rattle.sc_context.specs.Contexts.{Evaluates, GivesNext, Stops};
-ghost use Rattle.sc_context.specs.Jobs.{AreRowsFor};
+ghost use Rattle.sc_context.specs.Jobs.{AreResultsFor};
 ghost use Rattle.sc_context.specs.Progress.{next_node};
 ghost use Rattle.sc_jobs.specs.JobData.{goal_action};
 ghost use Rattle.sc_jobs.specs.declared.goals.Goal.TheVariants as goals;
@@ -12,8 +12,7 @@ ghost use Rattle.sc_stagecut.specs.Carrying.{HasBounds};
 use crate::context::Context;
 use crate::jobs::Ended;
 use crate::stops::Stopped;
-use sc_columns::Rows;
-use sc_compute::{Evaluated, settle};
+use sc_compute::{Evaluated, TaskResult, settle};
 use sc_jobs::Goal;
 use sc_laws::outcome_law;
 use sc_work::{Naming, SharedWork};
@@ -63,10 +62,10 @@ impl<W: Naming> Context<W> {
             passed,
             stores,
             histories,
-            rows,
+            results,
             ..
         } = ended;
-        let Ok(value) = value_of(alloc, &work, number, rows) else {
+        let Ok(value) = value_of(alloc, &work, number, results) else {
             return Err(Stopped::without_memory(histories));
         };
         let context = Context {
@@ -80,20 +79,20 @@ impl<W: Naming> Context<W> {
     }
 }
 
-/// What an action gives, whose rows these are.
+/// What an action gives, whose results these are.
 fn value_of<W: Naming>(
     alloc: Global,
     work: &SharedWork<W>,
     number: u32,
-    rows: Vec<Rows>,
+    results: Vec<TaskResult>,
 ) -> Result<Evaluated, AllocError>
     requires within { number < length W.work.script.actions }
-    requires results { AreRowsFor W.work (goals.Action number) rows.items }
+    requires results { AreResultsFor W.work (goals.Action number) results.items }
     ensures { IfOk result (Evaluates W.work (goal_action W.work (goals.Action number))) }
 {
     work.is_named();
     let work = work.get();
     work.is_sound();
     outcome_law();
-    settle(alloc, &work.script().actions()[number as usize], rows)
+    settle(alloc, &work.script().actions()[number as usize], results)
 }

@@ -5,7 +5,7 @@ ghost use Rattle.std.specs.Prelude.{◌≡◌, ◌<◌, IfErr, IfOk, Some, lengt
 ghost use Rattle.sc_compute.specs.Stages.{bounds_at};
 ghost use Rattle.sc_context.specs.Bounding.{Finds, FindsAll, parts_of};
 ghost use Rattle.sc_context.specs.Contexts.{Stops};
-ghost use Rattle.sc_context.specs.Jobs.{AreRowsFor};
+ghost use Rattle.sc_context.specs.Jobs.{AreResultsFor};
 ghost use Rattle.sc_context.specs.Progress.{next_node};
 ghost use Rattle.sc_jobs.specs.JobData.{IsGoal};
 ghost use Rattle.sc_jobs.specs.declared.goals.Goal.TheVariants as goals;
@@ -90,15 +90,15 @@ impl<W: Naming> Context<W> {
 }
 
 impl<W: Naming> Ended<W> {
-    /// The bounds of a sort, whose parent's rows these are.
+    /// The bounds of a sort, whose parent's rows its results are.
     fn bounds(&self, alloc: Global, sort: NodeId) -> Result<Bounds, AllocError>
         requires sort { IsGoal W.work (goals.Bounds sort) }
-        requires results { AreRowsFor W.work (goals.Bounds sort) self.now.rows.items }
+        requires results { AreResultsFor W.work (goals.Bounds sort) self.now.results.items }
         ensures { IfOk result (λ b. b ≡ bounds_at W.work sort) }
     {
         self.work.is_named();
         let parts = most_partitions(&self.work.get().script().nodes()[sort as usize]);
-        bounds_of_results(alloc, parts, self.rows.as_slice())
+        bounds_of_results(alloc, parts, self.results.as_slice())
     }
 }
 

@@ -16,7 +16,7 @@ use crate::lasts::last_end;
 use crate::stops::Stopped;
 use crate::went::{Went, run_world};
 use sc_causes::{missing_inputs_were_lost, planned_losses_alone, raises_leave_no_value};
-use sc_columns::Rows;
+use sc_compute::TaskResult;
 use sc_core::{Core, JobHistory};
 use sc_desk::{Desk, Passed};
 use sc_jobs::Goal;
@@ -33,8 +33,8 @@ pub(crate) struct Ended<W: Naming> {
     pub(crate) stores: Vec<Store<W>>,
     pub(crate) histories: Vec<JobHistory>,
     pub(crate) actions: u32,
-    /// The rows of its results.
-    pub(crate) rows: Vec<Rows>,
+    /// Its results.
+    pub(crate) results: Vec<TaskResult>,
 }
 
 impl<W: Naming> Context<W> {
@@ -43,7 +43,7 @@ impl<W: Naming> Context<W> {
         requires next { IsNext W.work self.progress goal }
         requires within { self.progress.actions < length W.work.script.actions }
         ensures ended { IfOk result (λ e. IsEnded W.work self goal e.passed e.stores.items
-            e.histories.items e.rows.items) }
+            e.histories.items e.results.items) }
         ensures actions { IfOk result (λ e. e.actions ≡ self.progress.actions) }
         ensures stops { IfErr result (λ s. Stops W.work self s.why s.histories.items) }
     {
@@ -71,19 +71,19 @@ impl<W: Naming> Context<W> {
             history,
             passed,
             stores,
-            rows,
+            results,
         } = run_world(alloc, world);
         history.opening.is_sound();
         history.end.is_sound();
         histories.push_reserved(history);
-        match rows {
-            Ok(rows) => Ok(Ended {
+        match results {
+            Ok(results) => Ok(Ended {
                 work,
                 passed,
                 stores,
                 histories,
                 actions,
-                rows,
+                results,
             }),
             Err(why) => Err(Stopped { why, histories }),
         }

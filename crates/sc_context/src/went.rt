@@ -3,7 +3,7 @@
 
 ghost use Rattle.std.specs.Prelude.{◌≡◌, IfErr, IfOk, Some, map};
 ghost use Rattle.sc_context.specs.Contexts.{AreReadyBehind};
-ghost use Rattle.sc_context.specs.Jobs.{AreRowsOf, HasNoRows};
+ghost use Rattle.sc_context.specs.Jobs.{HasNoResults, HasResults};
 ghost use Rattle.sc_context.specs.Results.{AreThere};
 ghost use Rattle.sc_core.specs.Journals.{Replays};
 ghost use Rattle.sc_core.specs.declared.answers.JobState.TheVariants.{Done};
@@ -11,9 +11,9 @@ ghost use Rattle.sc_desk.specs.Begins.{FitsLast, IsPassedFor};
 ghost use Rattle.sc_desk.specs.Sound.{AreEvident};
 ghost use Rattle.sc_world.specs.Serial.{IsResting};
 
-use crate::results::all_rows;
+use crate::results::all_results;
 use sc_base::OrMemory;
-use sc_columns::Rows;
+use sc_compute::TaskResult;
 use sc_core::{Abort, Core, JobHistory, JobState};
 use sc_desk::{Closed, Passed};
 use sc_jobs::laws_of_jobs;
@@ -28,8 +28,8 @@ pub(crate) struct Went<W: Naming> {
     pub(crate) history: JobHistory,
     pub(crate) passed: Passed,
     pub(crate) stores: Vec<Store<W>>,
-    /// The rows of its results, or why there are none.
-    pub(crate) rows: Result<Vec<Rows>, OrMemory<Abort>>,
+    /// Its results, or why there are none.
+    pub(crate) results: Result<Vec<TaskResult>, OrMemory<Abort>>,
 }
 
 /// Runs a job to its end, or as far as memory allows.
@@ -45,9 +45,9 @@ pub(crate) fn run_world<W: Naming>(alloc: Global, world: World<W>) -> Went<W>
     ensures passed { IsPassedFor W.work result.passed }
     ensures fits { FitsLast W.work (Some result.history.end) }
     ensures ready { AreReadyBehind W.work result.stores.items (Some result.history.end) }
-    ensures rows { IfOk result.rows (λ rows. AreRowsOf W.work world.desk.job.goal
-        result.history.end rows.items) }
-    ensures none { IfErr result.rows (HasNoRows result.history.end) }
+    ensures results { IfOk result.results (λ results. HasResults W.work world.desk.job.goal
+        result.history.end results.items) }
+    ensures none { IfErr result.results (HasNoResults result.history.end) }
 {
     let mut world = world;
     // Where memory runs out the job runs on, which is what its end tells.
@@ -62,28 +62,28 @@ pub(crate) fn run_world<W: Naming>(alloc: Global, world: World<W>) -> Went<W>
         passed,
         ..
     } = closed;
-    let rows = rows_of(alloc, &history.end, results.as_slice());
+    let results = results_of(alloc, &history.end, results.as_slice());
     Went {
         history,
         passed,
         stores,
-        rows,
+        results,
     }
 }
 
-/// The rows of the results of a job, or why there are none: where it runs on, memory ran out.
-fn rows_of(
+/// The results of a job, or why there are none: where it runs on, memory ran out.
+fn results_of(
     alloc: Global,
     end: &Core,
-    results: &[Option<Rows>],
-) -> Result<Vec<Rows>, OrMemory<Abort>>
+    results: &[Option<TaskResult>],
+) -> Result<Vec<TaskResult>, OrMemory<Abort>>
     requires whole { end.now.job ≡ Done → AreThere results.now }
-    ensures rows { IfOk result (λ rows. results.now ≡ map Some rows.items) }
-    ensures done { IfOk result (λ rows. end.now.job ≡ Done) }
-    ensures none { IfErr result (HasNoRows end.now) }
+    ensures all { IfOk result (λ all. results.now ≡ map Some all.items) }
+    ensures done { IfOk result (λ all. end.now.job ≡ Done) }
+    ensures none { IfErr result (HasNoResults end.now) }
 {
     match end.job() {
-        JobState::Done => Ok(all_rows(alloc, results)?),
+        JobState::Done => Ok(all_results(alloc, results)?),
         JobState::Aborted(abort) => Err(OrMemory::Fault(abort)),
         JobState::Running => Err(OrMemory::OutOfMemory),
     }

@@ -4,7 +4,7 @@ use Rattle.std.specs.Option.{option_map}
 use Rattle.std.proofs.lemmas.List.Elements.{All-nil}
 use Rattle.std.proofs.lemmas.List.{length-replicate}
 use Rattle.sc_base.specs.Lists.{at_or}
-use Rattle.sc_value.specs.Datum.{Datum}
+use Rattle.sc_compute.specs.declared.results.TaskResult.{TaskResult}
 use Rattle.sc_ids.specs.Graphs.{StageData}
 use Rattle.sc_ids.specs.declared.limits.Limits.{Limits}
 use Rattle.sc_lineage.specs.ScriptData.{WorkData}
@@ -109,10 +109,10 @@ sized_trust t (stage ∷ graph) = sized_trust (sized_by t stage) graph ∙ by st
 
 -- ---- nothing is there
 
-abbrev no_rows : Option (List Datum)
-no_rows = None
+abbrev nothing : Option TaskResult
+nothing = None
 
-nothing_at : (n p : ℕ) → is_some (at_or (replicate n no_rows) p None) ≡ false
+nothing_at : (n p : ℕ) → is_some (at_or (replicate n nothing) p None) ≡ false
 nothing_at zero p = refl
 nothing_at (suc n) zero = refl
 nothing_at (suc n) (suc p) = nothing_at n p
@@ -123,11 +123,11 @@ false_at (suc n) zero = refl
 false_at (suc n) (suc p) = false_at n p
 
 none_of : (work : WorkData) (job : JobData) (n p : ℕ)
-    → IfSome (at_or (replicate n no_rows) p None) (IsResult work job p)
+    → IfSome (at_or (replicate n nothing) p None) (IsResult work job p)
 none_of work job n p = by n p
   where
     by : (n q : ℕ)
-        → IfSome (at_or (replicate n no_rows) q None) (IsResult work job p)
+        → IfSome (at_or (replicate n nothing) q None) (IsResult work job p)
     by zero q = tt
     by (suc n) zero = tt
     by (suc n) (suc q) = by n q

@@ -1,7 +1,7 @@
 -- The results of a job that is done.
 use Rattle.std.proofs.Common.{◌≡◌, true, List, length, Option, Some, None, IfSome, is_some, refl, ap, sym, ◌∙◌, arith, true≢false}
-use Rattle.sc_value.specs.Datum.{Datum}
 use Rattle.sc_lineage.specs.ScriptData.{WorkData}
+use Rattle.sc_compute.specs.declared.results.TaskResult.{TaskResult}
 use Rattle.sc_core.specs.Laws.{DoneJobsAreWhole}
 use Rattle.sc_core.specs.Sound.{IsSoundCore}
 use Rattle.sc_core.specs.declared.answers.JobState.TheVariants as jobs
@@ -20,11 +20,11 @@ all_there whole work d sound core done p lt =
     by (result_at d.results p) refl
     (sound.won p ∙ whole (core_of d) p core done (omega (arith, lt, sound.places))) (sound.own p)
   where
-    by : (o : Option (List Datum)) → result_at d.results p ≡ o → is_some o ≡ true
+    by : (o : Option TaskResult) → result_at d.results p ≡ o → is_some o ≡ true
         → IfSome o (IsResult work d.job p)
-        → (rows : List Datum) × (result_at d.results p ≡ Some rows) × IsResult work d.job p rows
+        → (given : TaskResult) × (result_at d.results p ≡ Some given) × IsResult work d.job p given
     by None e some is = absurd (true≢false (sym some))
-    by (Some rows) e some is = (rows, e, is)
+    by (Some given) e some is = (given, e, is)
 
 -- ---- orders
 

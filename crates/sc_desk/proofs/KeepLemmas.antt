@@ -3,7 +3,6 @@ use Rattle.std.proofs.Common.{◌≡◌, ◌⊎◌, inl, inr, ℕ, ◌-◌, ◌<
 use Rattle.std.proofs.lemmas.Bool.{cases_eq}
 use Rattle.std.proofs.lemmas.Bool.Decides.{nat_tests}
 use Rattle.sc_base.specs.Lists.{at_or}
-use Rattle.sc_value.specs.Datum.{Datum}
 use Rattle.sc_ids.specs.Changes.{change_at}
 use Rattle.sc_ids.specs.Graphs.{StageData}
 use Rattle.sc_ids.specs.declared.attempts.AttemptId.{AttemptId}
@@ -12,6 +11,7 @@ use Rattle.sc_ids.specs.declared.blocks.Target.{Target}
 use Rattle.sc_ids.specs.declared.blocks.Target.TheVariants as targets
 use Rattle.sc_ids.proofs.ChangeLemmas.{at_or_change_other, at_or_change_same, length_change_at}
 use Rattle.sc_lineage.specs.ScriptData.{WorkData}
+use Rattle.sc_compute.specs.declared.results.TaskResult.{TaskResult}
 use Rattle.sc_dag.specs.DagData.{DagData, no_stage, stage_at}
 use Rattle.sc_dag.specs.Openings.{AreNumbered}
 use Rattle.sc_dag.specs.Outputs.{is_done, is_done_by, results_in}
@@ -102,7 +102,7 @@ wipes_more work told more exec le = due_more (wipes_of work.plan exec) told more
 pub in_time_later : (work : WorkData) (told more : ℕ) (finding : Finding) → told ≤ more
     → IsInTime work told finding → IsInTime work more finding
 in_time_later work told more (findings.Map loc) le h = tt
-in_time_later work told more (findings.Result rows) le h = tt
+in_time_later work told more (findings.Result given) le h = tt
 in_time_later work told more findings.Planned le h = tt
 in_time_later work told more (findings.Raised r) le h = tt
 in_time_later work told more (findings.Gone exec wanted found) le h =
@@ -224,20 +224,20 @@ leaves_keep work d after by event answer e leaves shelf same =
         ∙ ap (λ rs. at_or rs p false) (sym (leaves.results (result_stage a)))
         ∙ sym (results_tell a b p leaves.job.stages e.core.job.result)
 
--- an entry that wins one, whose rows are kept
+-- an entry that wins one, which is kept
 pub wins_keep :
     (work : WorkData) (d after : DeskData) (by : Mark) (event : Event) (answer : Answer)
-    (at : AttemptId) (rows : List Datum)
+    (at : AttemptId) (given : TaskResult)
     → Entered work d by event answer after → at.stage ≡ result_stage (core_of d).dag
     → at.partition < (stage_at (core_of d).dag at.stage).tasks
     → Wins (core_of d).dag at (core_of after).dag → KeepsShelf work d after
-    → IsResult work d.job at.partition rows
-    → after.results ≡ change_at d.results at.partition (λ _. Some rows)
+    → IsResult work d.job at.partition given
+    → after.results ≡ change_at d.results at.partition (λ _. Some given)
     → IsSoundDesk work after
-wins_keep work d after by event answer at rows entered stage within wins shelf is same =
+wins_keep work d after by event answer at given entered stage within wins shelf is same =
     with_results work d after by event answer entered
     (keeps_rest work d after by event answer entered wins.job) shelf
-    (ap length same ∙ length_change_at d.results at.partition (λ _. Some rows))
+    (ap length same ∙ length_change_at d.results at.partition (λ _. Some given))
     (λ p. won p (cases_eq at.partition p)) (λ p. own p (cases_eq at.partition p))
   where
     a : DagData
@@ -284,13 +284,13 @@ wins_keep work d after by event answer at rows entered stage within wins shelf i
     won p (inl e) =
         subst (λ (q : ℕ). is_some (result_at after.results q) ≡ has_result (core_of after).dag q) e
         (ap (λ rs. is_some (result_at rs at.partition)) same
-        ∙ ap (λ o. is_some o) (at_or_change_same d.results at.partition None (λ _. Some rows) room)
+        ∙ ap (λ o. is_some o) (at_or_change_same d.results at.partition None (λ _. Some given) room)
         ∙ sym (at_or_change_same before at.partition false (λ _. true) there)
         ∙ sym (tells at.partition))
     won p (inr ne) =
         ap (λ rs. is_some (result_at rs p)) same
         ∙ ap (λ o. is_some o)
-        (at_or_change_other d.results at.partition p None (λ _. Some rows) (λ e. ne (sym e)))
+        (at_or_change_other d.results at.partition p None (λ _. Some given) (λ e. ne (sym e)))
         ∙ entered.sound.won p
         ∙ done_is (core_of d).dag (result_stage (core_of d).dag) p entered.core.job.result
         ∙ sym (at_or_change_other before at.partition p false (λ _. true) (λ e. ne (sym e)))
@@ -300,9 +300,9 @@ wins_keep work d after by event answer at rows entered stage within wins shelf i
         → IfSome (result_at after.results p) (IsResult work d.job p)
     own p (inl e) =
         subst (λ (q : ℕ). IfSome (result_at after.results q) (IsResult work d.job q)) e
-        (rw (same, at_or_change_same d.results at.partition None (λ _. Some rows) room) is)
+        (rw (same, at_or_change_same d.results at.partition None (λ _. Some given) room) is)
     own p (inr ne) =
         rw (
           same,
-          at_or_change_other d.results at.partition p None (λ _. Some rows) (λ e. ne (sym e)),
+          at_or_change_other d.results at.partition p None (λ _. Some given) (λ e. ne (sym e)),
         ) (entered.sound.own p)

@@ -1,13 +1,13 @@
 -- What holds of every desk holds behind each report that is posted.
 use Rattle.std.proofs.Common.{◌≡◌, ◌≢◌, ℕ, zero, suc, ◌||◌, slice_index_or, ◌+◌, ◌<◌, ◌≤◌, ◌&&◌, All, Contains, Bool, true, false, if◌then◌else◌, List, [], ◌∷◌, drop, map, Option, Some, None, IfSome, length, refl, arith, ap, ap₂, sym, subst, ◌∙◌, rules, true≢false}
 use Rattle.sc_base.specs.Lists.{at_or}
-use Rattle.sc_value.specs.Datum.{Datum}
 use Rattle.sc_ids.specs.Changes.{change_at}
 use Rattle.sc_ids.specs.declared.attempts.AttemptId.{AttemptId}
 use Rattle.sc_ids.specs.declared.attempts.Mark.{Mark}
 use Rattle.sc_lineage.specs.ScriptData.{WorkData}
-use Rattle.sc_lineage.specs.Streams.{whole_stream}
-use Rattle.sc_lineage.specs.Targets.{TargetData, own_value}
+use Rattle.sc_lineage.specs.Targets.{TargetData}
+use Rattle.sc_compute.specs.Results.{HandsOver}
+use Rattle.sc_compute.specs.declared.results.TaskResult.{TaskResult}
 use Rattle.sc_tracker.specs.declared.outputs.Location.TheVariants as locations
 use Rattle.sc_dag.specs.DagData.{no_stage, stage_at}
 use Rattle.sc_dag.specs.Openings.{AreNumbered}
@@ -30,7 +30,7 @@ use Rattle.sc_core.specs.declared.running.Running.{Running}
 use Rattle.sc_core.specs.declared.running.Shelved.{Shelved}
 use Rattle.sc_ids.specs.declared.failures.FailureCause.TheVariants as causes
 use Rattle.sc_jobs.specs.JobData.{target_of}
-use Rattle.sc_net.specs.Reports.{IsTrueReport, ReportData, WasGiven, loc_at, outcome_of, rows_of}
+use Rattle.sc_net.specs.Reports.{IsTrueReport, ReportData, WasGiven, loc_at, outcome_of, result_in}
 use Rattle.sc_net.specs.Tasks.{IsTaskOf, TaskData, task_data}
 use Rattle.sc_net.specs.declared.shelved.ShelvedReport.{ShelvedReport}
 use Rattle.sc_net.specs.declared.findings.Finding.{Finding}
@@ -161,7 +161,7 @@ early_known work d report due true_of given early r runs one =
         gone_fits (core_of d) r report.task exec wanted found
         (ap (λ (t : TaskData). t.hand_out) task) was lt
     of (findings.Map loc) is e = absurd e
-    of (findings.Result rows) is e = absurd e
+    of (findings.Result given) is e = absurd e
     of findings.Planned is e = absurd e
     of (findings.Raised x) is e = absurd e
     of (findings.Metadata last) is e = absurd e
@@ -196,7 +196,7 @@ pub ended_for :
     → IsInTime work told finding
     → EndedFor work t.job told t.hand_out.attempt (outcome_of finding)
 ended_for work told t (findings.Map loc) task is time = tt
-ended_for work told t (findings.Result rows) task is time = tt
+ended_for work told t (findings.Result given) task is time = tt
 ended_for work told t findings.Planned task is time = is
 ended_for work told t (findings.Raised r) task is time =
     record { task = task.task; own = is.own; inputs = is.inputs }
@@ -208,28 +208,28 @@ pub shows_within :
     (work : WorkData) (c : CoreData) (finding : Finding) → IsInTime work c.told finding
     → ShowsWithin (bound_of work c) (outcome_of finding)
 shows_within work c (findings.Map loc) time = tt
-shows_within work c (findings.Result rows) time = tt
+shows_within work c (findings.Result given) time = tt
 shows_within work c findings.Planned time = tt
 shows_within work c (findings.Raised r) time = tt
 shows_within work c (findings.Gone exec wanted found) time = time
 shows_within work c (findings.Metadata last) time = tt
 
--- a finding that is told as a result has its rows
-record HasRows (work : WorkData) (t : TaskData) (finding : Finding) : Type 0 where
-  rows : List Datum
-  kept : rows_of finding ≡ Some rows
-  own : own_value work (target_of work t.job t.hand_out.attempt.stage t.hand_out.attempt.partition)
-      ≡ whole_stream rows
+-- a finding that is told as a result hands one over
+record HasGiven (work : WorkData) (t : TaskData) (finding : Finding) : Type 0 where
+  given : TaskResult
+  kept : result_in finding ≡ Some given
+  own : HandsOver work
+      (target_of work t.job t.hand_out.attempt.stage t.hand_out.attempt.partition) given
 
-has_rows :
+has_given :
     (work : WorkData) (t : TaskData) (finding : Finding) → IsTrueReport work t finding
-    → outcome_of finding ≡ outcomes.Result → HasRows work t finding
-has_rows work t (findings.Result rows) is e = record { rows = rows; kept = refl; own = is.own }
-has_rows work t (findings.Map loc) is e = absurd (search (rules, e))
-has_rows work t findings.Planned is e = absurd (search (rules, e))
-has_rows work t (findings.Raised r) is e = absurd (search (rules, e))
-has_rows work t (findings.Gone exec wanted found) is e = absurd (search (rules, e))
-has_rows work t (findings.Metadata last) is e = absurd (search (rules, e))
+    → outcome_of finding ≡ outcomes.Result → HasGiven work t finding
+has_given work t (findings.Result given) is e = record { given = given; kept = refl; own = is.own }
+has_given work t (findings.Map loc) is e = absurd (search (rules, e))
+has_given work t findings.Planned is e = absurd (search (rules, e))
+has_given work t (findings.Raised r) is e = absurd (search (rules, e))
+has_given work t (findings.Gone exec wanted found) is e = absurd (search (rules, e))
+has_given work t (findings.Metadata last) is e = absurd (search (rules, e))
 
 finished_is : (answer : Answer) → is_finished answer ≡ true → answer ≡ says.Finished
 finished_is says.Finished e = refl
@@ -252,11 +252,11 @@ finished_is says.Told e = absurd (true≢false (sym e))
 
 -- ---- results
 
--- a result of the result stage, in the rows of a true report
+-- a result of the result stage, which a true report hands over
 record IsOwn (work : WorkData) (d : DeskData) (report : ReportData) : Type 0 where
-  rows : List Datum
-  kept : rows_of report.finding ≡ Some rows
-  own : IsResult work d.job (attempt_of report).partition rows
+  given : TaskResult
+  kept : result_in report.finding ≡ Some given
+  own : IsResult work d.job (attempt_of report).partition given
 
 own_of :
     (work : WorkData) (d : DeskData) (report : ReportData)
@@ -266,16 +266,16 @@ own_of :
     → outcome_of report.finding ≡ outcomes.Result
     → (attempt_of report).stage ≡ result_stage (core_of d).dag → IsOwn work d report
 own_of work d report numbered last true_of job outcome stage =
-    let has : HasRows work report.task report.finding =
-    has_rows work report.task report.finding true_of outcome in
+    let has : HasGiven work report.task report.finding =
+    has_given work report.task report.finding true_of outcome in
     let kind : is_map (at_or (core_of d).dag.stages (attempt_of report).stage no_stage).target
     ≡ false =
     subst (λ (s : ℕ). is_map (at_or (core_of d).dag.stages s no_stage).target ≡ false)
     (sym stage) last in
     record {
-      rows = has.rows;
+      given = has.given;
       kept = has.kept;
-      own = subst (λ (x : TargetData). own_value work x ≡ whole_stream has.rows)
+      own = subst (λ (x : TargetData). HandsOver work x has.given)
           (ap (λ j. target_of work j (attempt_of report).stage (attempt_of report).partition) job
           ∙ result_target_is work d.job (core_of d).dag.stages (attempt_of report).stage
           (attempt_of report).partition numbered kind) has.own;
@@ -297,19 +297,19 @@ told_keeps work d after by event answer report e shelf leaves wins job true_of r
   where
     won : answer ≡ says.Finished
         → after.results ≡ change_at d.results (attempt_of report).partition
-        (λ _. rows_of report.finding)
+        (λ _. result_in report.finding)
         → IsSoundDesk work after
     won says_so kept =
         let w = wins says_so in
         let own = own_of work d report e.sound.stages e.core.job.result true_of (job says_so)
         w.outcome_is w.stage in
-        wins_keep work d after by event answer (attempt_of report) own.rows e w.stage w.within
+        wins_keep work d after by event answer (attempt_of report) own.given e w.stage w.within
         w.wins shelf own.own
         (kept ∙ ap (λ o. change_at d.results (attempt_of report).partition (λ _. o)) own.kept)
 
     one : (b : Bool) → is_finished answer ≡ b
         → after.results ≡ (if b then change_at d.results (attempt_of report).partition
-        (λ _. rows_of report.finding) else d.results)
+        (λ _. result_in report.finding) else d.results)
         → IsSoundDesk work after
     one true f kept = won (finished_is answer f) kept
     one false f kept =

@@ -1,12 +1,12 @@
 -- How a desk begins.
 use Rattle.std.specs.Prelude.{◌≡◌, ◌⊎◌, [], None, false, Some, List, Option, length, replicate}
-use Rattle.sc_value.specs.Datum.{Datum}
 use Rattle.sc_ids.specs.Graphs.{StageData}
 use Rattle.sc_ids.specs.declared.limits.Limits.{Limits}
 use Rattle.sc_lineage.specs.ScriptData.{WorkData}
 use Rattle.sc_plan.specs.declared.lines.PlanLine.{PlanLine}
 use Rattle.sc_stagecut.specs.Carrying.{AreRightBounds, IsCarriedFor, after_job}
 use Rattle.sc_stagecut.specs.Cuts.{IsCut}
+use Rattle.sc_compute.specs.declared.results.TaskResult.{TaskResult}
 use Rattle.sc_core.specs.CoreData.{CoreData}
 use Rattle.sc_core.specs.Openings.{IsOpening}
 use Rattle.sc_core.specs.Journals.{JournalData}
@@ -18,7 +18,7 @@ use Rattle.sc_desk.specs.Sound.{IsSeenDue, result_count}
 
 -- the desk of a job that begins with what goes on to it
 abbrev pub begun_desk :
-    JobData → JournalData → List (Option (List Datum)) → PassedData → DeskData
+    JobData → JournalData → List (Option TaskResult) → PassedData → DeskData
 begun_desk job journal results passed =
     desk_data job passed.carried journal results [] passed.ordered
 

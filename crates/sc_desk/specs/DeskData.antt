@@ -1,13 +1,13 @@
 -- The driver's desk, as plain data.
 use Rattle.std.specs.Prelude.{ℕ, List, Option, refl}
 use Rattle.std.specs.Coded.{Coded, code_by, coded×, coded_list, coded_option, coded_ℕ}
-use Rattle.sc_value.specs.Datum.{Datum}
-use Rattle.sc_value.specs.DatumCode.{datum_code}
 use Rattle.sc_stagecut.specs.Carrying.{CarriedData}
 use Rattle.sc_stagecut.specs.contracts.carried.Carried.{the_row as carried}
 use Rattle.sc_core.specs.CoreData.{CoreData}
 use Rattle.sc_core.specs.Journals.{JournalData}
 use Rattle.sc_core.specs.contracts.journals.Journal.{the_row as journal}
+use Rattle.sc_compute.specs.contracts.results.TaskResult.{the_row as result_row}
+use Rattle.sc_compute.specs.declared.results.TaskResult.{TaskResult}
 use Rattle.sc_jobs.specs.JobData.{JobData, job_code}
 use Rattle.sc_net.specs.Reports.{ReportData, report_code}
 use Rattle.sc_net.specs.Shelves.{shelved}
@@ -23,8 +23,8 @@ pub record DeskData : Type 0 where
   pub carried : CarriedData
   -- how the job began, what happened since, and its core
   pub journal : JournalData
-  -- for each partition the rows of its result, where it has one
-  pub results : List (Option (List Datum))
+  -- for each partition what was handed over of its result, where it has one
+  pub results : List (Option TaskResult)
   -- the reports that are to be told later, by rising keys
   pub shelf : List (ShelvedReport ReportData)
   -- which orders of the fault plan were handed out in the run so far, by executor
@@ -34,7 +34,7 @@ pub record DeskData : Type 0 where
 abbrev pub core_of : DeskData → CoreData
 core_of d = d.journal.core
 
-abbrev pub desk_data : JobData → CarriedData → JournalData → List (Option (List Datum))
+abbrev pub desk_data : JobData → CarriedData → JournalData → List (Option TaskResult)
     → List (ShelvedReport ReportData) → List Ordered → DeskData
 desk_data job carried journal results shelf ordered =
     record {
@@ -55,10 +55,10 @@ shelved_code =
 -- and that of a desk
 abbrev pub desk_code : Coded DeskData
 desk_code =
-    code_by (((JobData × CarriedData) × (JournalData × List (Option (List Datum))))
+    code_by (((JobData × CarriedData) × (JournalData × List (Option TaskResult)))
     × (List (ShelvedReport ReportData) × List Ordered))
     (coded× (coded× (coded× job_code carried.coded)
-    (coded× journal.coded (coded_list (coded_option (coded_list datum_code)))))
+    (coded× journal.coded (coded_list (coded_option result_row.coded))))
     (coded× (coded_list shelved_code) orders_code))
     (λ d. (((d.job, d.carried), (d.journal, d.results)), (d.shelf, d.ordered)))
     (λ p. desk_data p.0.0.0 p.0.0.1 p.0.1.0 p.0.1.1 p.1.0 p.1.1) (λ _. refl)

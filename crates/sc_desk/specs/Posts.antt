@@ -4,14 +4,14 @@ use Rattle.sc_ids.specs.Changes.{change_at}
 use Rattle.sc_ids.specs.declared.attempts.AttemptId.{AttemptId}
 use Rattle.sc_ids.specs.declared.attempts.Mark.{Mark}
 use Rattle.sc_lineage.specs.ScriptData.{WorkData}
-use Rattle.sc_value.specs.Datum.{Datum}
+use Rattle.sc_compute.specs.declared.results.TaskResult.{TaskResult}
 use Rattle.sc_core.specs.CoreData.{CoreData, job_runs, running_of}
 use Rattle.sc_core.specs.Posts.{comes_twice, fits}
 use Rattle.sc_core.specs.declared.answers.Answer.{Answer}
 use Rattle.sc_core.specs.declared.answers.Answer.TheVariants as says
 use Rattle.sc_core.specs.declared.events.Event.TheVariants.{Post}
 use Rattle.sc_core.specs.declared.running.Running.{Running}
-use Rattle.sc_net.specs.Reports.{ReportData, outcome_of, rows_of}
+use Rattle.sc_net.specs.Reports.{ReportData, outcome_of, result_in}
 use Rattle.sc_jobs.specs.JobData.{JobData}
 use Rattle.sc_net.specs.Tasks.{TaskData, task_data}
 use Rattle.sc_desk.specs.DeskData.{DeskData, core_of}
@@ -44,10 +44,10 @@ is_finished answer = false
 
 -- the results with that of a report, where it is answered that its partition is finished
 abbrev pub results_after :
-    List (Option (List Datum)) → ReportData → Answer → List (Option (List Datum))
+    List (Option TaskResult) → ReportData → Answer → List (Option TaskResult)
 results_after results report answer =
     if is_finished answer
-    then change_at results (attempt_of report).partition (λ _. rows_of report.finding)
+    then change_at results (attempt_of report).partition (λ _. result_in report.finding)
     else results
 
 -- a task is the one that was given to a running attempt, where there is one
@@ -70,7 +70,7 @@ AreCopies c report None = comes_twice c (attempt_of report) ≡ false
 AreCopies c report (Some copy) = (comes_twice c (attempt_of report) ≡ true) × (copy ≡ report)
 
 -- A report is received: it is no stranger and speaks of nothing that can't be yet, and its entry,
--- at this place, has what the core answers. Rows are kept where they finish their partition, and
+-- at this place, has what the core answers. A result is kept where it finishes its partition, and
 -- the report stands on the shelf wherever the core is to be told of it later.
 pub record Receives (work : WorkData) (d : DeskData) (by : Mark) (report : ReportData)
     (receipt : Receipt) (after : DeskData) : Type 0 where

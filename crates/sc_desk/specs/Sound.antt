@@ -1,7 +1,6 @@
 -- What holds of every desk.
 use Rattle.std.specs.Prelude.{ℕ, ◌≡◌, ◌≢◌, ◌≤◌, ◌<◌, All, Bool, true, false, List, [], ◌∷◌, Option, Some, None, IfSome, is_some, length, map}
 use Rattle.sc_base.specs.Lists.{at_or}
-use Rattle.sc_value.specs.Datum.{Datum}
 use Rattle.sc_expr.specs.declared.exprs.Raise.{Raise}
 use Rattle.sc_ids.specs.declared.attempts.AttemptId.{AttemptId}
 use Rattle.sc_ids.specs.declared.failures.FailureCause.{FailureCause}
@@ -9,8 +8,9 @@ use Rattle.sc_ids.specs.declared.failures.FailureCause.TheVariants as causes
 use Rattle.sc_plan.specs.Attempts.{is_failed}
 use Rattle.sc_plan.specs.PlanLines.{place_of}
 use Rattle.sc_lineage.specs.ScriptData.{WorkData}
-use Rattle.sc_lineage.specs.Streams.{whole_stream}
 use Rattle.sc_lineage.specs.Targets.{own_value, result_target}
+use Rattle.sc_compute.specs.Results.{HandsOver}
+use Rattle.sc_compute.specs.declared.results.TaskResult.{TaskResult}
 use Rattle.sc_stagecut.specs.Carrying.{AreRightBounds, IsCarriedFor}
 use Rattle.sc_dag.specs.DagData.{DagData, stage_at}
 use Rattle.sc_dag.specs.Openings.{AreNumbered}
@@ -36,13 +36,12 @@ use Rattle.sc_desk.specs.Shelves.{IsShelvedOf, as_shelved}
 
 -- ---- results
 
--- rows are the result of a partition, which doesn't raise
-abbrev pub IsResult : WorkData → JobData → ℕ → List Datum → Type 0
-IsResult work job p rows =
-    own_value work (result_target (goal_action work job.goal) p) ≡ whole_stream rows
+-- this is handed over for a partition, whose result doesn't raise
+abbrev pub IsResult : WorkData → JobData → ℕ → TaskResult → Type 0
+IsResult work job p given = HandsOver work (result_target (goal_action work job.goal) p) given
 
--- the rows that are kept for a partition
-abbrev pub result_at : List (Option (List Datum)) → ℕ → Option (List Datum)
+-- what is kept of the result of a partition
+abbrev pub result_at : List (Option TaskResult) → ℕ → Option TaskResult
 result_at results p = at_or results p None
 
 -- how many results the job of a core has
@@ -54,10 +53,10 @@ abbrev pub has_result : DagData → ℕ → Bool
 has_result d p = is_done d (result_stage d) p
 
 -- every partition has its result
-abbrev pub AreAllResults : WorkData → JobData → List (Option (List Datum)) → Type 0
+abbrev pub AreAllResults : WorkData → JobData → List (Option TaskResult) → Type 0
 AreAllResults work job results =
     (p : ℕ) → p < length results
-    → (rows : List Datum) × (result_at results p ≡ Some rows) × IsResult work job p rows
+    → (given : TaskResult) × (result_at results p ≡ Some given) × IsResult work job p given
 
 -- ---- failures
 
@@ -120,10 +119,10 @@ pub record IsSoundDesk (work : WorkData) (d : DeskData) : Type 0 where
   pub limits : (core_of d).dag.limits ≡ work.limits
   pub plan : (core_of d).plan ≡ work.plan
   pub execs : length (core_of d).dag.tracker.trust ≡ work.limits.executors
-  -- there is a place for each result, with rows exactly where the core has it
+  -- there is a place for each result, which has it exactly where the core has it
   pub places : length d.results ≡ result_count (core_of d).dag
   pub won : (p : ℕ) → is_some (result_at d.results p) ≡ has_result (core_of d).dag p
-  -- and they are what its task is to compute
+  -- and it is what its task is to hand over
   pub own : (p : ℕ) → IfSome (result_at d.results p) (IsResult work d.job p)
   -- the shelf has the reports that the core is to be told of later, and these are true
   pub shelf : map as_shelved d.shelf ≡ (core_of d).shelf

@@ -1,6 +1,6 @@
 -- What is told at a desk that wasn't posted: a report off the shelf, and that an executor is lost.
 use Rattle.std.specs.Prelude.{ℕ, ◌≡◌, List, Option, Some, None, length}
-use Rattle.sc_value.specs.Datum.{Datum}
+use Rattle.sc_compute.specs.declared.results.TaskResult.{TaskResult}
 use Rattle.sc_ids.specs.declared.attempts.Mark.{Mark}
 use Rattle.sc_core.specs.declared.answers.Answer.{Answer}
 use Rattle.sc_core.specs.declared.events.Event.TheVariants.{Release, TellLost}
@@ -13,7 +13,7 @@ use Rattle.sc_desk.specs.declared.receipts.Receipt.{Receipt}
 
 -- the results with that of a report that may be there
 abbrev pub results_with :
-    List (Option (List Datum)) → Option ReportData → Answer → List (Option (List Datum))
+    List (Option TaskResult) → Option ReportData → Answer → List (Option TaskResult)
 results_with results None answer = results
 results_with results (Some report) answer = results_after results report answer
 

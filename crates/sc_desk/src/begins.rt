@@ -12,7 +12,7 @@ ghost use Rattle.sc_desk.specs.Sound.{IsSoundDesk, result_count};
 
 use crate::desks::Desk;
 use crate::passes::Passed;
-use sc_columns::Rows;
+use sc_compute::TaskResult;
 use sc_core::{Core, Journal};
 use sc_jobs::{Goal, Job};
 use sc_work::{Naming, SharedWork};
@@ -68,7 +68,7 @@ impl<W: Naming> Desk<W> {
 struct Opened<W: Naming> {
     job: Job<W>,
     journal: Journal,
-    results: Vec<Option<Rows>>,
+    results: Vec<Option<TaskResult>>,
 }
 
 /// Plans the job of a goal, and opens it. Its new stages are carried on.
@@ -105,7 +105,7 @@ fn open_job<W: Naming>(
 #[derive(Drop)]
 struct Begun {
     journal: Journal,
-    results: Vec<Option<Rows>>,
+    results: Vec<Option<TaskResult>>,
 }
 
 /// The journal of a job that begins, and places for its results, of which none is there.
@@ -162,7 +162,7 @@ fn are_sound(last: Option<&Core>)
 }
 
 /// Places for the results of a job, of which none is there.
-fn no_results(alloc: Global, journal: &Journal) -> Result<Vec<Option<Rows>>, AllocError>
+fn no_results(alloc: Global, journal: &Journal) -> Result<Vec<Option<TaskResult>>, AllocError>
     ensures { IfOk result (λ v. v.items ≡ replicate (result_count journal.now.core.dag) None) }
 {
     let core = journal.core();
@@ -170,7 +170,7 @@ fn no_results(alloc: Global, journal: &Journal) -> Result<Vec<Option<Rows>>, All
 }
 
 /// So many places, of which each is empty.
-fn places(alloc: Global, count: u32) -> Result<Vec<Option<Rows>>, AllocError>
+fn places(alloc: Global, count: u32) -> Result<Vec<Option<TaskResult>>, AllocError>
     ensures { IfOk result (λ v. v.items ≡ replicate count None) }
 {
     let mut places = Vec::with_capacity(alloc, count as usize)?;

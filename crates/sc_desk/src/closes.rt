@@ -10,7 +10,7 @@ ghost use Rattle.sc_desk.specs.Begins.{FitsLast, IsPassedFor};
 
 use crate::desks::Desk;
 use crate::passes::Passed;
-use sc_columns::Rows;
+use sc_compute::TaskResult;
 use sc_core::JobHistory;
 use sc_jobs::Job;
 use sc_work::Naming;
@@ -20,8 +20,8 @@ use sc_work::Naming;
 pub struct Closed<W: Naming> {
     /// How the job went.
     pub history: JobHistory,
-    /// For each partition the rows of its result, where it has one.
-    pub results: Vec<Option<Rows>>,
+    /// For each partition what was handed over of its result, where it has one.
+    pub results: Vec<Option<TaskResult>>,
     /// What goes on to the next job.
     pub passed: Passed,
     /// The job.

@@ -7,7 +7,7 @@ ghost use Rattle.sc_desk.specs.DeskData.{core_of};
 ghost use Rattle.sc_desk.specs.Sound.{IsSoundDesk};
 
 use crate::orders::Orders;
-use sc_columns::Rows;
+use sc_compute::TaskResult;
 use sc_core::{Core, Entry, Journal};
 use sc_ids::{ExecId, Generation};
 use sc_jobs::Job;
@@ -24,7 +24,7 @@ pub struct Desk<W: Naming> {
     pub(crate) job: Job<W>,
     pub(crate) carried: Carried,
     pub(crate) journal: Journal,
-    pub(crate) results: Vec<Option<Rows>>,
+    pub(crate) results: Vec<Option<TaskResult>>,
     pub(crate) shelf: Vec<ShelvedReport<Report<W>>>,
     pub(crate) ordered: Orders,
 }
@@ -74,8 +74,8 @@ impl<W: Naming> Desk<W> {
         self.journal.entries()
     }
 
-    /// For each partition the rows of its result, where it has one.
-    pub fn results(&self) -> &[Option<Rows>]
+    /// For each partition what was handed over of its result, where it has one.
+    pub fn results(&self) -> &[Option<TaskResult>]
         ensures { result.now ≡ self.now.results }
     {
         self.results.as_slice()

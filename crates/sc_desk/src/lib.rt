@@ -4,7 +4,7 @@
 //! what is passed on from the jobs before, [`Desk::take`] gives an executor a task, [`Desk::post`]
 //! takes a report in, and [`Desk::close`] gives the history, the results and what is passed on to
 //! the next job. Each of these calls is one event of the scheduler's core, and enters what was
-//! answered into the journal; what is refused for want of memory enters nothing. Rows come with
+//! answered into the journal; what is refused for want of memory enters nothing. Results come with
 //! reports, and are kept where the core finishes their partition.
 //!
 //! A report whose attempt runs but whose task isn't the one that was given is a stranger, and one

@@ -15,7 +15,7 @@ use crate::desks::Desk;
 use crate::receipts::Receipt;
 use crate::shelves::{clear_after_end, put_off, runs};
 use sc_base::OrMemory;
-use sc_columns::Rows;
+use sc_compute::TaskResult;
 use sc_core::{Answer, Core, Event, Running};
 use sc_ids::{AttemptId, ExecId, Generation, Mark};
 use sc_jobs::Job;
@@ -40,8 +40,8 @@ pub enum Posted<W: Naming> {
 }
 
 impl<W: Naming> Desk<W> {
-    /// A report comes. It is entered with what the core answers. The rows of a result that finishes
-    /// its partition are kept, and a report that is to be told later stands on the shelf, once for
+    /// A report comes. It is entered with what the core answers. A result that finishes its
+    /// partition is kept, and a report that is to be told later stands on the shelf, once for
     /// each time. A stranger is handed back, and so is one that speaks of what can't be yet; they
     /// enter nothing. A refused call changes nothing and hands the report back.
     pub fn post(&mut self, by: Mark, report: Report<W>) -> Result<Posted<W>, AllocFailed<Report<W>>>
@@ -185,9 +185,9 @@ fn is_given_to<W: Naming>(running: Option<&Running>, job: &Job<W>, task: &Task<W
 }
 
 /// What an entry of a report leaves of the results and of the shelf: what is to be told later is
-/// put off, and the rows of a result that finished its partition are kept.
+/// put off, and a result that finished its partition is kept.
 fn settle<W: Naming>(
-    results: &mut Vec<Option<Rows>>,
+    results: &mut Vec<Option<TaskResult>>,
     shelf: &mut Vec<ShelvedReport<Report<W>>>,
     core: &Core,
     report: Report<W>,
@@ -209,13 +209,17 @@ fn settle<W: Naming>(
     clear_after_end(shelf, core);
 }
 
-/// Keeps the rows of a report that finished its partition.
-pub(crate) fn keep<W: Naming>(results: &mut Vec<Option<Rows>>, report: Report<W>, answer: &Answer)
+/// Keeps the result of a report that finished its partition.
+pub(crate) fn keep<W: Naming>(
+    results: &mut Vec<Option<TaskResult>>,
+    report: Report<W>,
+    answer: &Answer,
+)
     ensures { results.new.items ≡ results_after results.old.items report answer.now }
 {
     if is_finished(answer) {
         let partition = report.attempt().partition;
-        put(results, partition, report.into_rows());
+        put(results, partition, report.into_result());
     }
 }
 
@@ -233,11 +237,11 @@ fn is_finished(answer: &Answer) -> bool
     }
 }
 
-/// Puts rows in the place of a partition.
-fn put(results: &mut Vec<Option<Rows>>, partition: u32, rows: Option<Rows>)
-    ensures { results.new.items ≡ change_at results.old.items partition (λ _. rows) }
+/// Puts a result in the place of a partition.
+fn put(results: &mut Vec<Option<TaskResult>>, partition: u32, given: Option<TaskResult>)
+    ensures { results.new.items ≡ change_at results.old.items partition (λ _. given) }
 {
     if (partition as usize) < results.len() {
-        results[partition as usize] = rows;
+        results[partition as usize] = given;
     }
 }

@@ -13,7 +13,7 @@ use crate::posts::keep;
 use crate::receipts::Receipt;
 use crate::shelves::{clear_after_end, take_off};
 use sc_base::OrMemory;
-use sc_columns::Rows;
+use sc_compute::TaskResult;
 use sc_core::{Answer, Event, NotEnabled};
 use sc_ids::{ExecId, Mark};
 use sc_net::Report;
@@ -21,7 +21,7 @@ use sc_work::Naming;
 
 impl<W: Naming> Desk<W> {
     /// The report under a key is taken off the shelf and told. It is entered with what the core
-    /// answers, and the rows of a result that finishes its partition are kept. A fault says that
+    /// answers, and a result that finishes its partition is kept. A fault says that
     /// there is no such report. A refused call changes nothing.
     pub fn release(&mut self, by: Mark, key: u32) -> Result<Receipt, OrMemory<NotEnabled>>
         ensures released { IfOk result (λ r. Releases self.old by key r self.new) }
@@ -63,8 +63,12 @@ impl<W: Naming> Desk<W> {
     }
 }
 
-/// Keeps the rows of a report that finished its partition, where there is one.
-fn keep_late<W: Naming>(results: &mut Vec<Option<Rows>>, report: Option<Report<W>>, answer: &Answer)
+/// Keeps the result of a report that finished its partition, where there is one.
+fn keep_late<W: Naming>(
+    results: &mut Vec<Option<TaskResult>>,
+    report: Option<Report<W>>,
+    answer: &Answer,
+)
     ensures { results.new.items ≡ results_with results.old.items report answer.now }
 {
     match report {

@@ -1,14 +1,14 @@
 -- Reports, and when they are true.
 use Rattle.std.specs.Prelude.{ℕ, ◌≡◌, ◌<◌, Bool, true, false, List, Option, Some, None, All, Contains, refl}
 use Rattle.std.specs.Coded.{Coded, code_by, coded×}
-use Rattle.sc_value.specs.Datum.{Datum}
 use Rattle.sc_expr.specs.declared.exprs.Raise.{Raise}
 use Rattle.sc_ids.specs.declared.blocks.BlockId.{BlockId}
 use Rattle.sc_ids.specs.declared.blocks.Loc.{Loc}
 use Rattle.sc_ids.specs.declared.failures.FailureCause.TheVariants as causes
 use Rattle.sc_lineage.specs.ScriptData.{WorkData}
-use Rattle.sc_lineage.specs.Streams.{whole_stream}
 use Rattle.sc_lineage.specs.Targets.{map_target, own_value}
+use Rattle.sc_compute.specs.Results.{HandsOver}
+use Rattle.sc_compute.specs.declared.results.TaskResult.{TaskResult}
 use Rattle.sc_tracker.specs.declared.outputs.Location.{Location}
 use Rattle.sc_tracker.specs.declared.outputs.Location.TheVariants as locations
 use Rattle.sc_core.specs.declared.events.Outcome.{Outcome}
@@ -52,15 +52,15 @@ pub record Raises (work : WorkData) (t : TaskData) (r : Raise) : Type 0 where
   pub own : (own_value work (target_of_task work t)).raise ≡ Some r
   pub inputs : All (IsWithoutRaise work) (blocks_of_task t)
 
--- rows are the result of a task, which doesn't raise
-pub record IsResultOf (work : WorkData) (t : TaskData) (rows : List Datum) : Type 0 where
+-- what is handed over is the result of a task, which doesn't raise
+pub record IsResultOf (work : WorkData) (t : TaskData) (given : TaskResult) : Type 0 where
   pub result : is_map_task t ≡ false
-  pub own : own_value work (target_of_task work t) ≡ whole_stream rows
+  pub own : HandsOver work (target_of_task work t) given
 
 -- a finding is true of a task: it has its evidence
 abbrev pub IsTrueReport : WorkData → TaskData → Finding → Type 0
 IsTrueReport work t (findings.Map loc) = is_map_task t ≡ true
-IsTrueReport work t (findings.Result rows) = IsResultOf work t rows
+IsTrueReport work t (findings.Result given) = IsResultOf work t given
 IsTrueReport work t findings.Planned = is_planned work t ≡ true
 IsTrueReport work t (findings.Raised r) = Raises work t r
 IsTrueReport work t (findings.Gone exec wanted found) =
@@ -70,13 +70,13 @@ IsTrueReport work t (findings.Metadata last) = WasGiven t (locations.Missing (So
 -- what the scheduler is told of a finding
 abbrev pub outcome_of : Finding → Outcome
 outcome_of (findings.Map loc) = outcomes.Map loc
-outcome_of (findings.Result rows) = outcomes.Result
+outcome_of (findings.Result given) = outcomes.Result
 outcome_of findings.Planned = outcomes.Failed causes.Planned
 outcome_of (findings.Raised r) = outcomes.Failed (causes.Raised r)
 outcome_of (findings.Gone exec wanted found) = outcomes.Failed (causes.Gone exec wanted found)
 outcome_of (findings.Metadata last) = outcomes.Failed (causes.Metadata last)
 
--- the rows that a finding carries
-abbrev pub rows_of : Finding → Option (List Datum)
-rows_of (findings.Result rows) = Some rows
-rows_of finding = None
+-- the result that a finding hands over
+abbrev pub result_in : Finding → Option TaskResult
+result_in (findings.Result given) = Some given
+result_in finding = None

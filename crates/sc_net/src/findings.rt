@@ -3,7 +3,7 @@
 
 ghost use Rattle.std.specs.Prelude.{◌≡◌, IfOk};
 
-use sc_columns::Rows;
+use sc_compute::TaskResult;
 use sc_expr::Raise;
 use sc_ids::{ExecId, Generation, Loc};
 use std::alloc::AllocError;
@@ -13,8 +13,8 @@ use std::alloc::AllocError;
 pub enum Finding {
     /// Its map output lies there.
     Map(Loc),
-    /// The rows of its result.
-    Result(Rows),
+    /// What it hands over of its result.
+    Result(TaskResult),
     /// The fault plan fails it.
     Planned,
     /// What it is to compute raises.
@@ -43,7 +43,7 @@ impl Finding {
     {
         Ok(match self {
             Finding::Map(loc) => Finding::Map(*loc),
-            Finding::Result(rows) => Finding::Result(rows.share()?),
+            Finding::Result(result) => Finding::Result(result.share()?),
             Finding::Planned => Finding::Planned,
             Finding::Raised(raise) => Finding::Raised(*raise),
             Finding::Gone {

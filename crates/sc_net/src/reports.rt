@@ -2,11 +2,11 @@
 #![tactic(auto)]
 
 ghost use Rattle.std.specs.Prelude.{◌≡◌, IfOk};
-ghost use Rattle.sc_net.specs.Reports.{IsTrueReport, outcome_of, report_data, rows_of};
+ghost use Rattle.sc_net.specs.Reports.{IsTrueReport, outcome_of, report_data, result_in};
 
 use crate::findings::Finding;
 use crate::tasks::Task;
-use sc_columns::Rows;
+use sc_compute::TaskResult;
 use sc_core::Outcome;
 use sc_ids::{AttemptId, FailureCause};
 use sc_work::Naming;
@@ -94,13 +94,13 @@ impl<W: Naming> Report<W> {
         }
     }
 
-    /// The rows of its result, where it tells one.
-    pub fn into_rows(self) -> Option<Rows>
-        ensures { result ≡ rows_of self.finding }
+    /// What it hands over, where it tells a result.
+    pub fn into_result(self) -> Option<TaskResult>
+        ensures { result ≡ result_in self.finding }
     {
         let Report { finding, .. } = self;
         match finding {
-            Finding::Result(rows) => Some(rows),
+            Finding::Result(result) => Some(result),
             _ => None,
         }
     }

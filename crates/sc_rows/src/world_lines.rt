@@ -16,6 +16,7 @@ ghost use Rattle.sc_stagecut.specs.Carrying.{HasBounds};
 
 use crate::transcripts::{at, numbers_of};
 use crate::works::{INPUT, halves, work_of};
+use sc_compute::TaskResult;
 use sc_desk::{Desk, Passed};
 use sc_jobs::Goal;
 use sc_lineage::{Action, NodeId, Work};
@@ -218,7 +219,7 @@ fn push_results<W: Naming, R: Abort + AllocGlobal>(rt: &R, world: &World<W>, tol
 fn results_of<W: Naming, R: Abort + AllocGlobal>(rt: &R, world: &World<W>) -> String {
     let mut out = Vec::new(rt.alloc());
     for result in world.desk().results() {
-        if let Some(rows) = result {
+        if let Some(TaskResult::Rows(rows)) = result {
             rows.print_lines(&mut out).expect(rt, "memory");
         }
     }

@@ -70,7 +70,7 @@ pub record HasRead (work : WorkData) (t : TaskData) (got : List (List (List Datu
 abbrev pub HasReadAll : WorkData → TaskData → List (List (List Datum)) → Type 0
 HasReadAll work t got = AreOf work (blocks_of_task t) got
 
--- a value is what a task is to compute: a map task's own block, or the rows of its result
+-- a value is what a task is to compute: a map task's own block, or what it hands over
 abbrev pub IsMade : {W : _} → WorkData → TaskData → Made W → Type 0
 IsMade work t (made.Block block) = block_of_task t ≡ Some block.id
-IsMade work t (made.Rows rows) = IsResultOf work t rows
+IsMade work t (made.Result given) = IsResultOf work t given

@@ -2,19 +2,18 @@
 #![tactic(auto)]
 
 ghost use Rattle.std.specs.Prelude.{◌≡◌, IfErr, IfOk, OnErr, OnOk, false, true};
-ghost use Rattle.sc_columns.specs.declared.rows.Rows.{Rows};
 ghost use Rattle.sc_net.specs.Reports.{IsResultOf, loc_at, report_data};
 ghost use Rattle.sc_net.specs.Tasks.{block_of_task, is_map_task, is_planned};
 ghost use Rattle.sc_net.specs.declared.findings.Finding.{Finding};
 ghost use Rattle.sc_store.specs.Storing.{Puts};
 ghost use Rattle.sc_task.specs.States.{computed_data, stored_data};
 ghost use Rattle.sc_task.specs.Steps.{PutsOwn};
-ghost use Rattle.sc_value.specs.Datum.{Datum};
-ghost use Rattle.std.specs.Prelude.{List, Some};
+ghost use Rattle.sc_compute.specs.declared.results.TaskResult.{TaskResult};
+ghost use Rattle.std.specs.Prelude.{Some};
 
 use crate::made::Made;
 use crate::stored::Stored;
-use sc_columns::Rows;
+use sc_compute::TaskResult;
 use sc_ids::Loc;
 use sc_net::{Finding, Report, Task};
 use sc_store::{Block, PutReceipt, Store};
@@ -54,13 +53,13 @@ impl<W: Naming> Computed<W> {
         Computed { task, made }
     }
 
-    /// The rows of a task's result.
-    pub(crate) fn of_rows(task: Task<W>, rows: Rows) -> Computed<W>
-        requires own { IsResultOf W.work task rows }
+    /// What is handed over of a task's result.
+    pub(crate) fn of_result(task: Task<W>, given: TaskResult) -> Computed<W>
+        requires own { IsResultOf W.work task given }
         requires planned { is_planned W.work task ≡ false }
         ensures { result ≡ computed_data task }
     {
-        let made = Made::Rows(rows);
+        let made = Made::Result(given);
         Computed { task, made }
     }
 
@@ -94,14 +93,15 @@ impl<W: Naming> Computed<W> {
         }
     }
 
-    /// Reports the rows of a result.
+    /// Reports what is handed over of a result.
     pub fn result(self) -> Report<W>
         requires result { is_map_task self.task ≡ false }
-        ensures { (rows : List Datum) × (result ≡ report_data self.task (Finding.Result rows)) }
+        ensures { (given : TaskResult)
+            × (result ≡ report_data self.task (Finding.Result given)) }
     {
         let Computed { task, made } = self;
         match made {
-            Made::Rows(rows) => Report::new(task, Finding::Result(rows)),
+            Made::Result(given) => Report::new(task, Finding::Result(given)),
             Made::Block(_) => unreachable!(),
         }
     }

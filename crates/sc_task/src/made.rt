@@ -1,7 +1,7 @@
 //! What a task makes.
 #![tactic(auto)]
 
-use sc_columns::Rows;
+use sc_compute::TaskResult;
 use sc_store::Block;
 use sc_work::Naming;
 
@@ -10,6 +10,6 @@ use sc_work::Naming;
 pub(crate) enum Made<W: Naming> {
     /// The block of a map task.
     Block(Block<W>),
-    /// The rows of a result.
-    Rows(Rows),
+    /// What is handed over of a result.
+    Result(TaskResult),
 }

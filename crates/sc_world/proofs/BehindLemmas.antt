@@ -63,10 +63,10 @@ learnt_tied stores t task (findings.Map loc) after tied put learns =
         let one : put.block ≡ b = search (rules, same) in
         rw l (registered_tied stores t b loc tied
         (subst (λ b. StandsAt stores b loc) one put.there))
-learnt_tied stores t task (findings.Result rows) after tied says learns =
+learnt_tied stores t task (findings.Result given) after tied says learns =
     absurd (nothing (block_of_task task) learns)
   where
-    nothing : (o : Option BlockId) → Learns t o (outcome_of (findings.Result rows)) after → ⊥
+    nothing : (o : Option BlockId) → Learns t o (outcome_of (findings.Result given)) after → ⊥
     nothing None l = l
     nothing (Some b) l = l
 learnt_tied stores t task findings.Planned after tied says learns =

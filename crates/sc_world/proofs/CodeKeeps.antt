@@ -101,7 +101,7 @@ is_received work d by report (posted.Early back due) after known in_time (of, ea
         let bound : found ≤ wipes_due work (core_of d).told exec = le in
         omega (arith, bound, due_is, lt)
     in_both (findings.Map loc) le bad = bad
-    in_both (findings.Result rows) le bad = bad
+    in_both (findings.Result given) le bad = bad
     in_both findings.Planned le bad = bad
     in_both (findings.Raised r) le bad = bad
     in_both (findings.Metadata last) le bad = bad

@@ -297,7 +297,7 @@ makes_fewer work t got next (inr (planned, raise, made)) = by next made
     by : (a : AttemptData) → HasMade work t a
         → steps_left (Some a) < steps_left (Some (assigned t got))
     by (computed x) h = omega arith
-    by (reported x (findings.Result rows)) h = omega arith
+    by (reported x (findings.Result given)) h = omega arith
     by a bad = absurd bad
 
 -- the attempt of an executor once it has gone on, and that of one that is there

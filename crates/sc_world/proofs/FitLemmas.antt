@@ -130,7 +130,7 @@ report_fits work c r t finding numbered task same true_of from no_save =
     by (findings.Map loc) is here =
         both (is_map (stage_at c.dag t.hand_out.attempt.stage).target) (loc.exec == r.exec)
         (mapped true is) (grind (arith, nat_tests, here))
-    by (findings.Result rows) is from =
+    by (findings.Result given) is from =
         rw (mapped false is.result, no_save) refl
     by findings.Planned is from = refl
     by (findings.Raised raise) is from = refl

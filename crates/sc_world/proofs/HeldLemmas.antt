@@ -47,7 +47,7 @@ put_later before after later t loc h =
 pub says_later : (before after : List StoreData) → AreLater before after → (t : TaskData)
     (finding : Finding) → Says before t finding → Says after t finding
 says_later before after later t (findings.Map loc) h = put_later before after later t loc h
-says_later before after later t (findings.Result rows) h = h
+says_later before after later t (findings.Result given) h = h
 says_later before after later t findings.Planned h = h
 says_later before after later t (findings.Raised r) h = h
 says_later before after later t (findings.Gone on wanted found) h =

@@ -105,7 +105,7 @@ report_in_time work w exec t finding sound held = by finding right.brings.0
 
     by : (finding : Finding) → Says w.stores t finding → IsInTime work (core_in w).told finding
     by (findings.Map loc) says = tt
-    by (findings.Result rows) says = tt
+    by (findings.Result given) says = tt
     by findings.Planned says = tt
     by (findings.Raised r) says = tt
     by (findings.Gone on wanted found) says =

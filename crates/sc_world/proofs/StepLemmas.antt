@@ -79,14 +79,14 @@ computes_on work stores exec t next makes =
     fails findings.Planned f = (refl, (tt, tt))
     fails (findings.Raised r) f = (refl, (tt, tt))
     fails (findings.Map loc) f = absurd f
-    fails (findings.Result rows) f = absurd f
+    fails (findings.Result given) f = absurd f
     fails (findings.Gone at wanted found) f = absurd f
     fails (findings.Metadata last) f = absurd f
 
     made : (next : AttemptData) → HasMade work t next
         → (task_of next ≡ t) × Brings stores exec next
     made (computed u) (same, mapped) = (same, tt)
-    made (reported u (findings.Result rows)) (same, own) = (same, (tt, tt))
+    made (reported u (findings.Result given)) (same, own) = (same, (tt, tt))
     made (reported u (findings.Map loc)) bad = absurd bad
     made (reported u findings.Planned) bad = absurd bad
     made (reported u (findings.Raised r)) bad = absurd bad

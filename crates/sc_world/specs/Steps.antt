@@ -83,10 +83,10 @@ pub record ReadsAt (stores : List StoreData) (before after : Option AttemptData)
 -- ---- an attempt computes
 
 -- what an attempt has then, of which nothing raises: a map task a block to be put, and a result
--- task the rows to report
+-- task what it hands over, to report
 abbrev pub HasMade : WorkData → TaskData → AttemptData → Type 0
 HasMade work t (computed made) = (made ≡ t) × (is_map_task t ≡ true)
-HasMade work t (reported task (findings.Result rows)) = (task ≡ t) × IsResultOf work t rows
+HasMade work t (reported task (findings.Result given)) = (task ≡ t) × IsResultOf work t given
 HasMade work t attempt = ⊥
 
 -- an attempt fails as planned, or its own value raises, or it has made it

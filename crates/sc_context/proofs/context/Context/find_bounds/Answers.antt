@@ -21,7 +21,7 @@ returns-in_default-clause-stops g c =
     let e = c.in_ok-ended.ended in
     stops_ended g.W.Naming.work c.args.self (goals.Bounds c.args.sort)
     c.without_memory.result.why e.passed e.stores.items e.histories.items
-    c.without_memory.result.histories.items e.rows.items c.is_sound.ensures.come
+    c.without_memory.result.histories.items e.results.items c.is_sound.ensures.come
     c.in_ok-ended.ensures.ended c.without_memory.ensures.why c.without_memory.ensures.histories
 
 pub invariant_of-result : goal.invariant_of-result
@@ -51,7 +51,7 @@ invariant_of-result g c =
     omega (arith, many, c.requires.within) in
     context_behind work c.args.self (goals.Bounds sort) e.passed
     (passed_data c.set_bounds.new.self c.passed.inside.ordered) e.stores.items e.histories.items
-    e.rows.items e.actions c.is_sound.ensures.come ended carried many within serves places
+    e.results.items e.actions c.is_sound.ensures.come ended carried many within serves places
 
 pub returns-clause-finds : goal.returns-clause-finds
 returns-clause-finds g c =

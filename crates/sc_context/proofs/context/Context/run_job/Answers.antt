@@ -4,9 +4,9 @@ use Rattle.sc_stagecut.specs.Carrying.{CarriedData, HasBounds}
 use Rattle.sc_jobs.specs.JobData.{goal_node}
 use Rattle.sc_context.specs.Contexts.{ContextData}
 use Rattle.sc_context.specs.Histories.{last_end}
-use Rattle.sc_context.specs.Jobs.{AreRowsOf, HasBegunFor, HasNoRows}
+use Rattle.sc_context.specs.Jobs.{HasBegunFor, HasNoResults, HasResults}
 use Rattle.sc_context.proofs.ChainLemmas.{next_known}
-use Rattle.sc_context.proofs.JobLemmas.{ended_is, goal_is, has_went, rows_for, stops_job}
+use Rattle.sc_context.proofs.JobLemmas.{ended_is, goal_is, has_went, results_for, stops_job}
 use Rattle.sc_context.proofs.context.Context.run_job.Goals as goal
 
 pub begin_world-requires-clause-bounds : goal.begin_world-requires-clause-bounds
@@ -18,8 +18,8 @@ begin_world-requires-clause-bounds g c =
     (sym (ap (λ (x : ContextData). x.progress.carried) c.self.view_is))
     (next_known work c.args.self.progress c.args.goal script c.requires.within c.requires.next).1
 
-pub returns-in-Ok-rows-clause-ended : goal.returns-in-Ok-rows-clause-ended
-returns-in-Ok-rows-clause-ended g c =
+pub returns-in-Ok-results-clause-ended : goal.returns-in-Ok-results-clause-ended
+returns-in-Ok-results-clause-ended g c =
     let work = g.W.Naming.work in
     let p = c.args.self.progress in
     let h = c.run_world-history.result.history in
@@ -39,17 +39,17 @@ returns-in-Ok-rows-clause-ended g c =
     let all = c.push_reserved.ensures.items
     ∙ ap (λ hs. hs ++ h ∷ [])
     (c.reserve.ensures.items ∙ ap (λ (x : ContextData). x.histories) c.self.view_is) in
-    let rows = c.in-Ok-rows.rows.items in
-    let are = subst (λ r. IfOk r (λ rs. AreRowsOf work c.in-Ok-begin_world.world.desk.job.goal h.end
-    rs.items)) c.in-Ok-rows.is c.run_world-history.ensures.rows in
+    let given = c.in-Ok-results.results.items in
+    let are = subst (λ r. IfOk r (λ rs. HasResults work c.in-Ok-begin_world.world.desk.job.goal
+    h.end rs.items)) c.in-Ok-results.is c.run_world-history.ensures.results in
     ended_is work c.args.self c.args.goal h c.run_world-history.result.passed
-    c.run_world-history.result.stores.items c.push_reserved.new.self.items rows went all are.done
+    c.run_world-history.result.stores.items c.push_reserved.new.self.items given went all are.done
     (record {
       passed_on = c.run_world-history.ensures.passed;
       fits = c.run_world-history.ensures.fits;
       stores_are = c.run_world-history.ensures.ready;
     })
-    (rows_for work c.in-Ok-begin_world.world.desk.job.goal c.args.goal h.end rows
+    (results_for work c.in-Ok-begin_world.world.desk.job.goal c.args.goal h.end given
     (goal_is work p c.args.goal passed stores c.in-Ok-begin_world.world begun) are)
 
 pub returns-in-Err-clause-stops : goal.returns-in-Err-clause-stops
@@ -86,4 +86,4 @@ returns-in-Err-clause-stops g c =
     c.requires.within c.is_sound.ensures.serves
     (next_known work p c.args.goal sound.script c.requires.within c.requires.next).0
     c.is_sound.ensures.fits c.in-Err.why
-    (subst (λ r. IfErr r (HasNoRows h.end)) c.in-Err.is c.run_world-history.ensures.none)
+    (subst (λ r. IfErr r (HasNoResults h.end)) c.in-Err.is c.run_world-history.ensures.none)

@@ -12,7 +12,7 @@ returns-in_default-value_of-clause-stops g c =
     let left = c.without_memory-in_default-value_of in
     stops_ended g.W.Naming.work c.args.self (goals.Action c.self.inside.actions)
     left.result.why e.passed e.stores.items e.histories.items
-    left.result.histories.items e.rows.items c.is_sound.ensures.come c.in_ok-ended.ensures.ended
+    left.result.histories.items e.results.items c.is_sound.ensures.come c.in_ok-ended.ensures.ended
     left.ensures.why left.ensures.histories
 
 pub invariant_of-context : goal.invariant_of-context
@@ -26,6 +26,6 @@ invariant_of-context g c =
     let within : c.in-Some.behind ≤ length work.script.actions =
     omega (arith, many, c.requires.within) in
     context_behind work c.args.self (goals.Action c.self.inside.actions) e.passed e.passed
-    e.stores.items e.histories.items e.rows.items c.in-Some.behind c.is_sound.ensures.come ended
+    e.stores.items e.histories.items e.results.items c.in-Some.behind c.is_sound.ensures.come ended
     ended.carried many within ended.ready.passed_on
     (ap (λ (k : CarriedData). length k.bounds) ended.carried ∙ c.is_sound.ensures.places)
