@@ -5,7 +5,7 @@ use Rattle.sc_compute.specs.declared.results.TaskResult.{TaskResult}
 use Rattle.sc_jobs.specs.JobData.{JobData}
 use Rattle.sc_jobs.specs.Plans.{IsJobFor}
 use Rattle.sc_desk.specs.DeskData.{DeskData}
-use Rattle.sc_desk.specs.Sound.{IsSoundDesk}
+use Rattle.sc_desk.specs.Sound.{AreEvident, IsSoundDesk}
 use Rattle.sc_context.specs.Jobs.{HasResults}
 use Rattle.sc_context.specs.Results.{AreThere}
 use Rattle.sc_context.proofs.ResultLemmas.{all_are_there, both_ok, results_of_job}
@@ -42,3 +42,10 @@ returns-clause-results g c =
           (ap (λ (x : CoreData). x.job) (sym c.close-closed.ensures.end) ∙ done))
           (sym c.as_slice.ensures.value ∙ are);
     }) c.results_of-results.ensures.all c.results_of-results.ensures.done
+
+pub returns-clause-evidence : goal.returns-clause-evidence
+returns-clause-evidence g c = λ is.
+    let history = c.close-closed.result.0.history in
+    subst (λ (j : JobData). AreEvident g.W.Naming.work j history.opening history.entries.items
+    history.end is) (c.close-closed.ensures.job ∙ c.serial.ensures.same.job)
+    (c.close-closed.ensures.evidence is)

@@ -1,12 +1,16 @@
-use Rattle.std.proofs.Common.{◌∙◌, [], ◌∷◌, ◌++◌, IfErr, IfOk, ap, subst, sym}
+use Rattle.std.proofs.Common.{◌∙◌, [], ◌∷◌, ◌++◌, IfErr, IfOk, Option, ap, arith, subst, sym}
 use Rattle.sc_lineage.specs.ScriptData.{WorkData, IsSoundScript, IsSoundWork}
 use Rattle.sc_stagecut.specs.Carrying.{CarriedData, HasBounds}
+use Rattle.sc_core.specs.CoreData.{CoreData}
+use Rattle.sc_core.specs.Openings.{tracker_behind}
+use Rattle.sc_core.specs.Sound.{HasLive}
 use Rattle.sc_jobs.specs.JobData.{goal_node}
 use Rattle.sc_context.specs.Contexts.{ContextData}
 use Rattle.sc_context.specs.Histories.{last_end}
 use Rattle.sc_context.specs.Jobs.{HasBegunFor, HasNoResults, HasResults}
 use Rattle.sc_context.proofs.ChainLemmas.{next_known}
 use Rattle.sc_context.proofs.JobLemmas.{ended_is, goal_is, has_went, results_for, stops_job}
+use Rattle.sc_context.proofs.LiveLemmas.{live_behind}
 use Rattle.sc_context.proofs.context.Context.run_job.Goals as goal
 
 pub begin_world-requires-clause-bounds : goal.begin_world-requires-clause-bounds
@@ -17,6 +21,19 @@ begin_world-requires-clause-bounds g c =
     subst (λ (k : CarriedData). HasBounds work.script.nodes k (goal_node work c.args.goal))
     (sym (ap (λ (x : ContextData). x.progress.carried) c.self.view_is))
     (next_known work c.args.self.progress c.args.goal script c.requires.within c.requires.next).1
+
+pub begin_world-requires-clause-live : goal.begin_world-requires-clause-live
+begin_world-requires-clause-live g c =
+    let work = g.W.Naming.work in
+    let sound = subst (λ (w : WorkData). IsSoundWork w) (c.get.ensures ∙ c.is_named.ensures)
+    c.is_sound-2.ensures in
+    let above = sound.limits.executors.above in
+    let last = c.last_end-last.ensures
+    ∙ ap last_end (c.as_slice.ensures.value ∙ c.reserve.ensures.items)
+    ∙ ap (λ (x : ContextData). x.progress.last) c.self.view_is in
+    subst (λ (o : Option CoreData). HasLive (tracker_behind o work.limits)) (sym last)
+    (live_behind work c.args.self.progress c.args.self.histories (omega (arith, above))
+    c.is_sound.ensures.come)
 
 pub returns-in-Ok-results-clause-ended : goal.returns-in-Ok-results-clause-ended
 returns-in-Ok-results-clause-ended g c =
