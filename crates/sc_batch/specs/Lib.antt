@@ -6,5 +6,6 @@ pub mod Texts
 pub mod Cuts
 pub mod Lists
 pub mod Places
+pub mod Growing
 pub mod IntFolds
 pub mod AtInts

@@ -74,7 +74,7 @@ fn is_a_and_b(args: &[Expr]) -> bool
 }
 
 /// Whether an expression is this variable.
-fn is_variable(expr: &Expr, variable: Variable) -> bool
+pub(crate) fn is_variable(expr: &Expr, variable: Variable) -> bool
     ensures { IsTrue result → expr_data_of expr.now ≡ variable_expr variable }
 {
     match expr {

@@ -12,6 +12,7 @@
 //!
 //! For those who put rows together, [`halves`] lends pairs as two columns, [`int_fold`] says what a
 //! simple expression does with two numbers, and [`int_at`] finds the number that any gives of two.
+//! [`put_next`] puts the next value to one, in place where it is a text that only grows.
 //!
 //! It knows one batch of rows. Which batches there are is chosen by `sc_ops`; below stand the rows
 //! of `sc_columns` and the meaning of `sc_expr`.
@@ -23,6 +24,7 @@ mod choices;
 mod columns;
 mod constants;
 mod evaluation;
+mod growing;
 mod heads;
 mod int_folds;
 mod items;
@@ -39,5 +41,6 @@ mod words;
 
 pub use at_ints::{Stop, TwoInts, int_at};
 pub use evaluation::eval_rows;
+pub use growing::put_next;
 pub use int_folds::{IntFold, int_fold};
 pub use pairs::halves;

@@ -94,6 +94,19 @@ pub put_known : (step : Step) (kept : List Datum) (n : ℕ) (d item : Datum) (o 
 put_known step kept n d item o at is =
     ap (put_beside step kept n item) at ∙ ap (placed kept n) is
 
+-- an item in the place of the one that is there, where the step of the two was answered
+pub put_answered : {X : Type 0} (step : Step) (f : X → Datum) (kept : List X) (n : ℕ) (d next : X)
+    (item : Datum) (result : Result (Unit {0}) (OrMemory Raise))
+    → slice_get (map f kept) n ≡ Some (f d)
+    → Answers {X = Unit {0}} {Y = Datum} (λ u. f next) (λ r. r) result (step (f d) item)
+    → Answers {X = Unit {0}} {Y = List Datum} (λ u. map f (set kept n next)) (λ r. r) result
+    (put_at step (map f kept) n item)
+put_answered step f kept n d next item (Ok u) at is =
+    put_known step (map f kept) n (f d) item (Ok (f next)) at is ∙ ap Ok (sym (map_set f kept n next))
+put_answered step f kept n d next item (Err (Fault r)) at is =
+    put_known step (map f kept) n (f d) item (Err r) at is
+put_answered step f kept n d next item (Err OutOfMemory) at is = tt
+
 -- the same for numbers
 module _ (e : ExprData) (kind : IntFold) (folds : FoldsInts e kind) where
   pub ints_new : (kept after : List ℤ) (n : ℕ) (x : ℤ) → length kept ≤ n → after ≡ kept ++ x ∷ []

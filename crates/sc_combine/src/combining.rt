@@ -10,12 +10,12 @@ ghost use Rattle.sc_lineage.specs.Keyed.{combined as combined_of};
 ghost use Rattle.sc_value.specs.Datum.{number, pair};
 ghost use Rattle.sc_value.specs.Views.{datum_of};
 ghost use Rattle.sc_combine.specs.Combining.{folded_by, put_at, step_of};
-ghost use Rattle.sc_combine.specs.declared.combining.Taken.TheVariants.{Values};
+ghost use Rattle.sc_combine.specs.declared.combining.Taken.TheVariants.{Rows as WholeRows, Values};
 
 use crate::grouping::group;
 use crate::int_folds::fold_as_ints;
 use sc_base::OrMemory;
-use sc_batch::halves;
+use sc_batch::{halves, put_next};
 use sc_columns::{Both, Rows, RowsBuilder};
 use sc_expr::{Env, EvalError, Expr, Raise, eval};
 use sc_value::{Value, copy};
@@ -145,32 +145,40 @@ fn put_item(
         kept.push(item)?;
         return Ok(());
     }
-    let next = together(alloc, expr, taken, &kept[group], &item)?;
-    kept[group] = next;
-    Ok(())
+    put_beside(alloc, expr, taken, &mut kept[group], &item)
 }
 
-/// What an item gives with the next one of its group.
-fn together(
+/// Puts in place of an item what it gives with the next one of its group.
+fn put_beside(
     alloc: Global,
     expr: &Expr,
     taken: Taken,
-    kept: &Value,
+    kept: &mut Value,
     next: &Value,
-) -> Result<Value, EvalError>
-    ensures { Answers datum_of (λ r. r) result
-        (step_of taken (expr_data_of expr.now) (datum_of kept.now) (datum_of next.now)) }
+) -> Result<(), EvalError>
+    ensures { Answers (λ _. datum_of kept.new) (λ r. r) result
+        (step_of taken (expr_data_of expr.now) (datum_of kept.old) (datum_of next.now)) }
 {
     match taken {
-        Taken::Values => eval(alloc, expr, Env::Two(kept, next)),
+        Taken::Values => put_next(alloc, expr, kept, next),
         Taken::Rows => {
-            let first = second_of(alloc, kept)?;
-            let second = second_of(alloc, next)?;
-            let value = eval(alloc, expr, Env::Two(&first, &second))?;
-            let key = first_of(alloc, kept)?;
-            Ok(pair_of(alloc, key, value)?)
+            let row = row_together(alloc, expr, kept, next)?;
+            *kept = row;
+            Ok(())
         }
     }
+}
+
+/// The row that two rows of one key give together.
+fn row_together(alloc: Global, expr: &Expr, kept: &Value, next: &Value) -> Result<Value, EvalError>
+    ensures { Answers datum_of (λ r. r) result
+        (step_of WholeRows (expr_data_of expr.now) (datum_of kept.now) (datum_of next.now)) }
+{
+    let first = second_of(alloc, kept)?;
+    let second = second_of(alloc, next)?;
+    let value = eval(alloc, expr, Env::Two(&first, &second))?;
+    let key = first_of(alloc, kept)?;
+    Ok(pair_of(alloc, key, value)?)
 }
 
 /// A pair of two values.

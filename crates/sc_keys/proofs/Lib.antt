@@ -6,5 +6,6 @@ pub mod ViewLemmas
 pub mod LentLemmas
 pub mod LawLemmas
 pub mod GroupLemmas
+pub mod CodeLemmas
 pub mod KeyLemmas
 pub mod OrderLemmas

@@ -1,4 +1,5 @@
 pub mod Keyed
+pub mod Codes
 pub mod Groups
 pub mod Splits
 pub mod Laws

@@ -1,13 +1,15 @@
 //! The groups of rows of one key.
 #![tactic(auto)]
 
-ghost use Rattle.std.specs.Prelude.{◌≡◌, IfOk, map};
+ghost use Rattle.std.specs.Prelude.{◌≡◌, ◌≤◌, IfOk, length, map};
 ghost use Rattle.std.specs.Ordering.{int_eq};
 ghost use Rattle.std.specs.Str.{bytes_eq};
+ghost use Rattle.sc_base.specs.Limits.{count_limit};
 ghost use Rattle.sc_keys.specs.Groups.{AreGroups};
 ghost use Rattle.sc_part.specs.Bounds.{is_same_key};
 ghost use Rattle.sc_value.specs.Views.{key_data_of};
 
+use crate::codes::{are_short, coded};
 use crate::keyed::Keys;
 use crate::lending::{LentKey, lent};
 use indexmap::IndexSet;
@@ -68,6 +70,33 @@ fn group_texts(alloc: Global, keys: &Texts) -> Result<Groups, AllocError>
     if keys.len() > COUNT_LIMIT {
         return Err(AllocError);
     }
+    if are_short(keys) {
+        group_coded(alloc, keys)
+    } else {
+        group_slices(alloc, keys)
+    }
+}
+
+/// The groups of texts, most of which are short: the table has their bytes as numbers.
+fn group_coded(alloc: Global, keys: &Texts) -> Result<Groups, AllocError>
+    requires { length keys.now ≤ count_limit }
+    ensures { IfOk result (λ g. AreGroups bytes_eq keys.now g.numbers.items g.count) }
+{
+    let mut known: IndexSet<(u128, &[u8])> = IndexSet::new(alloc);
+    let mut numbers = Vec::with_capacity(alloc, keys.len())?;
+    for i in 0..keys.len() {
+        let (group, _) = known.insert_full(coded(keys.get(i)))?;
+        numbers.push(group as u32)?;
+    }
+    let count = known.len() as u32;
+    Ok(Groups { numbers, count })
+}
+
+/// The groups of texts of any length.
+fn group_slices(alloc: Global, keys: &Texts) -> Result<Groups, AllocError>
+    requires { length keys.now ≤ count_limit }
+    ensures { IfOk result (λ g. AreGroups bytes_eq keys.now g.numbers.items g.count) }
+{
     let mut known: IndexSet<&str> = IndexSet::new(alloc);
     let mut numbers = Vec::with_capacity(alloc, keys.len())?;
     for i in 0..keys.len() {

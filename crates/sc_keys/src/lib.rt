@@ -18,6 +18,7 @@
 #![tactic(auto)]
 
 mod buckets;
+mod codes;
 mod cuts;
 mod grouping;
 mod keyed;

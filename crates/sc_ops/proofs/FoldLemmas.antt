@@ -79,6 +79,14 @@ pub Answers-stopped : (is whole : Outcome) (error : OrMemory Raise)
 Answers-stopped is whole (Fault r) stops answered = stops r answered
 Answers-stopped is whole OutOfMemory stops answered = tt
 
+-- the same where the part is put in place
+pub Answers-stopped_in : (put : Value) (is whole : Outcome) (error : OrMemory Raise)
+    → ((r : Raise) → is ≡ Err r → whole ≡ Err r)
+    → Answers {X = Unit {0}} {Y = Datum} (λ u. datum_of put) (λ r. r) (Err error) is
+    → Answers {X = Value} {Y = Datum} datum_of (λ r. r) (Err error) whole
+Answers-stopped_in put is whole (Fault r) stops answered = stops r answered
+Answers-stopped_in put is whole OutOfMemory stops answered = tt
+
 datum_of-Int : (n : ℤ) → datum_of (values.Int n) ≡ number n
 datum_of-Int n =
     ap datum_of (sym (values.rolls-Int n)) ∙ fold-roll-Value Datum datum_step (value_layers.Int n)

@@ -32,7 +32,7 @@ pub fn each_stream(
     if rows.len() <= BATCH_ROWS {
         return each_batch(alloc, kind, expr, &rows.joined(alloc)?, input.raise);
     }
-    let batches = batches(alloc, rows, rows_at_once(kind, expr))?;
+    let batches = batches(alloc, rows, rows_at_once(expr))?;
     let mut out = RowsBuilder::new(alloc);
     for i in 0..batches.len() {
         let given = each_batch(alloc, kind, expr, &batches[i], None)?;
@@ -46,26 +46,12 @@ pub fn each_stream(
 
 /// How many rows are taken at a time: many where each goes through one head, which makes no column
 /// in between.
-fn rows_at_once(kind: Elementwise, expr: &Expr) -> usize
+fn rows_at_once(expr: &Expr) -> usize
     ensures { 0 < result }
 {
-    match kind {
-        Elementwise::Map => {
-            if is_nested(expr) {
-                BATCH_ROWS
-            } else {
-                RUN_ROWS
-            }
-        }
-        _ => BATCH_ROWS,
-    }
-}
-
-/// Whether an expression calls a head with what another one gives.
-fn is_nested(expr: &Expr) -> bool {
     match expr {
-        Expr::Call(_, args) => args.iter().any(|arg| is_call(arg)),
-        _ => false,
+        Expr::Call(_, args) if args.iter().any(|arg| is_call(arg)) => BATCH_ROWS,
+        _ => RUN_ROWS,
     }
 }
 

@@ -13,9 +13,9 @@ use crate::batches::{BATCH_ROWS, batches};
 use crate::int_folds::fold_as_ints;
 use crate::streams::ended;
 use sc_base::OrMemory;
-use sc_batch::Stop;
+use sc_batch::{Stop, put_next};
 use sc_columns::{Rows, RowsBuilder};
-use sc_expr::{Env, EvalError, Expr, Raise, eval};
+use sc_expr::{EvalError, Expr, Raise};
 use sc_lineage::Stream;
 use sc_value::Value;
 use std::alloc::{AllocError, Global};
@@ -104,7 +104,7 @@ fn fold_each(alloc: Global, expr: &Expr, value: Value, rows: &Rows) -> Result<Va
     let mut value = value;
     for i in 0..rows.len() {
         let row = rows.row(alloc, i)?;
-        value = eval(alloc, expr, Env::Two(&value, &row))?;
+        put_next(alloc, expr, &mut value, &row)?;
     }
     Ok(value)
 }

@@ -1,6 +1,7 @@
 pub mod OrderLemmas
 pub mod SortLemmas
 pub mod PlaceLemmas
+pub mod FrontLemmas
 pub mod PairLemmas
 pub mod BoundLemmas
 mod RangeLemmas

@@ -13,6 +13,7 @@
 #![tactic(auto)]
 
 mod ends;
+mod fronts;
 mod laws;
 mod ranges;
 mod sorting;

@@ -1,6 +1,6 @@
 use Rattle.std.proofs.Common.{◌≡◌, ◌≤◌, length, map, take, bytes_eq}
 use Rattle.sc_keys.specs.Groups.{distinct, groups}
-use Rattle.sc_keys.proofs.grouping.group_texts.Given as goal
+use Rattle.sc_keys.proofs.grouping.group_slices.Given as goal
 
 abbrev pub invariant-loop-i : goal.invariant-loop-i
 invariant-loop-i l = record {

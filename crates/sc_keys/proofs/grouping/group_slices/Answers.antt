@@ -4,7 +4,7 @@ use Rattle.std.proofs.lemmas.Cmp.{nat_list_eq_equiv}
 use Rattle.std.proofs.lemmas.Option.{get_or_from_slice_get}
 use Rattle.sc_keys.proofs.GroupLemmas.{are_groups, groups_more, grows_by}
 use Rattle.sc_keys.proofs.ViewLemmas.{place-map, with_key-map}
-use Rattle.sc_keys.proofs.grouping.group_texts.Goals as goal
+use Rattle.sc_keys.proofs.grouping.group_slices.Goals as goal
 
 abbrev bytes_of : Bor (List ℕ) → List ℕ
 bytes_of t = t.now
