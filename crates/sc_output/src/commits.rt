@@ -33,10 +33,8 @@ pub fn commit_job<F: Files>(
     ensures calls { MakesCalls (commit_calls dir.now winners.now)
         (F.state files.old) (F.state files.new) result }
 {
-    match rename_parts(alloc, files, dir, winners) {
-        Ok(()) => finish(alloc, files, dir),
-        Err(fault) => Err(fault),
-    }
+    rename_parts(alloc, files, dir, winners)?;
+    finish(alloc, files, dir)
 }
 
 /// Aborts a job: removes the staging area with all that attempts wrote, and leaves the directory.
@@ -63,10 +61,7 @@ fn rename_parts<F: Files>(
         (F.state files.old) (F.state files.new) result }
 {
     for winner in winners {
-        match rename_part(alloc, files, dir, *winner) {
-            Ok(()) => {}
-            Err(fault) => return Err(fault),
-        }
+        rename_part(alloc, files, dir, *winner)?;
     }
     Ok(())
 }
@@ -98,10 +93,8 @@ fn finish<F: Files>(alloc: Global, files: &mut F, dir: &Name) -> Result<(), OrMe
         (remove_call (staging_path dir.now) ∷ write_call (success_path dir.now) [] ∷ [])
         (F.state files.old) (F.state files.new) result }
 {
-    match remove_staging(alloc, files, dir) {
-        Ok(()) => write_success(alloc, files, dir),
-        Err(fault) => Err(fault),
-    }
+    remove_staging(alloc, files, dir)?;
+    write_success(alloc, files, dir)
 }
 
 /// Removes the staging area.

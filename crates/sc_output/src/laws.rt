@@ -10,9 +10,7 @@ use sc_ids::AttemptId;
 /// What a commit needs to know of the numbers of each winner. A call does nothing.
 pub fn is_within_types(attempt: AttemptId)
     ensures { IsWithinTypes attempt }
-{
-    let _ = attempt;
-}
+{}
 
 /// The laws of names: which differ, and which directories they lie in. A call does nothing.
 pub fn laws_of_names()
