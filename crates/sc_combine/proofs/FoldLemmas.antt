@@ -102,7 +102,8 @@ pub put_answered : {X : Type 0} (step : Step) (f : X → Datum) (kept : List X) 
     → Answers {X = Unit {0}} {Y = List Datum} (λ u. map f (set kept n next)) (λ r. r) result
     (put_at step (map f kept) n item)
 put_answered step f kept n d next item (Ok u) at is =
-    put_known step (map f kept) n (f d) item (Ok (f next)) at is ∙ ap Ok (sym (map_set f kept n next))
+    put_known step (map f kept) n (f d) item (Ok (f next)) at is
+    ∙ ap Ok (sym (map_set f kept n next))
 put_answered step f kept n d next item (Err (Fault r)) at is =
     put_known step (map f kept) n (f d) item (Err r) at is
 put_answered step f kept n d next item (Err OutOfMemory) at is = tt

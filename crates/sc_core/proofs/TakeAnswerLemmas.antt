@@ -42,7 +42,8 @@ set_offers d s exec now sound (Some set) e =
 
     by : (o : Option TaskData)
         → offered_task set.is_zombie set.limits.speculation (is_slow set now) exec set.tasks ≡ o
-        → ((g : GivenTask) × OffersIn (Some set) exec now (Some g)) ⊎ OffersIn (Some set) exec now None
+        → ((g : GivenTask) × OffersIn (Some set) exec now (Some g))
+        ⊎ OffersIn (Some set) exec now None
     by None f = inr (offers_nothing set exec now f)
     by (Some t) f = inl (offer_of t, offers_task set exec now t rising f)
 
@@ -105,7 +106,8 @@ takes_there waits c exec sound = runs (job_runs c) refl
     There : Type 0
     There = (answer : Answer) × (after : CoreData) × Takes c exec answer after
 
-    under : IsAsking c exec → HasNone c.dag exec c.now → (o : Option AttemptId) → under_way c ≡ o → There
+    under : IsAsking c exec → HasNone c.dag exec c.now → (o : Option AttemptId) → under_way c ≡ o
+        → There
     under asks none None e = absurd (waits c exec sound asks.runs none e)
     under asks none (Some out) e = (says.Wait out, c, (asks, none, e, refl))
 
@@ -121,8 +123,8 @@ takes_there waits c exec sound = runs (job_runs c) refl
       (a, asks, o, grind (arith, nat_tests, e), refl),
     )
 
-    asking : IsAsking c exec → ((a : AttemptId) × IsOffer c.dag exec c.now a) ⊎ HasNone c.dag exec c.now
-        → There
+    asking : IsAsking c exec
+        → ((a : AttemptId) × IsOffer c.dag exec c.now a) ⊎ HasNone c.dag exec c.now → There
     asking asks (inl (a, o)) = gives asks a o (nat_lt c.handed c.dag.limits.hand_outs) refl
     asking asks (inr none) = under asks none (under_way c) refl
 

@@ -89,6 +89,7 @@ held_runs c s p sound h =
 pub waits_by : NothingIsStuck → WaitsHaveCause
 waits_by stuck c exec sound runs none =
     let goes = sound.job.goes_on runs in
-    let held = stuck c.dag (result_stage c.dag) exec c.now sound.job.dag goes.settled goes.result none in
+    let held =
+    stuck c.dag (result_stage c.dag) exec c.now sound.job.dag goes.settled goes.result none in
     let a = held_runs c held.0 held.1 sound.job held.2 in
     out_there c a.0 (sound.shelf runs).out a.1

@@ -21,8 +21,8 @@ use std::alloc::{AllocError, AllocFailed, Global};
 impl<W: Naming> Desk<W> {
     /// The desk of a job that begins, behind what goes on from the jobs before and behind the core
     /// of the last of them or none, where somebody is live. Its core is opened under the fault plan
-    /// of the work. Where memory is wanting, what goes on is handed back, with the new stages of the
-    /// job or without them.
+    /// of the work. Where memory is wanting, what goes on is handed back, with the new stages of
+    /// the job or without them.
     pub fn begin(
         alloc: Global,
         work: SharedWork<W>,

@@ -40,7 +40,8 @@ codes_tell s t p q =
     let rests = bytes_eq (drop 14 s) (drop 14 t) in
     same_from_decides (fronts && rests) (bytes_eq s t)
     (Decides-like (fronts && rests)
-    (λ e. sym (take-append-drop 14 s) ∙ ap₂ (λ a b. a ++ b) (one_text (take 14 s) (take 14 t) p q e.0) e.1
+    (λ e. sym (take-append-drop 14 s)
+    ∙ ap₂ (λ a b. a ++ b) (one_text (take 14 s) (take 14 t) p q e.0) e.1
     ∙ take-append-drop 14 t)
     (λ e. (ap (λ u. code (take 14 u)) e, ap (drop 14) e))
     (Decides-and fronts rests (Decides-eqb (code (take 14 s)) (code (take 14 t)))
@@ -114,7 +115,8 @@ room zero = 1
 room (suc n) = 512 * room n
 
 pub room_grows : (n k : ℕ) → room n ≤ room (k + n)
-room_grows n zero = let e : zero + n ≡ n = omega arith in subst (λ m. room n ≤ room m) (sym e) (omega arith)
+room_grows n zero =
+    let e : zero + n ≡ n = omega arith in subst (λ m. room n ≤ room m) (sym e) (omega arith)
 room_grows n (suc k) =
     let e : suc k + n ≡ suc (k + n) = omega arith in
     let less = room_grows n k in

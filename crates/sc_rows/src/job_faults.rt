@@ -1,5 +1,5 @@
-//! Jobs under fault plans: reports that come late or twice, executors that are told lost, those that
-//! leave early, and attempts that are slow.
+//! Jobs under fault plans: reports that come late or twice, executors that are told lost, those
+//! that leave early, and attempts that are slow.
 #![tactic(auto)]
 
 use crate::transcripts::assert_jobs;

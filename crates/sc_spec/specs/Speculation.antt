@@ -18,7 +18,8 @@ run_time started now = now - started
 abbrev pub has_run_long : List ℕ → ℕ → Bool
 has_run_long durations run = nat_lt (max (3 * median durations) 200) (2 * run)
 
--- an attempt of a set of so many tasks, whose successes took these sorted durations, is speculatable
+-- An attempt of a set of so many tasks, whose successes took these sorted durations, is worth a
+-- second one.
 abbrev pub is_speculatable : List ℕ → ℕ → ℕ → ℕ → Bool
 is_speculatable durations tasks started now =
     nat_le (successes_wanted tasks) (length durations)

@@ -52,7 +52,8 @@ IsMapStage work numbers n stage =
 
 -- The stages of a job that begins at a node: a map stage for each shuffle that the node reaches,
 -- in the order of their numbers, and then the result stage, with a task for each partition of the
--- node. The parents of each are in the order of (node, side), whichever job gave them their numbers.
+-- node. The parents of each are in the order of (node, side), whichever job gave them their
+-- numbers.
 pub record IsCut (work : WorkData) (carried : CarriedData) (node : ℕ) (graph : List StageData)
     : Type 0 where
   pub numbers : List Numbered

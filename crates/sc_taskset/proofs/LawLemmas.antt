@@ -78,7 +78,8 @@ account_kept s exec partition now may =
   where
     by : (z : Bool) (o : Option TaskData)
         → ((not z && is_there_and is_pending_task o)
-        || (s.limits.speculation && (not z && is_there_and (is_copyable_task (is_slow s now) exec) o))) ≡ true
+        || (s.limits.speculation
+        && (not z && is_there_and (is_copyable_task (is_slow s now) exec) o))) ≡ true
         → given_in (option_map (handed_task exec now) o)
         + cond z 0 (left_in (option_map (handed_task exec now) o))
         ≡ given_in o + cond z 0 (left_in o)

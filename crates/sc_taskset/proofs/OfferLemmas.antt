@@ -20,26 +20,29 @@ offer_of t = record { partition = t.partition; nth = t.given }
 -- nothing is there where no task is offered
 pub offers_nothing :
     (s : TaskSetData) (exec now : ℕ)
-    → offered_task s.is_zombie s.limits.speculation (is_slow s now) exec s.tasks ≡ None → Offers s exec now None
+    → offered_task s.is_zombie s.limits.speculation (is_slow s now) exec s.tasks ≡ None
+    → Offers s exec now None
 offers_nothing s exec now none = by s.is_zombie s.limits.speculation none
   where
-    pend : ℕ → Bool
-    pend p = is_there_and is_pending_task (task_at p s.tasks)
+    copyable : TaskData → Bool
+    copyable = is_copyable_task (is_slow s now) exec
+
+    copies : Option TaskData → Bool
+    copies = is_there_and (is_copyable_task (is_slow s now) exec)
 
     by : (z c : Bool) → offered_task z c (is_slow s now) exec s.tasks ≡ None
         → ((p : ℕ) → (not z && is_there_and is_pending_task (task_at p s.tasks)) ≡ false)
-        × ((p : ℕ)
-        → (c && (not z && is_there_and (is_copyable_task (is_slow s now) exec) (task_at p s.tasks))) ≡ false)
+        × ((p : ℕ) → (c && (not z && copies (task_at p s.tasks))) ≡ false)
     by true true n = (λ p. refl, λ p. refl)
     by true false n = (λ p. refl, λ p. refl)
     by false c n = or (find is_pending_task s.tasks) refl c n
       where
         or : (o : Option TaskData) → find is_pending_task s.tasks ≡ o → (d : Bool)
-            → option_or o (cond d (find (is_copyable_task (is_slow s now) exec) s.tasks) None) ≡ None
+            → option_or o (cond d (find copyable s.tasks) None) ≡ None
             → ((p : ℕ) → is_there_and is_pending_task (task_at p s.tasks) ≡ false)
-            × ((p : ℕ) → (d && is_there_and (is_copyable_task (is_slow s now) exec) (task_at p s.tasks)) ≡ false)
+            × ((p : ℕ) → (d && copies (task_at p s.tasks)) ≡ false)
         or None e true m =
-            (none_found is_pending_task s.tasks e, none_found (is_copyable_task (is_slow s now) exec) s.tasks m)
+            (none_found is_pending_task s.tasks e, none_found copyable s.tasks m)
         or None e false m = (none_found is_pending_task s.tasks e, λ p. refl)
         or (Some t) e d m = absurd (search (rules, m))
 
@@ -54,7 +57,8 @@ offers_task s exec now t rising some = by s.is_zombie s.limits.speculation some
     pends z p = not z && is_there_and is_pending_task (task_at p s.tasks)
 
     copies : Bool → Bool → ℕ → Bool
-    copies z c p = c && (not z && is_there_and (is_copyable_task (is_slow s now) exec) (task_at p s.tasks))
+    copies z c p =
+        c && (not z && is_there_and (is_copyable_task (is_slow s now) exec) (task_at p s.tasks))
 
     Next : Bool → Bool → Type 0
     Next z c =
@@ -75,7 +79,8 @@ offers_task s exec now t rising some = by s.is_zombie s.limits.speculation some
     by false c e = or (find is_pending_task s.tasks) refl c e
       where
         or : (o : Option TaskData) → find is_pending_task s.tasks ≡ o → (d : Bool)
-            → option_or o (cond d (find (is_copyable_task (is_slow s now) exec) s.tasks) None) ≡ Some t
+            → option_or o (cond d (find (is_copyable_task (is_slow s now) exec) s.tasks) None)
+            ≡ Some t
             → Next false d
         or None e true m =
             let g = smallest (is_copyable_task (is_slow s now) exec) m in
@@ -109,7 +114,8 @@ joins_given s exec now partition may = by (task_at partition s.tasks) may
   where
     by : (o : Option TaskData)
         → ((not s.is_zombie && is_there_and is_pending_task o)
-        || (s.limits.speculation && (not s.is_zombie && is_there_and (is_copyable_task (is_slow s now) exec) o)))
+        || (s.limits.speculation
+        && (not s.is_zombie && is_there_and (is_copyable_task (is_slow s now) exec) o)))
         ≡ true → IfSome o (λ t. may_join exec t ≡ true)
     by None m = tt
     by (Some t) m = task_joins (is_slow s now) exec t s.is_zombie s.limits.speculation m

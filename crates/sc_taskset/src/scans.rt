@@ -72,7 +72,8 @@ pub fn offered(
     pace: Pace<'_>,
 ) -> Option<Row>
     ensures { (failures : List Failure) → option_map (task_of failures) result
-        ≡ offered_task is_zombie speculation (slow_at pace.entry) exec (tasks_of failures rows.now) }
+        ≡ offered_task is_zombie speculation (slow_at pace.entry) exec
+        (tasks_of failures rows.now) }
 {
     if is_zombie {
         return None;

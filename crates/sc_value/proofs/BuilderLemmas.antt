@@ -15,7 +15,8 @@ pub record AreAddedTo (old texts now : List (List ℕ)) (open_text : List ℕ) (
   pub within : taken ≤ count_limit
 
 -- the first of some texts have no more bytes than all
-take_length : (i : ℕ) (texts : List (List ℕ)) → length (concat (take i texts)) ≤ length (concat texts)
+take_length : (i : ℕ) (texts : List (List ℕ))
+    → length (concat (take i texts)) ≤ length (concat texts)
 take_length zero texts = omega arith
 take_length (suc i) [] = omega arith
 take_length (suc i) (t ∷ texts) =

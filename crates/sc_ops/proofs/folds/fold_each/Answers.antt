@@ -15,7 +15,8 @@ returns-in_err-put_next c =
     let p = err_from_is_err_and c.from_residual-in_err-put_next.result
     c.from_residual-in_err-put_next.ensures.1 in
     rw (p.1, p.2)
-    (Answers-stopped_in c.put_next.new.kept (value_of_expr (two_values a d) e) (folded e (datum_of c.args.value) rows)
+    (Answers-stopped_in c.put_next.new.kept (value_of_expr (two_values a d) e)
+    (folded e (datum_of c.args.value) rows)
     c.in_err-put_next.field-0.0
     (λ r is. folded-raised e a (datum_of c.args.value) rows c.loop-i.i d r c.in_ok-row.ensures is
     c.loop-i.invariant)
@@ -25,5 +26,6 @@ pub loop-i-preserved : goal.loop-i-preserved
 loop-i-preserved c =
     folded-more (expr_data_of c.args.expr.now) (datum_of c.loop-i.value)
     (datum_of c.put_next.new.kept) (datum_of c.args.value)
-    c.args.rows.now c.loop-i.i (datum_of c.in_ok-row.row) c.in_ok-row.ensures c.in_ok-put_next.ensures
+    c.args.rows.now c.loop-i.i (datum_of c.in_ok-row.row) c.in_ok-row.ensures
+    c.in_ok-put_next.ensures
     c.loop-i.invariant

@@ -13,8 +13,10 @@ pub returns : goal.returns
 returns c = λ failures.
     ap (option_map (task_of failures))
     (c.copied.ensures
-    ∙ find_from_yields_List (λ r. is_copyable_task (slow_at c.args.pace) c.args.exec (task_of [] r)) _ _ _
+    ∙ find_from_yields_List
+    (λ r. is_copyable_task (slow_at c.args.pace) c.args.exec (task_of [] r)) _ _ _
     c.find.ensures.ran
     (YieldsList-from_slice c.args.rows.now cc) (λ x b q k. search (rules, tests)))
-    ∙ find_viewed (task_of failures) (λ r. is_copyable_task (slow_at c.args.pace) c.args.exec (task_of [] r))
+    ∙ find_viewed (task_of failures)
+    (λ r. is_copyable_task (slow_at c.args.pace) c.args.exec (task_of [] r))
     (is_copyable_task (slow_at c.args.pace) c.args.exec) (λ r. refl) c.args.rows.now
