@@ -1,5 +1,5 @@
 -- What the tasks of an action hand over, by the rows of their partitions.
-use Rattle.std.specs.Prelude.{ℕ, ◌≡◌, List, length, map, replicate}
+use Rattle.std.specs.Prelude.{◌≡◌, List, length, map, replicate}
 use Rattle.sc_value.specs.Datum.{Datum, group, no_items}
 use Rattle.sc_lineage.specs.Actions.{local_results}
 use Rattle.sc_lineage.specs.ScriptData.{ActionData, WorkData, collect_action, count_action, reduce_action}

@@ -1,5 +1,5 @@
 -- Somebody is live behind jobs that are done.
-use Rattle.std.proofs.Common.{◌≡◌, ◌≢◌, ℕ, ◌<◌, List, [], ◌∷◌, Option, Some, None, subst, sym, ap, ◌∙◌, rules}
+use Rattle.std.proofs.Common.{◌≡◌, ◌≢◌, ◌<◌, List, [], ◌∷◌, Option, subst, sym, ap, rules}
 use Rattle.sc_lineage.specs.ScriptData.{WorkData}
 use Rattle.sc_core.specs.CoreData.{CoreData}
 use Rattle.sc_core.specs.Openings.{tracker_behind}

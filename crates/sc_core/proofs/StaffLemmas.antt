@@ -7,7 +7,7 @@ use Rattle.sc_tracker.specs.declared.trust.Trust.{Trust}
 use Rattle.sc_dag.proofs.Tests.{clash}
 use Rattle.sc_core.specs.CoreData.{CoreData, is_running_job, job_runs}
 use Rattle.sc_core.specs.Laws.{FirstHasLive}
-use Rattle.sc_core.specs.Sound.{HasLive, IsLive, IsSoundCore}
+use Rattle.sc_core.specs.Sound.{HasLive, IsSoundCore}
 use Rattle.sc_core.specs.Takes.{is_lost}
 use Rattle.sc_core.specs.declared.answers.Abort.{Abort}
 use Rattle.sc_core.specs.declared.answers.Abort.TheVariants.{NoExecutor}

@@ -2,7 +2,7 @@
 use Rattle.std.proofs.Common.{◌≡◌, inl, inr, ℕ, nat_lt, Bool, true, false, Option, Some, None, refl, ap, sym, subst, ◌∙◌, arith, rules}
 use Rattle.std.proofs.lemmas.Bool.Decides.{nat_tests}
 use Rattle.sc_ids.specs.declared.attempts.AttemptId.{AttemptId}
-use Rattle.sc_taskset.specs.Offers.{IsNever, IsNext, IsSmallest, Offers, is_copyable, is_pending}
+use Rattle.sc_taskset.specs.Offers.{IsNext, IsSmallest, is_copyable, is_pending}
 use Rattle.sc_taskset.specs.Offers as taskset
 use Rattle.sc_taskset.specs.TaskSetData.{TaskSetData}
 use Rattle.sc_taskset.specs.declared.tasks.GivenTask.{GivenTask}

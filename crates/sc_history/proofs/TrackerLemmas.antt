@@ -16,7 +16,7 @@ use Rattle.sc_tracker.specs.Trust.{is_live, is_newer}
 use Rattle.sc_dag.specs.DagData.{DagData, stage_at}
 use Rattle.sc_dag.specs.Losses.{after_lost, after_seen}
 use Rattle.sc_dag.specs.Outputs.{is_complete}
-use Rattle.sc_dag.specs.Reports.{FailsStage, after_failed, after_map_success, block_by, ended_in_own, is_finished_short, is_of_newest, is_repeat, map_success_of, reaches_limit_in, registered_by, result_success_of, set_of, succeeded_in_both, succeeded_in_own, with_output}
+use Rattle.sc_dag.specs.Reports.{FailsStage, after_failed, after_map_success, block_by, ended_in_own, is_finished_short, is_of_newest, is_repeat, map_success_of, reaches_limit_in, registered_by, set_of, succeeded_in_both, succeeded_in_own, with_output}
 use Rattle.sc_dag.specs.Submission.{is_map}
 use Rattle.sc_dag.specs.declared.reports.Success.{Success}
 use Rattle.sc_dag.specs.declared.reports.Success.TheVariants as successes
@@ -28,7 +28,7 @@ use Rattle.sc_core.specs.Sides.{StepsAside}
 use Rattle.sc_core.specs.Sound.{IsSoundCore}
 use Rattle.sc_core.specs.Steps.{Steps}
 use Rattle.sc_core.specs.Takes.{Takes}
-use Rattle.sc_core.specs.Tells.{FailsBy, FailsOrAborts, FollowsUp, IsGone, LooksAgain, Misses, MissesIf, Tells, TellsFailure, TellsFailureIf, TellsMap, TellsResult, after_failure, after_result, done_if, is_zombie_in, released, with_result_of}
+use Rattle.sc_core.specs.Tells.{FailsBy, FailsOrAborts, FollowsUp, IsGone, LooksAgain, Misses, MissesIf, Tells, TellsFailure, TellsFailureIf, TellsMap, after_failure, is_zombie_in}
 use Rattle.sc_core.specs.declared.answers.Answer.{Answer}
 use Rattle.sc_core.specs.declared.events.Event.{Event}
 use Rattle.sc_core.specs.declared.events.Event.TheVariants.{Post, Release, Side, Take, TellLost}
@@ -45,7 +45,7 @@ use Rattle.sc_history.specs.Trackers.{EpochsCount, LosesOne, RegistersOwn, SeesN
 use Rattle.sc_history.proofs.CauseCases.{CauseIs, cause_is, gone_reaches_none, tells_heard}
 use Rattle.sc_history.proofs.Events.{Comes, IsHeard, IsKnown, losses_come, posts_come, releases_come}
 use Rattle.sc_history.proofs.RoomLemmas.{all_tracker, released_tracker, results_same}
-use Rattle.sc_history.proofs.StageRoomLemmas.{both_tracker, result_tracker}
+use Rattle.sc_history.proofs.StageRoomLemmas.{both_tracker}
 
 -- ---- stages
 

@@ -1,5 +1,5 @@
 -- Reports, and when they are true.
-use Rattle.std.specs.Prelude.{ℕ, ◌≡◌, ◌<◌, Bool, true, false, List, Option, Some, None, All, Contains, refl}
+use Rattle.std.specs.Prelude.{ℕ, ◌≡◌, ◌<◌, true, false, Option, Some, None, All, Contains, refl}
 use Rattle.std.specs.Coded.{Coded, code_by, coded×}
 use Rattle.sc_expr.specs.declared.exprs.Raise.{Raise}
 use Rattle.sc_ids.specs.declared.blocks.BlockId.{BlockId}

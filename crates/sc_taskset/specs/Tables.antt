@@ -1,5 +1,5 @@
 -- What is known of all rows of a set without a search.
-use Rattle.std.specs.Prelude.{ℕ, ◌≡◌, ◌<◌, Bool, false, not, List, [], Some, count_by, get_or}
+use Rattle.std.specs.Prelude.{ℕ, ◌≡◌, ◌<◌, Bool, false, not, List, [], count_by, get_or}
 use Rattle.std.specs.List.{position_or_len}
 use Rattle.sc_taskset.specs.declared.rows.Row.{Row}
 use Rattle.sc_taskset.specs.Lookups.{is_finish}

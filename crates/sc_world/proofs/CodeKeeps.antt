@@ -1,5 +1,5 @@
 -- What every world keeps, it keeps over the steps that calls do.
-use Rattle.std.proofs.Common.{◌≡◌, ℕ, ◌<◌, true, false, List, Option, Some, None, Result, Ok, Err, IfOk, IfSome, OnErr, OnOk, length, slice_get, refl, ap, ap₂, sym, subst, ◌∙◌, ◌≤◌, arith, rules}
+use Rattle.std.proofs.Common.{◌≡◌, ℕ, ◌<◌, true, false, List, Option, Some, None, Result, Ok, Err, IfOk, IfSome, OnErr, OnOk, length, refl, ap, ap₂, sym, subst, ◌∙◌, ◌≤◌, arith, rules}
 use Rattle.sc_base.specs.Lists.{at_or}
 use Rattle.sc_ids.specs.Changes.{change_at}
 use Rattle.sc_ids.specs.declared.attempts.Mark.{Mark}
@@ -18,7 +18,6 @@ use Rattle.sc_net.specs.Tasks.{TaskData}
 use Rattle.sc_net.specs.declared.findings.Finding.{Finding}
 use Rattle.sc_net.specs.declared.findings.Finding.TheVariants as findings
 use Rattle.sc_task.specs.Attempts.{AttemptData, assigned, computed, reported, stored}
-use Rattle.sc_task.specs.Nexts.{next_of}
 use Rattle.sc_desk.specs.DeskData.{DeskData, core_of}
 use Rattle.sc_desk.specs.Dues.{IsEarly, IsInTime, IsOrdered, wipes_due}
 use Rattle.sc_desk.specs.Orders.{IsDueAmong}
@@ -34,7 +33,6 @@ use Rattle.sc_world.specs.Places.{ComputesAmong, EvictsAmong, IsReceived, PutsAm
 use Rattle.sc_core.specs.Openings.{IsOpening}
 use Rattle.sc_core.specs.Sound.{IsSoundCore}
 use Rattle.sc_world.specs.Runs.{AreReady, HasBegun, IsWorld, idle_world}
-use Rattle.sc_world.specs.Steps.{phase_of}
 use Rattle.sc_world.specs.WorldData.{WorldData, core_in, held_at, world_data}
 use Rattle.sc_world.specs.declared.steps.Applied.TheVariants as applied
 use Rattle.sc_world.specs.declared.steps.Step.TheVariants as steps

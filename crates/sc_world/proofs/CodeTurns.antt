@@ -1,13 +1,12 @@
 -- What turns leave: who rests, and how much is left to do.
-use Rattle.std.proofs.Common.{◌≡◌, ◌≢◌, inl, inr, ℕ, zero, suc, ◌+◌, ◌-◌, ◌<◌, ◌≤◌, ◌==◌, ◌&&◌, All, Bool, true, false, not, Contains, List, [], ◌∷◌, Option, Some, None, IfSome, cond, get_or, is_some, length, nat_le, slice_get, refl, ap, sym, subst, ◌∙◌, arith, rules, true≢false}
-use Rattle.std.specs.List.{find, list_any}
+use Rattle.std.proofs.Common.{◌≡◌, ◌≢◌, inl, inr, ℕ, ◌+◌, ◌-◌, ◌<◌, ◌≤◌, ◌==◌, ◌&&◌, Bool, true, false, not, Contains, List, [], ◌∷◌, Option, Some, None, IfSome, cond, get_or, is_some, length, nat_le, slice_get, refl, ap, sym, subst, ◌∙◌, arith, rules}
+use Rattle.std.specs.List.{find}
 use Rattle.std.specs.Option.{option_map}
 use Rattle.std.proofs.lemmas.Bool.Decides.{nat_tests}
 use Rattle.std.proofs.lemmas.List.Elements.{All-contains_itself}
 use Rattle.std.proofs.lemmas.List.Folds.{list_any_none}
 use Rattle.std.proofs.lemmas.Option.{slice_get_within}
 use Rattle.sc_base.specs.Lists.{at_or}
-use Rattle.sc_ids.specs.Changes.{change_at}
 use Rattle.sc_ids.specs.declared.attempts.AttemptId.{AttemptId}
 use Rattle.sc_ids.specs.declared.attempts.Mark.{Mark}
 use Rattle.sc_ids.specs.declared.blocks.BlockId.{BlockId}
@@ -16,7 +15,7 @@ use Rattle.sc_ids.proofs.ChangeLemmas.{at_or_change_other, at_or_change_same}
 use Rattle.sc_taskset.proofs.FindLemmas.{found_is, found_passes}
 use Rattle.sc_tracker.specs.declared.outputs.Location.{Location}
 use Rattle.sc_tracker.specs.declared.outputs.Location.TheVariants as locations
-use Rattle.sc_dag.specs.Offers.{HasNone, IsOffer}
+use Rattle.sc_dag.specs.Offers.{HasNone}
 use Rattle.sc_dag.proofs.Tests.{clash}
 use Rattle.sc_core.specs.CoreData.{CoreData, has_key, held_by, is_out_on, job_runs, running_of, shelved_of, under_way}
 use Rattle.sc_core.specs.Laws.{left_to_do, spends_nothing}
@@ -29,7 +28,7 @@ use Rattle.sc_core.specs.declared.answers.Abort.TheVariants as aborts
 use Rattle.sc_core.specs.declared.answers.Answer.{Answer}
 use Rattle.sc_core.specs.declared.answers.Answer.TheVariants as says
 use Rattle.sc_core.specs.declared.events.Event.{Event}
-use Rattle.sc_core.specs.declared.events.Event.TheVariants.{Post, Release, Take, TellLost}
+use Rattle.sc_core.specs.declared.events.Event.TheVariants.{Post, Take}
 use Rattle.sc_core.specs.declared.events.Outcome.{Outcome}
 use Rattle.sc_core.specs.declared.running.Running.{Running}
 use Rattle.sc_core.specs.declared.running.Shelved.{Shelved}
@@ -40,22 +39,21 @@ use Rattle.sc_lineage.specs.ScriptData.{WorkData}
 use Rattle.sc_store.specs.StoreData.{StoreData}
 use Rattle.sc_net.specs.Reports.{outcome_of}
 use Rattle.sc_net.specs.Tasks.{TaskData, blocks_of_task}
-use Rattle.sc_net.specs.declared.findings.Finding.{Finding}
 use Rattle.sc_net.specs.declared.findings.Finding.TheVariants as findings
-use Rattle.sc_task.specs.Attempts.{AttemptData, assigned, computed, stored, reported, task_of}
+use Rattle.sc_task.specs.Attempts.{AttemptData, assigned, computed, reported}
 use Rattle.sc_task.specs.Nexts.{next_at, next_of}
 use Rattle.sc_task.specs.declared.next.Next.{Next}
 use Rattle.sc_task.specs.declared.next.Next.TheVariants.{Complete, Fetch, Missing}
 use Rattle.sc_desk.specs.DeskData.{DeskData, core_of}
-use Rattle.sc_desk.specs.Dues.{IsBusy, IsDueReport, IsOrderedIf, is_any_out}
+use Rattle.sc_desk.specs.Dues.{IsDueReport, IsOrderedIf, is_any_out}
 use Rattle.sc_desk.specs.Entries.{Enters}
-use Rattle.sc_desk.specs.Orders.{ComesNext, IsDueOrder, IsNextOrder, after_order, orders_left}
+use Rattle.sc_desk.specs.Orders.{ComesNext, IsDueOrder, after_order, orders_left}
 use Rattle.sc_desk.proofs.OrderLemmas.{next_orders_are_due}
 use Rattle.sc_world.specs.Runs.{IsWorld}
 use Rattle.sc_world.specs.Serial.{Advances, Asks, Finishes, GoesOn, IsAlone, IsLess, IsLive, IsNoMore, IsResting, Turns, left_in, steps_left}
 use Rattle.sc_world.specs.Sound.{IsSoundWorld, IsThatOf, RunsThere}
 use Rattle.sc_world.specs.Steps.{Computes, HandsOrder, HasMade, LosesOne, Makes, Posts, Puts, Reads, ReadsNext, ReleasesOne, Takes, given_to}
-use Rattle.sc_world.specs.WorldData.{WorldData, core_in, held_at, with_desk, with_held, world_data}
+use Rattle.sc_world.specs.WorldData.{WorldData, core_in, held_at, with_desk, with_held}
 use Rattle.sc_world.proofs.CodeAmong.{is_there}
 use Rattle.sc_world.proofs.CodeRuns.{computes_on, given_desk, goes_then, loses_on, orders_on, posts_on, puts_on, reads_on, releases_on, takes_on}
 

@@ -1,9 +1,8 @@
-use Rattle.std.proofs.Common.{◌≡◌, ◌∙◌, ℕ, Bool, List, Option, length, sym, ap, ap₂}
+use Rattle.std.proofs.Common.{◌∙◌, ℕ, Bool, List, length, sym, ap, ap₂}
 use Rattle.std.proofs.lemmas.List.{length-map}
 use Rattle.std.specs.Option.{option_map}
-use Rattle.sc_taskset.specs.Offers.{is_slow, slow_by}
+use Rattle.sc_taskset.specs.Offers.{slow_by}
 use Rattle.sc_taskset.specs.Rows.{offered_task, set_of, task_of}
-use Rattle.sc_taskset.specs.TaskSetData.{TaskSetData}
 use Rattle.sc_taskset.specs.declared.tasks.RunningCopy.{RunningCopy}
 use Rattle.sc_taskset.proofs.OfferLemmas.{offers_nothing, offers_task}
 use Rattle.sc_taskset.proofs.task_sets.TaskSet.peek.Goals as goal

@@ -1,4 +1,4 @@
-use Rattle.std.proofs.Common.{◌≡◌, ◌∙◌, ◌<◌, ℕ, ap, subst, sym, arith}
+use Rattle.std.proofs.Common.{◌∙◌, ◌<◌, ℕ, ap, subst, sym, arith}
 use Rattle.sc_lineage.specs.ScriptData.{WorkData}
 use Rattle.sc_core.proofs.StaffLemmas.{runs_not_lost}
 use Rattle.sc_world.specs.WorldData.{core_in}
