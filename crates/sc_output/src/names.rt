@@ -1,8 +1,8 @@
 //! What the files of a save are called.
 #![tactic(auto)]
 
-ghost use Rattle.std.specs.Prelude.{◌≡◌, IfOk};
-ghost use Rattle.sc_output.specs.Names.{committed_path, final_path, staged_path, staging_path, success_path};
+ghost use Rattle.std.specs.Prelude.{◌++◌, ◌≡◌, IfOk};
+ghost use Rattle.sc_output.specs.Names.{committed_path, dashed, final_path, staged_path, staging_path, success_path};
 
 use sc_ids::AttemptId;
 use sc_value::Name;
@@ -21,20 +21,24 @@ pub fn staging_name(alloc: Global, dir: &Name) -> Result<Name, AllocError>
 pub fn staged_name(alloc: Global, dir: &Name, attempt: AttemptId) -> Result<Name, AllocError>
     ensures { IfOk result (λ name. name ≡ staged_path dir.now attempt) }
 {
-    let dir = dir.as_str();
-    let AttemptId {
-        stage,
-        stage_attempt,
-        partition,
-        nth,
-    } = attempt;
-    let path = format!(in alloc; "{dir}/_temporary/s-{stage}-{stage_attempt}-{partition}-{nth}")?;
-    Name::new(alloc, path.as_str())
+    attempt_name(alloc, dir, "/_temporary/s-", attempt)
 }
 
 /// The file that a granted attempt makes of the one that it wrote.
 pub fn committed_name(alloc: Global, dir: &Name, attempt: AttemptId) -> Result<Name, AllocError>
     ensures { IfOk result (λ name. name ≡ committed_path dir.now attempt) }
+{
+    attempt_name(alloc, dir, "/_temporary/c-", attempt)
+}
+
+/// A file in `dir` that is called by the numbers of an attempt.
+fn attempt_name(
+    alloc: Global,
+    dir: &Name,
+    start: &str,
+    attempt: AttemptId,
+) -> Result<Name, AllocError>
+    ensures { IfOk result (λ name. name ≡ dir.now ++ (start.now ++ dashed attempt)) }
 {
     let dir = dir.as_str();
     let AttemptId {
@@ -43,7 +47,7 @@ pub fn committed_name(alloc: Global, dir: &Name, attempt: AttemptId) -> Result<N
         partition,
         nth,
     } = attempt;
-    let path = format!(in alloc; "{dir}/_temporary/c-{stage}-{stage_attempt}-{partition}-{nth}")?;
+    let path = format!(in alloc; "{dir}{start}{stage}-{stage_attempt}-{partition}-{nth}")?;
     Name::new(alloc, path.as_str())
 }
 
