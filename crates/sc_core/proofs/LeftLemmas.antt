@@ -34,7 +34,7 @@ use Rattle.sc_core.specs.declared.events.Outcome.{Outcome}
 use Rattle.sc_core.specs.declared.events.Outcome.TheVariants as outcomes
 use Rattle.sc_core.specs.declared.running.Running.{Running}
 use Rattle.sc_core.proofs.StageCallLemmas.{completes_calm, fails_calm, submitted_calm}
-use Rattle.sc_core.proofs.TaskCallLemmas.{failed_moves, hold_free, map_moves, result_moves, seen_calm}
+use Rattle.sc_core.proofs.TaskCallLemmas.{failed_moves, hold_calms, map_moves, result_moves, seen_calm}
 use Rattle.sc_core.proofs.MoveLemmas.{Calm, Moves, moves_then, still}
 use Rattle.sc_core.proofs.SetLemmas.{nothing}
 use Rattle.sc_dag.proofs.Tests.{clash}
@@ -162,7 +162,7 @@ released_left c a how =
     }
   where
     by : (b : Bool) → Calm c.dag (if b then after_hold c.dag a.stage a.partition false else c.dag)
-    by true = hold_free c.dag a.stage a.partition
+    by true = hold_calms c.dag a.stage a.partition false
     by false = still c.dag
 
 map_left : (c after : CoreData) (r : Running) (loc : Loc) (answer : Answer)

@@ -20,12 +20,14 @@ pub mod OfferLemmas
 pub mod CarryLemmas
 pub mod TrackerCarryLemmas
 pub mod CallCarryLemmas
+pub mod HeldLemmas
 pub mod HandedLemmas
 pub mod ChargeLemmas
 pub mod RunningLemmas
 pub mod LeftLemmas
 pub mod ShelfLemmas
 pub mod SideLemmas
+pub mod SavingLemmas
 pub mod SideCases
 pub mod TakeCases
 pub mod PlannedLemmas

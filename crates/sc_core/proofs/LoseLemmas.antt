@@ -300,7 +300,6 @@ lose_sound calls others c exec sound may =
           known = λ b at h. known b (runner_of c.dag b) refl at (sym (moves.runners b) ∙ h);
           placed = carries.placed sound.job.placed;
           apart = AllPairs-filter AreTwo (λ r. not (runs_on exec r)) c.running sound.job.apart;
-          unheld = moves.unheld sound.job.unheld;
           budget = rw (left.handed, moves.limits) sound.job.budget;
           goes_on = λ r. record {
             settled = keeps.settled;

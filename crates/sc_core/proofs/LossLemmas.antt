@@ -2,7 +2,6 @@
 use Rattle.std.proofs.Common.{◌≡◌, ℕ, ◌==◌, not, All, Bool, true, false, cond, if◌then◌else◌, List, [], ◌∷◌, map, Option, Some, None, IfSome, option_map, slice_get, refl, ap, sym, subst, ◌∙◌, arith}
 use Rattle.std.proofs.lemmas.Bool.Decides.{nat_tests}
 use Rattle.std.proofs.lemmas.List.{length-map}
-use Rattle.std.proofs.lemmas.List.Elements.{All-map, All-weaker}
 use Rattle.std.proofs.lemmas.Option.{slice_get-map}
 use Rattle.sc_ids.proofs.ChangeLemmas.{at_or_change_other}
 use Rattle.sc_ids.specs.declared.attempts.AttemptId.{AttemptId}
@@ -18,11 +17,11 @@ use Rattle.sc_dag.specs.DagData.{DagData, StageState, attempt_in, place_of_attem
 use Rattle.sc_dag.specs.Losses.{after_lost, without_executor}
 use Rattle.sc_dag.specs.Outputs.{results_in}
 use Rattle.sc_dag.specs.Reports.{set_of}
-use Rattle.sc_dag.specs.Sound.{IsSoundDag, attempts_in, runner_among, runner_in, runner_of}
+use Rattle.sc_dag.specs.Sound.{IsSoundDag, runner_among, runner_in, runner_of}
 use Rattle.sc_dag.specs.declared.attempts.StageAttempt.{StageAttempt}
-use Rattle.sc_core.specs.Sound.{IsUnheld, given_among, given_in, was_given}
+use Rattle.sc_core.specs.Sound.{given_among, given_in, was_given}
 use Rattle.sc_core.proofs.LookupLemmas.{set_among, set_holds}
-use Rattle.sc_core.proofs.MoveLemmas.{Calm, NoneHeld, SameResults}
+use Rattle.sc_core.proofs.MoveLemmas.{Calm, SameResults}
 use Rattle.sc_core.proofs.SetLemmas.{exec_in}
 use Rattle.sc_core.proofs.ShelfLemmas.{find_mapped}
 use Rattle.sc_core.proofs.StateLemmas.{place_kept}
@@ -149,7 +148,6 @@ pub record Loses (exec : ℕ) (d after : DagData) : Type 0 where
   pub lost : (e : ℕ) → (e == exec) ≡ false
       → (trust_of after.tracker e).lost ≡ (trust_of d.tracker e).lost
   pub runners : (b : AttemptId) → runner_of after b ≡ unless_on exec (runner_of d b)
-  pub unheld : NoneHeld d → NoneHeld after
   pub given : (b : AttemptId) → was_given d b ≡ true → was_given after b ≡ true
 
 -- a calm change behind it
@@ -160,7 +158,6 @@ loses_then exec c d e h k =
       limits = k.limits ∙ h.limits;
       lost = λ x other. k.lost x ∙ h.lost x other;
       runners = λ b. k.runners b ∙ h.runners b;
-      unheld = λ all. k.unheld (h.unheld all);
       given = λ b g. k.given b (h.given b g);
     }
 
@@ -171,9 +168,6 @@ lost_loses d exec sound =
       limits = refl;
       lost = λ e other. lost e other (is_live (slice_get d.tracker.trust exec)) refl;
       runners = λ b. ap (λ o. runner_in o b) (lost_set d exec b) ∙ runs b (set_of d b) refl;
-      unheld = λ all s. subst (λ o. All IsUnheld (attempts_in o))
-          (sym (slice_get-map (without_executor exec) d.states s))
-          (unheld (slice_get d.states s) (all s));
       given = λ b g. ap (λ o. given_in o b) (lost_set d exec b)
           ∙ given_left exec b (set_of d b) ∙ g;
     }
@@ -195,20 +189,6 @@ lost_loses d exec sound =
         set_left exec b set
         (set_holds (λ s. All IsSoundTask s.tasks) (slice_get d.states b.stage) b.stage_attempt set
         (λ i x l. (sound.attempts b.stage i x l).set.sound.tasks) e)
-
-    unheld : (o : Option StageState) → All IsUnheld (attempts_in o)
-        → All IsUnheld (attempts_in (option_map (without_executor exec) o))
-    unheld None all = all
-    unheld (Some state) all =
-        All-map IsUnheld (with_set (λ set. after_loss set exec)) state.attempts
-        (All-weaker IsUnheld (λ a. IsUnheld (with_set (λ set. after_loss set exec) a)) one
-        state.attempts all)
-      where
-        one : (a : StageAttempt) → IsUnheld a → IsUnheld (with_set (λ set. after_loss set exec) a)
-        one a all =
-            All-map (λ t. t.denied ≡ false) (lost_task exec (redoes_lost a.set)) a.set.tasks
-            (All-weaker (λ t. t.denied ≡ false)
-            (λ t. (lost_task exec (redoes_lost a.set) t).denied ≡ false) (λ t h. h) a.set.tasks all)
 
 -- no result goes with it
 pub lost_results : (d : DagData) (exec : ℕ) → SameResults d (after_lost d exec)

@@ -8,14 +8,10 @@ use Rattle.sc_commit.specs.Committing.{is_same}
 use Rattle.sc_tracker.specs.TrackerData.{TrackerData, trust_of}
 use Rattle.sc_dag.specs.DagData.{DagData, StageState, with_state, with_states, with_tracker}
 use Rattle.sc_dag.specs.Outputs.{results_in}
-use Rattle.sc_dag.specs.Sound.{attempts_in, attempts_of, runner_of}
-use Rattle.sc_core.specs.Sound.{IsUnheld, was_given}
+use Rattle.sc_dag.specs.Sound.{runner_of}
+use Rattle.sc_core.specs.Sound.{was_given}
 use Rattle.sc_core.proofs.SetLemmas.{nothing}
 use Rattle.sc_core.proofs.StateLemmas.{MovesOf, calm_same, gave_in, is_number_of, runs_in}
-
--- no grant that is held has denied an attempt
-abbrev pub NoneHeld : DagData → Type 0
-NoneHeld d = (s : ℕ) → All IsUnheld (attempts_of d s)
 
 -- What a change of stages leaves as it is, and which attempts run then: those that pass a test run
 -- somewhere else, or nowhere, and all others as before.
@@ -25,7 +21,6 @@ pub record Moves (test : AttemptId → Bool) (new : Option ℕ) (d after : DagDa
   pub many : length after.tracker.trust ≡ length d.tracker.trust
   pub lost : (e : ℕ) → (trust_of after.tracker e).lost ≡ (trust_of d.tracker e).lost
   pub runners : (b : AttemptId) → runner_of after b ≡ (if test b then new else runner_of d b)
-  pub unheld : NoneHeld d → NoneHeld after
   -- what was handed out stays so
   pub given : (b : AttemptId) → was_given d b ≡ true → was_given after b ≡ true
 
@@ -46,7 +41,6 @@ still d =
       many = refl;
       lost = λ e. refl;
       runners = λ b. refl;
-      unheld = λ all. all;
       given = λ b h. h;
     }
 
@@ -61,7 +55,6 @@ moves_then test new c d e h k =
       many = k.many ∙ h.many;
       lost = λ x. k.lost x ∙ h.lost x;
       runners = λ b. k.runners b ∙ h.runners b;
-      unheld = λ all. k.unheld (h.unheld all);
       given = λ b g. k.given b (h.given b g);
     }
 
@@ -75,7 +68,6 @@ calm_then test new c d e h k =
       many = k.many ∙ h.many;
       lost = λ x. k.lost x ∙ h.lost x;
       runners = λ b. k.runners b ∙ ap (λ o. if test b then new else o) (h.runners b);
-      unheld = λ all. k.unheld (h.unheld all);
       given = λ b g. k.given b (h.given b g);
     }
 
@@ -94,7 +86,6 @@ state_moves d a new change moves none =
       many = refl;
       lost = λ e. refl;
       runners = λ b. by b (a.stage == b.stage) refl;
-      unheld = λ all s. held all s (a.stage == s) refl;
       given = λ b. given b (a.stage == b.stage) refl;
     }
   where
@@ -106,7 +97,6 @@ state_moves d a new change moves none =
     here None e =
         record {
           runners = λ b. rw (none e) (nowhere (is_number_of a b) (runs_in None b));
-          unheld = λ all. all;
           given = λ b h. h;
         }
       where
@@ -147,16 +137,6 @@ state_moves d a new change moves none =
         (λ is. grind (arith, nat_tests, e, is)))
         ∙ h
 
-    held : NoneHeld d → (s : ℕ) (x : Bool) → (a.stage == s) ≡ x
-        → All IsUnheld (attempts_in (slice_get after.states s))
-    held all s true e =
-        let is : a.stage ≡ s = grind (arith, nat_tests, e) in
-        subst (λ (s : ℕ). All IsUnheld (attempts_in (slice_get after.states s))) is
-        (rw same ((here (slice_get d.states a.stage) refl).unheld (all a.stage)))
-    held all s false e =
-        rw (slice_get_change_other d.states a.stage s change
-        (λ is. grind (arith, nat_tests, e, is))) (all s)
-
 -- all stages changed calmly
 pub states_calm :
     (d : DagData) (states : List StageState)
@@ -169,7 +149,6 @@ states_calm d states moves =
       many = refl;
       lost = λ e. refl;
       runners = λ b. (moves b.stage).runners b;
-      unheld = λ all s. (moves s).unheld (all s);
       given = λ b h. (moves b.stage).given b h;
     }
 
@@ -207,7 +186,6 @@ tracker_calm d t many lost =
       many = many;
       lost = lost;
       runners = λ b. refl;
-      unheld = λ all. all;
       given = λ b h. h;
     }
 

@@ -31,7 +31,7 @@ use Rattle.sc_core.specs.CoreData.{CoreData, result_stage}
 use Rattle.sc_core.specs.Laws.{OpeningsAreSound}
 use Rattle.sc_core.specs.Losses.{is_due_after}
 use Rattle.sc_core.specs.Openings.{plan_behind, told_before, tracker_behind}
-use Rattle.sc_core.specs.Sound.{AreTwo, IsShelvedWell, IsSoundCore, IsSoundJob, IsSoundShelf, IsUnheld, RunsWell, is_shelved, AreOnLive, HasLive, IsLive}
+use Rattle.sc_core.specs.Sound.{AreTwo, IsShelvedWell, IsSoundCore, IsSoundJob, IsSoundShelf, RunsWell, is_shelved, AreOnLive, HasLive, IsLive}
 use Rattle.sc_core.proofs.StageCallLemmas.{submitted_calm}
 use Rattle.sc_core.proofs.MoveLemmas.{Calm}
 use Rattle.sc_core.proofs.StateLemmas.{runs_in}
@@ -260,13 +260,6 @@ openings_by calls opening settles graph limits saved plan last c job fits sound 
         ∙ ap (λ (states : List StageState). runs_in (slice_get states a.stage) a) o.opens.states
         ∙ blank_runs before 0 o.dag.stages a.stage a
 
-    unheld : (s : ℕ) → All IsUnheld (attempts_in (slice_get o.dag.states s))
-    unheld s =
-        subst (λ xs. All IsUnheld xs)
-        (sym (ap (λ (states : List StageState). attempts_in (slice_get states s)) o.opens.states
-        ∙ blank_attempts before 0 o.dag.stages s))
-        (λ i x l. absurd (omega (arith, l)))
-
     dead : (s : ℕ) → this_stage (result_stage o.dag) s ≡ true
         → is_live_set (newest_at o.dag s) ≡ false
     dead s e =
@@ -305,7 +298,6 @@ openings_by calls opening settles graph limits saved plan last c job fits sound 
               o.submits).placed placed;
           apart = subst (λ rs. AllPairs AreTwo rs) (sym o.running)
               (λ i j r lt l. absurd (omega (arith, l)));
-          unheld = calm.unheld unheld;
           budget = rw o.handed (omega arith);
           goes_on = λ r. record {
             settled = on.0.0;

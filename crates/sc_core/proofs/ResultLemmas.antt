@@ -29,7 +29,7 @@ use Rattle.sc_core.specs.declared.answers.Answer.{Answer}
 use Rattle.sc_core.specs.declared.answers.JobState.TheVariants as jobs
 use Rattle.sc_core.specs.declared.events.Outcome.TheVariants as outcomes
 use Rattle.sc_core.specs.declared.running.Running.{Running}
-use Rattle.sc_core.proofs.TaskCallLemmas.{ended_results, hold_free, hold_results, result_moves}
+use Rattle.sc_core.proofs.TaskCallLemmas.{ended_results, hold_calms, hold_results, result_moves}
 use Rattle.sc_core.proofs.LookupLemmas.{set_holds}
 use Rattle.sc_core.proofs.MoveLemmas.{Calm, Moves, SameResults, calm_then, still}
 use Rattle.sc_core.proofs.ToldLemmas.{goes_same, goes_with, told_sound, under_kept}
@@ -52,9 +52,9 @@ frees calls others c a how = by (holds a (committer_at c.committers a.partition)
         → Frees c.dag (if b then after_hold c.dag a.stage a.partition false else c.dag)
     by true =
         record {
-          calm = hold_free c.dag a.stage a.partition;
+          calm = hold_calms c.dag a.stage a.partition false;
           carries = hold_carries c.dag a.stage a.partition false;
-          results = hold_results c.dag a.stage a.partition;
+          results = hold_results c.dag a.stage a.partition false;
           sound = λ s. (calls c.dag s).7 a.stage a.partition false;
           goes = λ s t. (others c.dag s t).2 a.stage a.partition false;
         }

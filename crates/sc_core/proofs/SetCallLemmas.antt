@@ -1,7 +1,6 @@
 -- What the calls of a task set do to the attempts that run in it.
 use Rattle.std.proofs.Common.{◌≡◌, ℕ, ◌+◌, ◌<◌, ◌==◌, nat_lt, All, Bool, true, false, cond, if◌then◌else◌, List, [], ◌∷◌, Some, None, refl, arith}
 use Rattle.std.proofs.lemmas.Bool.Decides.{nat_tests}
-use Rattle.std.proofs.lemmas.List.Elements.{All-cons}
 use Rattle.sc_ids.specs.declared.attempts.AttemptId.{AttemptId}
 use Rattle.sc_ids.specs.declared.failures.FailureCause.{FailureCause}
 use Rattle.sc_ids.specs.declared.limits.Limits.{Limits}
@@ -11,7 +10,7 @@ use Rattle.sc_taskset.specs.Reports.{after_end, after_failure, after_held, after
 use Rattle.sc_taskset.specs.TaskSetData.{TaskData, TaskSetData, fresh_set, fresh_task}
 use Rattle.sc_dag.specs.Sound.{runner_among, runner_in}
 use Rattle.sc_core.specs.Sound.{given_among}
-use Rattle.sc_core.proofs.SetLemmas.{AreUnheld, MovesIn, calm_task, changed_task, ends_task, find_push, is_copy_of, nothing}
+use Rattle.sc_core.proofs.SetLemmas.{MovesIn, calm_task, changed_task, ends_task, find_push, is_copy_of, nothing}
 
 -- ---- the calls
 
@@ -20,19 +19,19 @@ pub success_ends : (set : TaskSetData) (a : AttemptId) (now : ℕ)
 success_ends set a now =
     ends_task a (succeeded_task (Some a.nth)) set
     (after_success set a.partition (Some a.nth) now)
-    (λ t. refl) (λ t h. h) (λ t. refl) (λ t m h. h) refl
+    (λ t. refl) (λ t. refl) (λ t m h. h) refl
 
 pub success_calm : (set : TaskSetData) (p now : ℕ)
     → MovesIn nothing None set (after_success set p None now)
 success_calm set p now =
     calm_task p (succeeded_task None) set (after_success set p None now)
-    (λ t. refl) (λ t h. h) (λ t. refl) (λ t m h. h) refl
+    (λ t. refl) (λ t. refl) (λ t m h. h) refl
 
 pub end_ends : (set : TaskSetData) (a : AttemptId)
     → MovesIn (is_copy_of a) None set (after_end set a.partition a.nth)
 end_ends set a =
     ends_task a (ended_task a.nth) set (after_end set a.partition a.nth)
-    (λ t. refl) (λ t h. h) (λ t. refl) (λ t m h. h) refl
+    (λ t. refl) (λ t. refl) (λ t m h. h) refl
 
 pub failure_ends : (set : TaskSetData) (a : AttemptId) (cause : FailureCause)
     → MovesIn (is_copy_of a) None set (after_failure set a.partition a.nth cause)
@@ -40,7 +39,6 @@ failure_ends set a cause =
     ends_task a (failed_task (is_counted_in set cause) a.nth) set
     (after_failure set a.partition a.nth cause)
     (λ t. part t (is_failure (is_counted_in set cause) a.nth t))
-    (λ t h. free t h (is_failure (is_counted_in set cause) a.nth t))
     (λ t. left t (is_failure (is_counted_in set cause) a.nth t))
     (λ t m h. given t m (is_failure (is_counted_in set cause) a.nth t) h) refl
   where
@@ -51,10 +49,6 @@ failure_ends set a cause =
     part t true = refl
     part t false = refl
 
-    free : (t : TaskData) → t.denied ≡ false → (b : Bool) → (after t b).denied ≡ false
-    free t h true = h
-    free t h false = h
-
     left : (t : TaskData) (b : Bool) → (after t b).copies ≡ without_copy a.nth t.copies
     left t true = refl
     left t false = refl
@@ -64,14 +58,14 @@ failure_ends set a cause =
     given t m true h = h
     given t m false h = h
 
-pub hold_calm : (set : TaskSetData) (p : ℕ)
-    → MovesIn nothing None set (after_held set p false)
-hold_calm set p =
-    calm_task p (held_task false) set (after_held set p false)
-    (λ t. refl) (λ t h. refl) (λ t. refl) (λ t m h. h) refl
+pub hold_calm : (set : TaskSetData) (p : ℕ) (denied : Bool)
+    → MovesIn nothing None set (after_held set p denied)
+hold_calm set p denied =
+    calm_task p (held_task denied) set (after_held set p denied)
+    (λ t. refl) (λ t. refl) (λ t m h. h) refl
 
 pub zombie_calm : (set : TaskSetData) → MovesIn nothing None set (as_zombie set)
-zombie_calm set = record { runners = λ b. refl; unheld = λ all. all; given = λ b h. h }
+zombie_calm set = record { runners = λ b. refl; given = λ b h. h }
 
 -- a hand-out of a task that is there, under its next number
 pub handed_moves : (set : TaskSetData) (a : AttemptId) (t : TaskData) (exec now : ℕ)
@@ -80,14 +74,14 @@ pub handed_moves : (set : TaskSetData) (a : AttemptId) (t : TaskData) (exec now 
     → MovesIn (is_copy_of a) (Some exec) set (handed set a.partition exec now)
 handed_moves set a t exec now found nth below =
     changed_task a (Some exec) (handed_task exec now) set (handed set a.partition exec now)
-    (λ u. refl) (λ u h. h)
+    (λ u. refl)
     (λ m. rw (found, nth) (find_push t.given exec now m t.copies below))
     (λ u m h. more u.given m h) refl
   where
     more : (given m : ℕ) → nat_lt m given ≡ true → nat_lt m (given + 1) ≡ true
     more given m h = grind (arith, nat_tests, h)
 
--- nothing runs in a fresh set, and nothing is held back
+-- nothing runs in a fresh set
 pub fresh_runs : (partitions : List ℕ) (is_map : Bool) (limits : Limits) (born : ℕ) (b : AttemptId)
     → runner_in (Some (fresh_set partitions is_map limits born)) b ≡ None
 fresh_runs [] is_map limits born b = refl
@@ -100,10 +94,3 @@ fresh_runs (p ∷ ps) is_map limits born b =
         (task_at b.partition (fresh_set ps is_map limits born).tasks)) b.nth ≡ None
     by true h = refl
     by false h = h
-
-pub fresh_unheld : (partitions : List ℕ) (is_map : Bool) (limits : Limits) (born : ℕ)
-    → AreUnheld (fresh_set partitions is_map limits born).tasks
-fresh_unheld [] is_map limits born = λ i d l. absurd (omega (arith, l))
-fresh_unheld (p ∷ ps) is_map limits born =
-    All-cons (λ t. t.denied ≡ false) (fresh_task p)
-    (fresh_set ps is_map limits born).tasks refl (fresh_unheld ps is_map limits born)

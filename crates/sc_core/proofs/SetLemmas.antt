@@ -7,13 +7,9 @@ use Rattle.sc_taskset.specs.Lookups.{copy_at, is_task_of, task_at, with_task, wi
 use Rattle.sc_taskset.specs.Offers.{running}
 use Rattle.sc_taskset.specs.TaskSetData.{TaskData, TaskSetData}
 use Rattle.sc_taskset.specs.declared.tasks.RunningCopy.{RunningCopy}
-use Rattle.sc_taskset.proofs.ChangeLemmas.{all_kept, find_changed, find_other}
+use Rattle.sc_taskset.proofs.ChangeLemmas.{find_changed, find_other}
 use Rattle.sc_dag.specs.Sound.{runner_among, runner_in}
 use Rattle.sc_core.specs.Sound.{given_among, given_in}
-
--- no grant that is held has denied an attempt of some tasks
-abbrev pub AreUnheld : List TaskData → Type 0
-AreUnheld tasks = All (λ task. task.denied ≡ false) tasks
 
 -- an attempt is of these numbers in its set
 abbrev pub is_copy_of : AttemptId → AttemptId → Bool
@@ -25,7 +21,6 @@ pub record MovesIn (test : AttemptId → Bool) (new : Option ℕ) (old now : Tas
     : Type 0 where
   pub runners : (b : AttemptId)
       → runner_in (Some now) b ≡ (if test b then new else runner_in (Some old) b)
-  pub unheld : AreUnheld old.tasks → AreUnheld now.tasks
   -- what was handed out stays so
   pub given : (b : AttemptId) → given_in (Some old) b ≡ true → given_in (Some now) b ≡ true
 
@@ -131,18 +126,14 @@ given_task p f tasks same keeps q m given = by (p == q) refl
 pub changed_task :
     (a : AttemptId) (new : Option ℕ) (f : TaskData → TaskData) (old now : TaskSetData)
     → ((t : TaskData) → (f t).partition ≡ t.partition)
-    → ((t : TaskData) → t.denied ≡ false → (f t).denied ≡ false)
     → ((m : ℕ) → runner_among (option_map f (task_at a.partition old.tasks)) m
     ≡ (if a.nth == m then new else runner_among (task_at a.partition old.tasks) m))
     → KeepsGiven f → now.tasks ≡ with_task a.partition f old.tasks
     → MovesIn (is_copy_of a) new old now
-changed_task a new f old now same free told keeps is =
+changed_task a new f old now same told keeps is =
     record {
       runners = λ b. ap (λ tasks. runner_among (task_at b.partition tasks) b.nth) is
           ∙ by b (a.partition == b.partition) refl;
-      unheld = λ all. rw is
-          (all_kept (λ t. t.denied ≡ false) (is_task_of a.partition) f old.tasks all
-          (λ t found h. free t h));
       given = λ b h. rw is (given_task a.partition f old.tasks same keeps b.partition b.nth h);
     }
   where
@@ -174,17 +165,13 @@ changed_task a new f old now same free told keeps is =
 pub calm_task :
     (p : ℕ) (f : TaskData → TaskData) (old now : TaskSetData)
     → ((t : TaskData) → (f t).partition ≡ t.partition)
-    → ((t : TaskData) → t.denied ≡ false → (f t).denied ≡ false)
     → ((t : TaskData) → (f t).copies ≡ t.copies) → KeepsGiven f
     → now.tasks ≡ with_task p f old.tasks
     → MovesIn nothing None old now
-calm_task p f old now same free copies keeps is =
+calm_task p f old now same copies keeps is =
     record {
       runners = λ b. ap (λ tasks. runner_among (task_at b.partition tasks) b.nth) is
           ∙ by b (p == b.partition) refl;
-      unheld = λ all. rw is
-          (all_kept (λ t. t.denied ≡ false) (is_task_of p) f old.tasks all
-          (λ t found h. free t h));
       given = λ b h. rw is (given_task p f old.tasks same keeps b.partition b.nth h);
     }
   where
@@ -215,12 +202,11 @@ calm_task p f old now same free copies keeps is =
 pub ends_task :
     (a : AttemptId) (f : TaskData → TaskData) (old now : TaskSetData)
     → ((t : TaskData) → (f t).partition ≡ t.partition)
-    → ((t : TaskData) → t.denied ≡ false → (f t).denied ≡ false)
     → ((t : TaskData) → (f t).copies ≡ without_copy a.nth t.copies) → KeepsGiven f
     → now.tasks ≡ with_task a.partition f old.tasks
     → MovesIn (is_copy_of a) None old now
-ends_task a f old now same free copies keeps is =
-    changed_task a None f old now same free (λ m. by m (task_at a.partition old.tasks)) keeps is
+ends_task a f old now same copies keeps is =
+    changed_task a None f old now same (λ m. by m (task_at a.partition old.tasks)) keeps is
   where
     exec_of : (b : Bool) (o : Option RunningCopy)
         → exec_in (if b then None else o) ≡ (if b then None else exec_in o)

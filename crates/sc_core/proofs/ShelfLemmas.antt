@@ -553,7 +553,6 @@ shelved_job c a outcome delay sound =
       known = λ b exec h. known b exec h;
       placed = sound.placed;
       apart = pairs c.running sound.apart;
-      unheld = sound.unheld;
       budget = sound.budget;
       goes_on = λ r. record {
         settled = (sound.goes_on r).settled;

@@ -134,7 +134,6 @@ aside_job c after is sound =
       placed = subst (λ (d : DagData). AreOnLive d.tracker) (sym is.dag) sound.placed;
       apart = subst (λ rs. AllPairs AreTwo rs) (sym is.running)
           (pairs_further is.further is.each c.running sound.apart);
-      unheld = rw is.dag sound.unheld;
       budget = rw (is.handed, is.dag) sound.budget;
       goes_on = λ h. goes (sound.goes_on (ap is_running_job (sym is.job) ∙ h));
       done = λ h. rw is.dag (sound.done (sym is.job ∙ h));

@@ -1,7 +1,6 @@
 -- What changes of a stage do to the attempts that run in its task sets.
 use Rattle.std.proofs.Common.{◌≡◌, ℕ, zero, suc, ◌-◌, Bool, true, false, if◌then◌else◌, List, [], ◌∷◌, ◌++◌, length, map, Option, Some, None, option_map, slice_get, nat_lt, refl, ap, sym, ◌∙◌, arith, true≢false}
 use Rattle.std.proofs.lemmas.List.{length-map}
-use Rattle.std.proofs.lemmas.List.Elements.{All-map, All-push, All-weaker}
 use Rattle.std.proofs.lemmas.Option.{slice_get-map, slice_get_past}
 use Rattle.sc_ids.specs.Graphs.{StageData}
 use Rattle.sc_ids.specs.declared.attempts.AttemptId.{AttemptId}
@@ -15,9 +14,9 @@ use Rattle.sc_dag.specs.Reports.{completed, failed_attempt, forgiven, with_faile
 use Rattle.sc_dag.specs.Sound.{runner_in}
 use Rattle.sc_dag.specs.Submission.{as_waiting, is_map, new_set, started}
 use Rattle.sc_dag.specs.declared.attempts.StageAttempt.{StageAttempt}
-use Rattle.sc_core.specs.Sound.{IsUnheld, given_in}
+use Rattle.sc_core.specs.Sound.{given_in}
 use Rattle.sc_core.proofs.SetLemmas.{MovesIn, nothing}
-use Rattle.sc_core.proofs.SetCallLemmas.{fresh_runs, fresh_unheld, zombie_calm}
+use Rattle.sc_core.proofs.SetCallLemmas.{fresh_runs, zombie_calm}
 use Rattle.sc_core.proofs.StateLemmas.{MovesOf, attempt_calm, place_kept, then_calm}
 
 -- ---- the changes of a stage
@@ -37,11 +36,11 @@ failed_calm number state =
 
 pub result_calm :
     (p : ℕ) (state : StageState) → MovesOf nothing None (Some state) (Some (with_result p state))
-result_calm p state = record { runners = λ b. refl; unheld = λ all. all; given = λ b h. h }
+result_calm p state = record { runners = λ b. refl; given = λ b h. h }
 
 pub waiting_calm :
     (state : StageState) → MovesOf nothing None (Some state) (Some (as_waiting state))
-waiting_calm state = record { runners = λ b. refl; unheld = λ all. all; given = λ b h. h }
+waiting_calm state = record { runners = λ b. refl; given = λ b h. h }
 
 pub completed_calm :
     (state : StageState) → MovesOf nothing None (Some state) (Some (completed state))
@@ -54,8 +53,6 @@ completed_calm state =
           ∙ ap (λ o. runner_in (set_in o) b)
           (slice_get-map forgiven state.attempts (place_of_attempt state b.stage_attempt))
           ∙ one b (attempt_in state b.stage_attempt);
-      unheld = λ all. All-map IsUnheld forgiven state.attempts
-          (All-weaker IsUnheld (λ x. IsUnheld (forgiven x)) (λ x h. h) state.attempts all);
       given = λ b g.
           ap (λ (j : ℕ). given_in (set_in (slice_get (map forgiven state.attempts) j)) b)
           (place_kept state (completed state) b.stage_attempt refl
@@ -104,9 +101,6 @@ started_calm t limits stage state =
     (newest_calm as_zombie state zombie_calm)
     (record {
       runners = λ b. by b (nat_lt b.stage_attempt state.before);
-      unheld = λ all.
-          All-push IsUnheld mid.attempts fresh all
-          (fresh_unheld (missing_by t stage state.results) (is_map stage.target) limits t.epoch);
       given = λ b. given b (nat_lt b.stage_attempt state.before);
     })
   where

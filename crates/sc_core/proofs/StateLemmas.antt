@@ -1,15 +1,14 @@
 -- Attempts that run in the task sets of a stage, where one of these is changed.
 use Rattle.std.proofs.Common.{◌≡◌, ℕ, zero, suc, ◌-◌, ◌≤◌, ◌==◌, ◌&&◌, All, Bool, true, false, if◌then◌else◌, List, [], ◌∷◌, length, Option, Some, None, option_map, slice_get, nat_lt, refl, ap, sym, subst, ◌∙◌, arith}
 use Rattle.std.proofs.lemmas.Bool.Decides.{nat_tests}
-use Rattle.std.proofs.lemmas.List.Elements.{All-cons, All-head, All-tail}
 use Rattle.std.proofs.lemmas.Option.{slice_get_past}
 use Rattle.sc_ids.specs.Changes.{change_at}
 use Rattle.sc_ids.specs.declared.attempts.AttemptId.{AttemptId}
 use Rattle.sc_ids.proofs.ChangeLemmas.{length_change_at, slice_get_change_other, slice_get_change_same}
 use Rattle.sc_dag.specs.DagData.{StageState, attempt_in, place_of_attempt, set_in, with_attempts}
-use Rattle.sc_dag.specs.Sound.{attempts_in, runner_in}
+use Rattle.sc_dag.specs.Sound.{runner_in}
 use Rattle.sc_dag.specs.declared.attempts.StageAttempt.{StageAttempt}
-use Rattle.sc_core.specs.Sound.{IsUnheld, given_in}
+use Rattle.sc_core.specs.Sound.{given_in}
 use Rattle.sc_core.proofs.LookupLemmas.{set_among}
 use Rattle.sc_core.proofs.SetLemmas.{MovesIn, is_copy_of, nothing}
 
@@ -27,7 +26,6 @@ pub record MovesOf (test : AttemptId → Bool) (new : Option ℕ) (old now : Opt
     : Type 0 where
   pub runners : (b : AttemptId)
       → runs_in now b ≡ (if test b then new else runs_in old b)
-  pub unheld : All IsUnheld (attempts_in old) → All IsUnheld (attempts_in now)
   -- what was handed out stays so
   pub given : (b : AttemptId) → gave_in old b ≡ true → gave_in now b ≡ true
 
@@ -36,7 +34,7 @@ abbrev pub is_number_of : AttemptId → AttemptId → Bool
 is_number_of a b = (a.stage_attempt == b.stage_attempt) && is_copy_of a b
 
 pub calm_same : (o : Option StageState) → MovesOf nothing None o o
-calm_same o = record { runners = λ b. refl; unheld = λ all. all; given = λ b h. h }
+calm_same o = record { runners = λ b. refl; given = λ b h. h }
 
 -- a calm change behind another one
 pub then_calm :
@@ -45,7 +43,6 @@ pub then_calm :
 then_calm test new a b c h k =
     record {
       runners = λ x. k.runners x ∙ h.runners x;
-      unheld = λ all. k.unheld (h.unheld all);
       given = λ b g. k.given b (h.given b g);
     }
 
@@ -79,21 +76,6 @@ place_kept state now n before many =
     ∙ ap (λ (k : ℕ). if nat_lt n state.before then k else n - state.before) many
 
 -- ---- one set changed
-
--- attempts with one set changed
-attempts_moved :
-    (test : AttemptId → Bool) (new : Option ℕ) (change : StageAttempt → StageAttempt)
-    (attempts : List StageAttempt) (i : ℕ)
-    → ((x : StageAttempt) → slice_get attempts i ≡ Some x
-    → MovesIn test new x.set (change x).set)
-    → All IsUnheld attempts → All IsUnheld (change_at attempts i change)
-attempts_moved test new change [] i moves all = all
-attempts_moved test new change (x ∷ xs) zero moves all =
-    All-cons IsUnheld (change x) xs ((moves x refl).unheld (All-head IsUnheld x xs all))
-    (All-tail IsUnheld x xs all)
-attempts_moved test new change (x ∷ xs) (suc i) moves all =
-    All-cons IsUnheld x (change_at xs i change) (All-head IsUnheld x xs all)
-    (attempts_moved test new change xs i moves (All-tail IsUnheld x xs all))
 
 -- what was handed out in one of some sets stays so, where one of these is changed
 given_changed :
@@ -136,8 +118,6 @@ pub attempt_moves :
 attempt_moves a new change state moves none =
     record {
       runners = λ b. by b (a.stage_attempt == b.stage_attempt) refl;
-      unheld = attempts_moved (is_copy_of a) new change state.attempts
-          (place_of_attempt state a.stage_attempt) moves;
       given = λ b g.
           ap (λ (j : ℕ). given_in (set_in (slice_get now.attempts j)) b) (kept b.stage_attempt)
           ∙ given_changed change state.attempts place (place_of_attempt state b.stage_attempt) b
@@ -211,7 +191,6 @@ attempt_calm change state i moves =
           b.stage_attempt refl (length_change_at state.attempts i change))
           ∙ by b (place_of_attempt state b.stage_attempt)
           (place_of_attempt state b.stage_attempt == i) refl;
-      unheld = attempts_moved nothing None change state.attempts i (λ x e. moves x);
       given = λ b g.
           ap (λ (j : ℕ). given_in (set_in (slice_get (change_at state.attempts i change) j)) b)
           (place_kept state (with_attempts state (change_at state.attempts i change))

@@ -62,7 +62,6 @@ calm_sound c after sound dag running handed goes done =
           (sound.known a exec (rw dag at h));
       placed = subst (λ (d : DagData). AreOnLive d.tracker) (sym dag) sound.placed;
       apart = subst (λ rs. AllPairs AreTwo rs) (sym running) sound.apart;
-      unheld = rw dag sound.unheld;
       budget = rw (handed, dag) sound.budget;
       goes_on = λ h. record { settled = rw dag (goes h).settled; result = rw dag (goes h).result };
       done = λ h. rw dag (done h);
@@ -122,7 +121,6 @@ task_sound c exec h calls others sound asks out below =
       placed = carries.placed sound.placed;
       apart = all_pairs_push AreTwo c.running (running_on h exec) sound.apart
           (λ k d l. All-get_or (λ r. AreTwo r (running_on h exec)) c.running k d l apart);
-      unheld = moves.unheld sound.unheld;
       budget = omega (arith, below);
       goes_on = λ r. goes_same c after sound (sound.goes_on r) refl
           (state_results c.dag a.stage _ (λ state. refl))

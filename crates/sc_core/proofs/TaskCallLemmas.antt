@@ -12,15 +12,15 @@ use Rattle.sc_tracker.specs.Tracking.{is_bogus, with_forgotten_on}
 use Rattle.sc_tracker.specs.Trust.{is_newer, seen_at, trust_at}
 use Rattle.sc_tracker.specs.declared.trust.Trust.{Trust}
 use Rattle.sc_taskset.specs.TaskSetData.{TaskSetData}
-use Rattle.sc_dag.specs.DagData.{DagData, changed_newest, changed_set, stage_at, with_set, with_state, with_tracker}
+use Rattle.sc_dag.specs.DagData.{DagData, StageState, changed_newest, changed_set, stage_at, with_set, with_state, with_tracker}
 use Rattle.sc_dag.specs.Losses.{after_seen}
 use Rattle.sc_dag.specs.Outputs.{is_complete}
-use Rattle.sc_dag.specs.Reports.{after_failed, after_hold, after_map_success, after_result_success, block_by, completed, completed_if, ended_in_own, in_own_set, is_of_newest, is_repeat, registered_by, succeeded_in_both, succeeded_in_own, with_output, with_result}
+use Rattle.sc_dag.specs.Reports.{after_failed, after_hold, after_map_success, after_result_success, block_by, completed, completed_if, ended_in_own, in_own_set, is_of_newest, is_repeat, registered_by, succeeded_in_both, succeeded_in_own, told_held, with_output, with_result}
 use Rattle.sc_ids.proofs.ChangeLemmas.{length_change_at}
 use Rattle.sc_core.proofs.MoveLemmas.{Calm, Moves, SameResults, calm_then, moves_then, results_then, state_calm, state_moves, state_results, tracker_calm}
-use Rattle.sc_core.proofs.SetLemmas.{MovesIn, is_copy_of}
+use Rattle.sc_core.proofs.SetLemmas.{MovesIn, is_copy_of, nothing}
 use Rattle.sc_core.proofs.SetCallLemmas.{end_ends, failure_ends, hold_calm, success_calm, success_ends}
-use Rattle.sc_core.proofs.StateLemmas.{attempt_moves}
+use Rattle.sc_core.proofs.StateLemmas.{MovesOf, attempt_moves}
 use Rattle.sc_core.proofs.StateChangeLemmas.{completed_calm, newest_calm, result_calm}
 
 -- ---- an attempt's end in its own set
@@ -159,14 +159,19 @@ result_moves d a now = by (is_repeat d a)
 
 -- ---- others
 
-pub hold_free : (d : DagData) (s p : ℕ) → Calm d (after_hold d s p false)
-hold_free d s p =
-    state_calm d s (changed_newest (λ set. after_held set p false))
-    (λ state. newest_calm (λ set. after_held set p false) state (λ set. hold_calm set p))
+-- a partition held back, or not any more
+told_calm : (p : ℕ) (denied : Bool) (state : StageState)
+    → MovesOf nothing None (Some state) (Some (told_held p denied state))
+told_calm p denied state =
+    let moves = newest_calm (λ set. after_held set p denied) state (λ set. hold_calm set p denied) in
+    record { runners = moves.runners; given = moves.given }
 
-pub hold_results : (d : DagData) (s p : ℕ) → SameResults d (after_hold d s p false)
-hold_results d s p =
-    state_results d s (changed_newest (λ set. after_held set p false)) (λ state. refl)
+pub hold_calms : (d : DagData) (s p : ℕ) (denied : Bool) → Calm d (after_hold d s p denied)
+hold_calms d s p denied = state_calm d s (told_held p denied) (told_calm p denied)
+
+pub hold_results : (d : DagData) (s p : ℕ) (denied : Bool)
+    → SameResults d (after_hold d s p denied)
+hold_results d s p denied = state_results d s (told_held p denied) (λ state. refl)
 
 pub seen_calm : (d : DagData) (exec found : ℕ) → Calm d (after_seen d exec found)
 seen_calm d exec found = by (is_newer (slice_get d.tracker.trust exec) found)

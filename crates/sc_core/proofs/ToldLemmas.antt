@@ -93,7 +93,6 @@ told_sound c after a sound moves carries running handed dag_sound goes done =
       placed = carries.placed sound.placed;
       apart = subst (λ rs. AllPairs AreTwo rs) (sym running)
           (AllPairs-filter AreTwo (λ r. not (is_of a r)) c.running sound.apart);
-      unheld = moves.unheld sound.unheld;
       budget = rw (handed, moves.limits) sound.budget;
       goes_on = goes;
       done = done;

@@ -7,6 +7,7 @@ pub mod Tells
 pub mod Posts
 pub mod Releases
 pub mod Losses
+pub mod Saving
 pub mod Sides
 pub mod Rooms
 pub mod Steps

@@ -1,13 +1,16 @@
 -- What happens beside the reports, what it is answered, and what that leaves.
-use Rattle.std.specs.Prelude.{ℕ, ◌≡◌, ◌≤◌, true, false, Option, Some, None, IfSome, map, max}
+use Rattle.std.specs.Prelude.{ℕ, ◌≡◌, ◌≤◌, ◌⊎◌, Bool, true, false, Option, Some, None, IfSome, map, max}
+use Rattle.sc_dag.specs.DagData.{DagData}
+use Rattle.sc_dag.specs.Reports.{after_hold}
 use Rattle.sc_core.specs.CoreData.{CoreData, job_runs}
 use Rattle.sc_core.specs.Posts.{is_save}
+use Rattle.sc_core.specs.Saving.{AsksIf, MovesIf, StagesIf, is_given, is_granted, is_staged, saver_phase}
 use Rattle.sc_core.specs.declared.answers.Answer.{Answer}
 use Rattle.sc_core.specs.declared.answers.Answer.TheVariants as says
 use Rattle.sc_core.specs.declared.answers.SideAnswer.{SideAnswer}
 use Rattle.sc_core.specs.declared.answers.SideAnswer.TheVariants.{Ignored, Left, Ticked}
 use Rattle.sc_core.specs.declared.events.SideEvent.{SideEvent}
-use Rattle.sc_core.specs.declared.events.SideEvent.TheVariants.{Leave, Tick}
+use Rattle.sc_core.specs.declared.events.SideEvent.TheVariants.{Ask, Leave, Move, Stage, Tick}
 use Rattle.sc_core.specs.declared.running.Running.{Running}
 
 -- the first executor that left early, once this one has left too
@@ -22,12 +25,27 @@ with_leaver c exec = record c { left_first = first_with c.left_first exec }
 abbrev pub with_tick : CoreData → ℕ → CoreData
 with_tick c now = record c { now = max c.now now }
 
--- the answers to what happens beside the reports, each with its cause, and what they leave
+-- an executor leaves early, in a job that may run
+abbrev pub LeavesIf : Bool → CoreData → ℕ → SideAnswer → CoreData → Type 0
+LeavesIf false c exec said after = (said ≡ Ignored) × (after ≡ c)
+LeavesIf true c exec said after = (said ≡ Left) × (after ≡ with_leaver c exec)
+
+-- the clock is read, in a job that may run
+abbrev pub TicksIf : Bool → CoreData → ℕ → SideAnswer → CoreData → Type 0
+TicksIf false c now said after = (said ≡ Ignored) × (after ≡ c)
+TicksIf true c now said after = (said ≡ Ticked) × (after ≡ with_tick c now)
+
+-- What happens beside the reports, what it is answered and leaves. A step of a save is over where
+-- its attempt doesn't come next: to stage once it was given, to ask once it staged, to move once
+-- it was granted.
 abbrev pub Sides : CoreData → SideEvent → SideAnswer → CoreData → Type 0
-Sides c event Ignored after = (job_runs c ≡ false) × (after ≡ c)
-Sides c (Leave exec) Left after = (job_runs c ≡ true) × (after ≡ with_leaver c exec)
-Sides c (Tick now) Ticked after = (job_runs c ≡ true) × (after ≡ with_tick c now)
-Sides c event said after = ⊥
+Sides c (Leave exec) said after = LeavesIf (job_runs c) c exec said after
+Sides c (Tick now) said after = TicksIf (job_runs c) c now said after
+Sides c (Stage attempt wrote) said after =
+    StagesIf (is_given (saver_phase c attempt)) c attempt wrote said after
+Sides c (Ask attempt) said after = AsksIf (is_staged (saver_phase c attempt)) c attempt said after
+Sides c (Move attempt renamed) said after =
+    MovesIf (is_granted (saver_phase c attempt)) c attempt renamed said after
 
 -- the same among all answers
 abbrev pub StepsAside : CoreData → SideEvent → Answer → CoreData → Type 0
@@ -41,8 +59,14 @@ pub record IsFurther (r after : Running) : Type 0 where
   pub is_out : after.is_out ≡ r.is_out
   pub phase : r.is_out ≡ false → after.phase ≡ r.phase
 
--- A core, but for how far attempts have come that are out, who may commit, who left first, and the
--- greatest tick. No tick goes back, and who left first stays so.
+-- stages, but for whether a partition is held back
+abbrev pub MayHold : DagData → DagData → Type 0
+MayHold d after =
+    (after ≡ d) ⊎ ((s : ℕ) × (p : ℕ) × (denied : Bool) × (after ≡ after_hold d s p denied))
+
+-- A core, but for how far attempts have come that are out, who may commit and which partition is
+-- held back for that, who left first, and the greatest tick. No tick goes back, and who left first
+-- stays so.
 pub record IsAside (c after : CoreData) : Type 0 where
   pub told : after.told ≡ c.told
   pub ticks : c.now ≤ after.now
@@ -55,5 +79,5 @@ pub record IsAside (c after : CoreData) : Type 0 where
   pub shelf : after.shelf ≡ c.shelf
   pub next_key : after.next_key ≡ c.next_key
   pub saves : is_save after.committers ≡ is_save c.committers
-  pub dag : after.dag ≡ c.dag
+  pub dag : MayHold c.dag after.dag
   pub plan : after.plan ≡ c.plan

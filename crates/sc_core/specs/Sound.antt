@@ -1,15 +1,18 @@
 -- What holds of every core.
-use Rattle.std.specs.Prelude.{ℕ, ◌^◌, ◌<◌, ◌≤◌, ◌≡◌, ◌≢◌, ◌⊎◌, List, Bool, true, false, Option, Some, None, All, IfSome, length, nat_lt}
+use Rattle.std.specs.Prelude.{ℕ, ◌^◌, ◌<◌, ◌≤◌, ◌≡◌, ◌≢◌, ◌⊎◌, ◌==◌, ◌&&◌, List, Bool, true, false, Option, Some, None, All, IfSome, is_some, length, nat_lt, slice_get}
 use Rattle.std.specs.List.{AllPairs, list_any}
 use Rattle.std.specs.Option.{option_map}
-use Rattle.sc_commit.specs.Committing.{is_same}
+use Rattle.sc_base.specs.Lists.{at_or}
+use Rattle.sc_commit.specs.CommitFacts.{IsSoundCommit}
+use Rattle.sc_commit.specs.CommitLaws.{holder_of, winner_of}
+use Rattle.sc_commit.specs.Committers.{committer_at}
+use Rattle.sc_commit.specs.Committing.{denies, holds, is_same}
 use Rattle.sc_dag.specs.DagData.{DagData, no_stage, stage_at}
-use Rattle.sc_dag.specs.Outputs.{is_complete}
+use Rattle.sc_dag.specs.Outputs.{held_in, is_complete, is_done}
 use Rattle.sc_dag.specs.Reports.{set_of}
 use Rattle.sc_dag.specs.Settled.{IsSettled, IsUnderWay}
-use Rattle.sc_dag.specs.Sound.{IsSoundDag, attempts_of, runner_of}
+use Rattle.sc_dag.specs.Sound.{IsSoundDag, runner_of}
 use Rattle.sc_dag.specs.Submission.{is_map}
-use Rattle.sc_dag.specs.declared.attempts.StageAttempt.{StageAttempt}
 use Rattle.sc_ids.specs.declared.attempts.AttemptId.{AttemptId}
 use Rattle.sc_ids.specs.declared.blocks.BlockId.{BlockId}
 use Rattle.sc_plan.specs.Orders.{loss_of}
@@ -24,7 +27,9 @@ use Rattle.sc_core.specs.HandOuts.{HandOutData}
 use Rattle.sc_core.specs.declared.answers.Abort.TheVariants.{NoExecutor}
 use Rattle.sc_core.specs.declared.answers.JobState.TheVariants as jobs
 use Rattle.sc_core.specs.Losses.{is_due_after}
-use Rattle.sc_core.specs.Posts.{fits}
+use Rattle.sc_core.specs.Posts.{fits, is_save}
+use Rattle.sc_core.specs.declared.running.Phase.{Phase}
+use Rattle.sc_core.specs.declared.running.Phase.TheVariants as phases
 use Rattle.sc_core.specs.declared.running.Running.{Running}
 use Rattle.sc_core.specs.declared.running.Shelved.{Shelved}
 
@@ -89,10 +94,6 @@ pub record GoesOn (c : CoreData) : Type 0 where
   -- the result stage isn't complete, and goes on
   pub result : IsUnderWay c.dag (result_stage c.dag)
 
--- no grant that is held has denied an attempt of these tasks
-abbrev pub IsUnheld : StageAttempt → Type 0
-IsUnheld a = All (λ task. task.denied ≡ false) a.set.tasks
-
 -- ---- the job
 
 -- what runs, and how far the job is
@@ -110,8 +111,6 @@ pub record IsSoundJob (c : CoreData) : Type 0 where
   pub placed : AreOnLive c.dag.tracker
   -- an executor has one attempt out
   pub apart : AllPairs AreTwo c.running
-  -- nothing is denied yet
-  pub unheld : (s : ℕ) → All IsUnheld (attempts_of c.dag s)
   -- no more was handed out than is allowed
   pub budget : c.handed ≤ c.dag.limits.hand_outs
   -- a job that runs goes on, and one that is done has all its results
@@ -158,6 +157,61 @@ pub record IsSoundShelf (c : CoreData) : Type 0 where
   pub each : All (IsShelvedWell c) c.shelf
   pub rising : AllPairs (λ s t. s.key < t.key) c.shelf
 
+-- ---- saving
+
+-- an attempt holds the grant of its partition
+abbrev pub has_grant : CoreData → AttemptId → Bool
+has_grant c a = holds a (committer_at c.committers a.partition)
+
+-- How far an attempt can have come that holds its grant or doesn't. One whose call on the files
+-- failed may hold it still.
+abbrev pub IsAsFar : Phase → Bool → Type 0
+IsAsFar phases.Given granted = granted ≡ false
+IsAsFar phases.Staged granted = granted ≡ false
+IsAsFar phases.Granted granted = granted ≡ true
+IsAsFar phases.Denied granted = granted ≡ false
+IsAsFar phases.Moved granted = granted ≡ true
+IsAsFar (phases.Faulted fault) granted = Unit {0}
+
+-- a running attempt has come as far as its grant tells, and past its beginning only where it is one
+-- of a save's result stage
+pub record SavesWell (c : CoreData) (r : Running) : Type 0 where
+  pub saver : r.phase ≢ phases.Given
+      → (is_save c.committers ≡ true) × (r.hand_out.attempt.stage ≡ result_stage c.dag)
+  pub far : IsAsFar r.phase (has_grant c r.hand_out.attempt)
+
+-- who holds a grant runs, and is of the result stage
+pub record HoldsWell (c : CoreData) (holder : AttemptId) : Type 0 where
+  pub stage : holder.stage ≡ result_stage c.dag
+  pub runs : running_of c holder ≢ None
+
+-- who has won was handed out, is of the result stage, and runs no more
+pub record HasWon (c : CoreData) (winner : AttemptId) : Type 0 where
+  pub given : was_given c.dag winner ≡ true
+  pub stage : winner.stage ≡ result_stage c.dag
+  pub over : running_of c winner ≡ None
+
+-- a live grant of the result stage has denied an attempt of a partition
+abbrev pub is_denied_in : CoreData → ℕ → ℕ → Bool
+is_denied_in c s p = (s == result_stage c.dag) && denies (committer_at c.committers p)
+
+-- who may commit, in a job that runs
+pub record IsSoundSave (c : CoreData) : Type 0 where
+  pub commit : IsSoundCommit c.committers
+  -- a save has a place for each result task
+  pub places : is_save c.committers ≡ true
+      → length c.committers ≡ (stage_at c.dag (result_stage c.dag)).tasks
+  pub phases : All (SavesWell c) c.running
+  pub holders : (p : ℕ) → IfSome (holder_of c.committers p) (HoldsWell c)
+  pub winners : (p : ℕ) → IfSome (winner_of c.committers p) (HasWon c)
+  -- a partition of a save has its result exactly where one has won, so where there is a grant it
+  -- has none
+  pub won : is_save c.committers ≡ true → (p : ℕ)
+      → is_some (winner_of c.committers p) ≡ is_done c.dag (result_stage c.dag) p
+  -- held back is exactly what a live grant denies
+  pub mirrors : (s p : ℕ)
+      → at_or (held_in (slice_get c.dag.states s)) p false ≡ is_denied_in c s p
+
 -- ---- what was told
 
 -- who was told lost was planned to be, and as many reports were told as come before that
@@ -176,6 +230,8 @@ pub record IsSoundCore (c : CoreData) : Type 0 where
   pub job : IsSoundJob c
   -- after the job's end nothing is told any more
   pub shelf : job_runs c ≡ true → IsSoundShelf c
+  -- and who may commit isn't asked any more
+  pub save : job_runs c ≡ true → IsSoundSave c
   pub lost : AreLostAsPlanned c
   -- the count of what was told is within its type
   pub told : c.told < 2 ^ 64

@@ -22,7 +22,7 @@ use Rattle.sc_core.specs.declared.entries.Entry.{Entry}
 use Rattle.sc_core.specs.declared.events.Event.{Event}
 use Rattle.sc_core.specs.declared.events.Event.TheVariants.{Post, Release, Side, Take, TellLost}
 use Rattle.sc_core.specs.declared.events.SideEvent.{SideEvent}
-use Rattle.sc_core.specs.declared.events.SideEvent.TheVariants.{Leave, Tick}
+use Rattle.sc_core.specs.declared.events.SideEvent.TheVariants.{Ask, Leave, Move, Stage, Tick}
 use Rattle.sc_core.specs.declared.events.Outcome.{Outcome}
 use Rattle.sc_core.specs.declared.events.Outcome.TheVariants as outcomes
 
@@ -76,6 +76,9 @@ outcome_text (outcomes.Failed cause) = codes "failed: " ++ cause_text cause
 abbrev pub side_event_text : SideEvent → List ℕ
 side_event_text (Leave exec) = codes "leave " ++ decimal exec
 side_event_text (Tick now) = codes "tick " ++ decimal now
+side_event_text (Stage attempt wrote) = codes "stage " ++ attempt_text attempt
+side_event_text (Ask attempt) = codes "ask " ++ attempt_text attempt
+side_event_text (Move attempt renamed) = codes "move " ++ attempt_text attempt
 
 abbrev pub event_text : Event → List ℕ
 event_text (Take exec) = codes "take"
@@ -101,6 +104,12 @@ abbrev pub side_answer_text : SideAnswer → List ℕ
 side_answer_text sides.Ignored = codes "ignored"
 side_answer_text sides.Left = codes "left"
 side_answer_text sides.Ticked = codes "ticked"
+side_answer_text sides.Over = codes "over"
+side_answer_text sides.Staged = codes "staged"
+side_answer_text sides.Granted = codes "granted"
+side_answer_text (sides.Denied by) = codes "denied by " ++ attempt_text by
+side_answer_text sides.Moved = codes "moved"
+side_answer_text (sides.Fault fault) = fault_text fault
 
 abbrev pub answer_text : Answer → List ℕ
 answer_text (says.Task h) = task_text h

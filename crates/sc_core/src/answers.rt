@@ -5,7 +5,7 @@ ghost use Rattle.std.specs.Prelude.{◌≡◌, IfOk, false};
 ghost use Rattle.sc_core.specs.Owners.{IsThrice, has_task};
 
 use crate::running::HandOut;
-use sc_ids::{AttemptId, ExecId, StageId};
+use sc_ids::{AttemptId, ExecId, Fault, StageId};
 use std::alloc::AllocError;
 
 /// Why a job was aborted.
@@ -51,6 +51,21 @@ pub enum SideAnswer {
     Left,
     /// The time is noted, unless it was later before.
     Ticked,
+    /// The attempt has no such step to take, and nothing changes.
+    Over,
+    /// The attempt's output is written aside.
+    Staged,
+    /// The attempt may commit.
+    Granted,
+    /// The attempt may not commit.
+    Denied {
+        /// The attempt that holds the grant, or has won.
+        by: AttemptId,
+    },
+    /// The attempt's output is where it counts.
+    Moved,
+    /// The call on the files failed.
+    Fault(Fault),
 }
 
 /// What a core answers.

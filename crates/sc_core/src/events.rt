@@ -1,7 +1,7 @@
 //! What happens to a core.
 #![tactic(auto)]
 
-use sc_ids::{AttemptId, ExecId, FailureCause, Loc};
+use sc_ids::{AttemptId, ExecId, FailureCause, Fault, Loc};
 
 /// How a report ends an attempt.
 #[derive(Clone, Copy, Debug, PartialEq, Eq)]
@@ -14,7 +14,17 @@ pub enum Outcome {
     Failed(FailureCause),
 }
 
-/// What happens to a core beside the reports: it changes no stage, no task set and no result.
+/// What a call on the files came to.
+#[derive(Clone, Copy, Debug, PartialEq, Eq)]
+pub enum FileOutcome {
+    /// It is done.
+    Done,
+    /// It failed.
+    Failed(Fault),
+}
+
+/// What happens to a core beside the reports: it ends no attempt and wins no result, and of the
+/// stages it changes alone whether a partition is held back.
 #[derive(Clone, Copy, Debug, PartialEq, Eq)]
 pub enum SideEvent {
     /// An executor leaves early, and takes part in this job no more.
@@ -26,6 +36,25 @@ pub enum SideEvent {
     Tick {
         /// What it showed, in milliseconds.
         now: u64,
+    },
+    /// An attempt of a save has written its output aside, or tried to.
+    Stage {
+        /// The attempt.
+        attempt: AttemptId,
+        /// What the call came to.
+        wrote: FileOutcome,
+    },
+    /// An attempt of a save asks whether it may commit.
+    Ask {
+        /// The attempt.
+        attempt: AttemptId,
+    },
+    /// An attempt of a save has moved its output to where it counts, or tried to.
+    Move {
+        /// The attempt.
+        attempt: AttemptId,
+        /// What the call came to.
+        renamed: FileOutcome,
     },
 }
 

@@ -3,8 +3,9 @@
 //! [`Core::step`] is the only way in. An [`Event`] is one of five: an executor asks for a task
 //! ([`Event::Take`]) or reports on one ([`Event::Post`]); a report that the fault plan delayed
 //! reaches the driver ([`Event::Release`]); the driver learns that an executor is lost
-//! ([`Event::TellLost`]); or something happens beside the reports ([`Event::Side`]), such as an
-//! executor that leaves, or the clock that is read. What an event is answered and what it leaves is
+//! ([`Event::TellLost`]); or something happens beside the reports ([`Event::Side`]): an executor leaves,
+//! the clock is read, or an attempt of a save stages its output, asks whether it may commit, or
+//! moves the output to where it counts. What an event is answered and what it leaves is
 //! one relation, `Steps` of `specs/Steps.antt`, with a file for each event. A [`Journal`] keeps the
 //! events with their answers, so that its state is the replay of its entries.
 //!
@@ -32,6 +33,7 @@ mod posts;
 mod readers;
 mod releases;
 mod running;
+mod saving;
 mod shelves;
 mod sides;
 mod stages;
@@ -45,7 +47,7 @@ mod words;
 pub use answers::{Abort, Answer, JobState, NotEnabled, SideAnswer, Stepped};
 pub use cores::Core;
 pub use entries::Entry;
-pub use events::{Event, Outcome, SideEvent};
+pub use events::{Event, FileOutcome, Outcome, SideEvent};
 pub use inputs::Inputs;
 pub use journals::{Entered, JobHistory, Journal};
 pub use laws::cores_are_sound;

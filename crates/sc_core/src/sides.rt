@@ -28,6 +28,9 @@ impl State {
         match event {
             SideEvent::Leave { exec } => self.leave(exec),
             SideEvent::Tick { now } => self.note_tick(now),
+            SideEvent::Stage { attempt, wrote } => self.stage(attempt, wrote),
+            SideEvent::Ask { attempt } => self.ask(attempt),
+            SideEvent::Move { attempt, renamed } => self.move_output(attempt, renamed),
         }
     }
 

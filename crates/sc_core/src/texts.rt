@@ -6,7 +6,7 @@ use crate::entries::Entry;
 use crate::events::{Event, Outcome, SideEvent};
 use crate::inputs::Inputs;
 use crate::running::HandOut;
-use crate::words::{By, Often, Places, Store, Why};
+use crate::words::{By, Failed, Often, Places, Store, Why};
 use std::fmt;
 
 impl fmt::Display for Inputs {
@@ -88,6 +88,9 @@ impl fmt::Display for SideEvent {
         match *self {
             SideEvent::Leave { exec } => write!(f, "leave {exec}"),
             SideEvent::Tick { now } => write!(f, "tick {now}"),
+            SideEvent::Stage { attempt, .. } => write!(f, "stage {attempt}"),
+            SideEvent::Ask { attempt } => write!(f, "ask {attempt}"),
+            SideEvent::Move { attempt, .. } => write!(f, "move {attempt}"),
         }
     }
 }
@@ -103,6 +106,15 @@ impl fmt::Display for SideAnswer {
             SideAnswer::Ignored => write!(f, "ignored"),
             SideAnswer::Left => write!(f, "left"),
             SideAnswer::Ticked => write!(f, "ticked"),
+            SideAnswer::Over => write!(f, "over"),
+            SideAnswer::Staged => write!(f, "staged"),
+            SideAnswer::Granted => write!(f, "granted"),
+            SideAnswer::Denied { by } => write!(f, "denied by {by}"),
+            SideAnswer::Moved => write!(f, "moved"),
+            SideAnswer::Fault(fault) => {
+                let failed = Failed { fault };
+                write!(f, "{failed}")
+            }
         }
     }
 }

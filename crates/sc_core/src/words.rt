@@ -96,8 +96,8 @@ impl<'a> fmt::Display for Places<'a> {
 
 /// A call on the files that failed.
 #[derive(Clone, Copy)]
-struct Failed {
-    fault: Fault,
+pub(crate) struct Failed {
+    pub fault: Fault,
 }
 
 impl fmt::Display for Failed {
