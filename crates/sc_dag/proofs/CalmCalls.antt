@@ -13,7 +13,7 @@ use Rattle.sc_dag.specs.DagData.{DagData, StageState, is_live_set, place_of_atte
 use Rattle.sc_dag.specs.Laws.{GoesOn, OthersGoOn}
 use Rattle.sc_dag.specs.Losses.{after_lost, after_seen, without_executor}
 use Rattle.sc_dag.specs.Outputs.{is_complete, is_complete_by, is_done_by, results_in}
-use Rattle.sc_dag.specs.Reports.{ended_in_own}
+use Rattle.sc_dag.specs.Reports.{ended_in_own, told_held}
 use Rattle.sc_dag.specs.Settled.{IsSettled}
 use Rattle.sc_dag.specs.declared.attempts.StageAttempt.{StageAttempt}
 use Rattle.sc_dag.proofs.Calm.{IsCalm, calm_goes_on, calm_same, calm_set, with_goes_on}
@@ -103,9 +103,10 @@ others_go_on d sound settled = (
   λ a cause. with_goes_on d a.stage _ (λ state. refl)
       (λ state. calm_set state (place_of_attempt state a.stage_attempt)
       (λ set. after_failure set a.partition a.nth cause) (λ set. refl)) settled,
-  λ s p denied. with_goes_on d s _ (λ state. refl)
-      (λ state. calm_set state (length state.attempts - 1)
-      (λ set. after_held set p denied) (λ set. refl)) settled,
+  λ s p denied. with_goes_on d s (told_held p denied) (λ state. refl)
+      (λ state. (let calm = calm_set state (length state.attempts - 1)
+      (λ set. after_held set p denied) (λ set. refl) in
+      record { waits = calm.waits; live = calm.live; failed = calm.failed })) settled,
   λ exec found. seen_goes_on d exec found settled,
   λ exec. lost_goes_on d exec settled,
 )

@@ -280,7 +280,7 @@ module _ (epoch : ℕ) where
       before = change_at state.attempts (length state.attempts - 1) (with_set as_zombie)
 
       fresh : StageAttempt
-      fresh = stage_attempt (new_set t limits stage state.results) false
+      fresh = stage_attempt (new_set t limits stage state.results state.held) false
 
       past : All (IsPast epoch) before
       past = all_changed (IsPast epoch) state.attempts last (with_set as_zombie)

@@ -7,7 +7,10 @@ pub mod Charging
 pub mod Ending
 pub mod FateLemmas
 pub mod Finishes
+pub mod FreshSets
 pub mod GoingOn
+pub mod HeldLemmas
+pub mod Holding
 pub mod Items
 pub mod JobStages
 pub mod Keeping

@@ -61,11 +61,12 @@ complete_after d looked s =
 -- the newest set of a stage that has started
 pub newest_started :
     (t : TrackerData) (limits : Limits) (stage : StageData) (state : StageState)
-    → newest_set (started t limits stage state) ≡ Some (new_set t limits stage state.results)
+    → newest_set (started t limits stage state)
+    ≡ Some (new_set t limits stage state.results state.held)
 newest_started t limits stage state =
     ap set_in
     (last_is (changed_newest as_zombie state).attempts
-    (stage_attempt (new_set t limits stage state.results) false))
+    (stage_attempt (new_set t limits stage state.results state.held) false))
 
 -- a stage that is looked at goes on
 pub looked_goes :

@@ -33,6 +33,7 @@ blank_sound :
 blank_sound t stage before =
     record {
       results = length-replicate (if is_map stage.target then 0 else stage.tasks) false;
+      flags = record { many = length-replicate stage.tasks false; held = tt };
       attempts = record {
         each = All-nil (IsAttemptOf stage);
         older = All-nil (λ a. a.set.is_zombie ≡ true);
@@ -43,7 +44,7 @@ blank_sound t stage before =
 blank_at :
     (t : TrackerData) (last : Option DagData) (n : ℕ) (stages : List StageData) (s : ℕ)
     → IsSoundAt t (at_or stages s no_stage) (slice_get (blank_states last n stages) s)
-blank_at t last n [] s = refl
+blank_at t last n [] s = (refl, record { many = refl; held = tt })
 blank_at t last n (stage ∷ stages) zero = blank_sound t stage (attempts_so_far last n)
 blank_at t last n (stage ∷ stages) (suc s) = blank_at t last (n + 1) stages s
 

@@ -9,11 +9,12 @@ use Rattle.sc_ids.proofs.ChangeLemmas.{length_change_at, slice_get_change_other,
 use Rattle.sc_taskset.specs.TaskSetData.{TaskSetData}
 use Rattle.sc_tracker.specs.TrackerData.{TrackerData}
 use Rattle.sc_dag.specs.DagData.{StageState, newest_set, set_in, stage_attempt, with_attempts, with_set}
-use Rattle.sc_dag.specs.Sound.{IsAttemptOf, IsSetOf}
+use Rattle.sc_dag.specs.Sound.{AreHeldBy, IsAttemptOf, IsSetOf}
 use Rattle.sc_dag.specs.declared.attempts.StageAttempt.{StageAttempt}
+use Rattle.sc_dag.proofs.Holding.{KeepsHeld}
 use Rattle.sc_dag.proofs.Items.{all_changed, all_unmapped, take_change, take_map}
 use Rattle.sc_dag.proofs.Sets.{KeepsSet, SameFinish}
-use Rattle.sc_dag.proofs.SoundStages.{AreAttempts, IsNewest, IsSoundState}
+use Rattle.sc_dag.proofs.SoundStages.{AreAttempts, AreFlags, IsNewest, IsSoundState}
 
 -- a set that keeps what holds is one of its stage
 pub set_kept :
@@ -121,20 +122,20 @@ newest_same t stage results set after same is =
           is.covered p kind lt (λ e. absurd (search (rules, e))) (sym (same.wants p) ∙ h);
     }
 
--- a stage with one attempt changed, and finished where it was
-pub state_quiet :
+-- what a change of an attempt keeps where it finishes no task
+pub record IsQuiet (stage : StageData) (a after : StageAttempt) : Type 0 where
+  pub keeps : KeepsAttempt stage a after
+  pub same : SameFinish a.set after.set
+
+-- the newest set of a stage with one attempt changed, which is finished where it was
+pub newest_quiet :
     (t : TrackerData) (stage : StageData) (state : StageState) (i : ℕ)
     (h : StageAttempt → StageAttempt)
-    → ((a : StageAttempt) → slice_get state.attempts i ≡ Some a
-    → KeepsAttempt stage a (h a) × SameFinish a.set (h a).set)
-    → IsSoundState t stage state
-    → IsSoundState t stage (with_attempts state (change_at state.attempts i h))
-state_quiet t stage state i h keeps is =
-    record {
-      results = is.results;
-      attempts = attempts_changed stage state.attempts i h (λ a at. (keeps a at).0) is.attempts;
-      newest = by (cases_eq i (length state.attempts - 1));
-    }
+    → ((a : StageAttempt) → slice_get state.attempts i ≡ Some a → IsQuiet stage a (h a))
+    → IsNewest t stage state.results (newest_set state)
+    → IsNewest t stage state.results
+    (newest_set (with_attempts state (change_at state.attempts i h)))
+newest_quiet t stage state i h quiet is = by (cases_eq i (length state.attempts - 1))
   where
     mapped : (o : Option StageAttempt) → slice_get state.attempts (length state.attempts - 1) ≡ o
         → i ≡ length state.attempts - 1 → IsNewest t stage state.results (set_in o)
@@ -142,12 +143,52 @@ state_quiet t stage state i h keeps is =
     mapped None e at n = n
     mapped (Some a) e at n =
         newest_same t stage state.results a.set (h a).set
-        (keeps a (ap (slice_get state.attempts) at ∙ e)).1 n
+        (quiet a (ap (slice_get state.attempts) at ∙ e)).same n
 
     by : (i ≡ length state.attempts - 1) ⊎ (i ≡ length state.attempts - 1 → ⊥)
         → IsNewest t stage state.results
         (newest_set (with_attempts state (change_at state.attempts i h)))
     by (inl e) =
         rw (newest_changed state.attempts i h e)
-        (mapped (slice_get state.attempts (length state.attempts - 1)) refl e is.newest)
-    by (inr ne) = rw (newest_kept state.attempts i h ne) is.newest
+        (mapped (slice_get state.attempts (length state.attempts - 1)) refl e is)
+    by (inr ne) = rw (newest_kept state.attempts i h ne) is
+
+-- a stage with one attempt changed, its tasks held back as they were
+pub flags_quiet :
+    (stage : StageData) (state : StageState) (i : ℕ) (h : StageAttempt → StageAttempt)
+    → ((a : StageAttempt) → KeepsHeld a.set (h a).set)
+    → AreFlags stage state.held (newest_set state)
+    → AreFlags stage state.held
+    (newest_set (with_attempts state (change_at state.attempts i h)))
+flags_quiet stage state i h holds is =
+    record { many = is.many; held = by (cases_eq i (length state.attempts - 1)) }
+  where
+    mapped : (o : Option StageAttempt) → AreHeldBy state.held (set_in o)
+        → AreHeldBy state.held (set_in (option_map h o))
+    mapped None held = held
+    mapped (Some a) held = holds a state.held held
+
+    by : (i ≡ length state.attempts - 1) ⊎ (i ≡ length state.attempts - 1 → ⊥)
+        → AreHeldBy state.held
+        (newest_set (with_attempts state (change_at state.attempts i h)))
+    by (inl e) =
+        rw (newest_changed state.attempts i h e)
+        (mapped (slice_get state.attempts (length state.attempts - 1)) is.held)
+    by (inr ne) = rw (newest_kept state.attempts i h ne) is.held
+
+-- a stage with one attempt changed, and finished and held back where it was
+pub state_quiet :
+    (t : TrackerData) (stage : StageData) (state : StageState) (i : ℕ)
+    (h : StageAttempt → StageAttempt)
+    → ((a : StageAttempt) → slice_get state.attempts i ≡ Some a → IsQuiet stage a (h a))
+    → ((a : StageAttempt) → KeepsHeld a.set (h a).set)
+    → IsSoundState t stage state
+    → IsSoundState t stage (with_attempts state (change_at state.attempts i h))
+state_quiet t stage state i h quiet holds is =
+    record {
+      results = is.results;
+      flags = flags_quiet stage state i h holds is.flags;
+      attempts = attempts_changed stage state.attempts i h (λ a at. (quiet a at).keeps)
+          is.attempts;
+      newest = newest_quiet t stage state i h quiet is.newest;
+    }

@@ -28,11 +28,12 @@ use Rattle.sc_dag.specs.Losses.{after_lost, after_seen, without_executor}
 use Rattle.sc_dag.specs.Outputs.{block_of, is_done_by}
 use Rattle.sc_dag.specs.Reports.{wants_in}
 use Rattle.sc_dag.specs.Births.{births_of, AreCharged}
-use Rattle.sc_dag.specs.Sound.{IsAttemptOf, IsSoundDag, attempts_in, attempts_of, finish_in}
+use Rattle.sc_dag.specs.Sound.{AreHeldBy, IsAttemptOf, IsSoundDag, attempts_in, attempts_of, finish_in}
 use Rattle.sc_dag.specs.Submission.{is_map}
 use Rattle.sc_dag.specs.declared.attempts.StageAttempt.{StageAttempt}
 use Rattle.sc_dag.proofs.Births.{Ages, births_in, births_kept, births_mapped, births_state, event_ages}
 use Rattle.sc_dag.proofs.Finishes.{loss_finish, loss_wanted, loss_wants}
+use Rattle.sc_dag.proofs.Holding.{holds_loss}
 use Rattle.sc_dag.proofs.Items.{all_at}
 use Rattle.sc_dag.proofs.Keeping.{newest_mapped}
 use Rattle.sc_dag.proofs.Sets.{keeps_loss}
@@ -186,6 +187,7 @@ sound_forgotten t u exec stage None f is = is
 sound_forgotten t u exec stage (Some state) f is =
     record {
       results = is.results;
+      flags = is.flags;
       attempts = is.attempts;
       newest = record {
         made = λ p on shuffle target h. rw (f.outputs (block_of shuffle p))
@@ -261,6 +263,11 @@ loss_state :
 loss_state t u exec stage state f is =
     record {
       results = is.results;
+      flags = record {
+        many = is.flags.many;
+        held = rw (newest_mapped state.attempts lose)
+            (held (slice_get state.attempts (length state.attempts - 1)) is.flags.held);
+      };
       attempts = attempts_mapped stage state.attempts lose
           (λ x. keeps_with stage x (λ set. after_loss set exec) (keeps_loss x.set exec))
           is.attempts;
@@ -270,6 +277,11 @@ loss_state t u exec stage state f is =
   where
     lose : StageAttempt → StageAttempt
     lose = with_set (λ set. after_loss set exec)
+
+    held : (o : Option StageAttempt) → AreHeldBy state.held (set_in o)
+        → AreHeldBy state.held (set_in (option_map lose o))
+    held None is = is
+    held (Some x) is = holds_loss x.set exec state.held is
 
     by : (o : Option StageAttempt) → slice_get state.attempts (length state.attempts - 1) ≡ o
         → IsNewest t stage state.results (set_in o)

@@ -12,10 +12,10 @@ use Rattle.sc_taskset.specs.declared.tasks.Finish.TheVariants.{OnExecutor}
 use Rattle.sc_tracker.specs.TrackerData.{TrackerData, output_of, outputs_of}
 use Rattle.sc_tracker.specs.TrackerFacts.{IsSoundTracker}
 use Rattle.sc_dag.specs.DagData.{DagData, StageState, dag_data, newest_set, stage_at, with_state}
-use Rattle.sc_dag.specs.Outputs.{block_of, is_done_by, results_in}
+use Rattle.sc_dag.specs.Outputs.{block_of, held_in, is_done_by, results_in}
 use Rattle.sc_dag.specs.Reports.{wants_in}
 use Rattle.sc_dag.specs.Births.{AreCharged, births_of}
-use Rattle.sc_dag.specs.Sound.{AreSoundStages, IsAttemptOf, IsSoundDag, attempts_in, attempts_of, finish_in}
+use Rattle.sc_dag.specs.Sound.{AreHeldBy, AreSoundStages, IsAttemptOf, IsSoundDag, attempts_in, attempts_of, finish_in}
 use Rattle.sc_dag.specs.Submission.{is_map}
 use Rattle.sc_dag.specs.declared.attempts.StageAttempt.{StageAttempt}
 use Rattle.sc_dag.proofs.Births.{Ages, AreBirths, KeepsBirths, ages_same, births_in, births_kept, births_with}
@@ -42,14 +42,20 @@ pub record IsNewest
 abbrev pub HasPlaces : StageData → List Bool → Type 0
 HasPlaces stage results = length results ≡ (if is_map stage.target then 0 else stage.tasks)
 
+-- a stage has a flag for each partition, and by these its newest set holds tasks back
+pub record AreFlags (stage : StageData) (flags : List Bool) (o : Option TaskSetData) : Type 0 where
+  pub many : length flags ≡ stage.tasks
+  pub held : AreHeldBy flags o
+
 -- what holds of a stage
 pub record IsSoundState (t : TrackerData) (stage : StageData) (state : StageState) : Type 0 where
   pub results : HasPlaces stage state.results
+  pub flags : AreFlags stage state.held (newest_set state)
   pub attempts : AreAttempts stage state.attempts
   pub newest : IsNewest t stage state.results (newest_set state)
 
 abbrev pub IsSoundAt : TrackerData → StageData → Option StageState → Type 0
-IsSoundAt t stage None = HasPlaces stage []
+IsSoundAt t stage None = HasPlaces stage [] × AreFlags stage [] None
 IsSoundAt t stage (Some state) = IsSoundState t stage state
 
 -- ---- stage by stage and back
@@ -58,21 +64,28 @@ pub sound_at : (d : DagData) (s : ℕ) → IsSoundDag d
     → IsSoundAt d.tracker (stage_at d s) (slice_get d.states s)
 sound_at d s sound =
     by (slice_get d.states s) (sound.results s)
+    (record { many = sound.flags s; held = sound.held s })
     (record { each = sound.attempts s; older = sound.older s })
     (record { made = sound.made s; wanted = sound.wanted s; covered = sound.covered s })
   where
     by : (o : Option StageState) → HasPlaces (stage_at d s) (results_in o)
+        → AreFlags (stage_at d s) (held_in o) (newest_among o)
         → AreAttempts (stage_at d s) (attempts_in o)
         → IsNewest d.tracker (stage_at d s) (results_in o) (newest_among o)
         → IsSoundAt d.tracker (stage_at d s) o
-    by None results attempts newest = results
-    by (Some state) results attempts newest =
-        record { results = results; attempts = attempts; newest = newest }
+    by None results flags attempts newest = (results, flags)
+    by (Some state) results flags attempts newest =
+        record { results = results; flags = flags; attempts = attempts; newest = newest }
 
 places_at : (t : TrackerData) (stage : StageData) (o : Option StageState) → IsSoundAt t stage o
     → HasPlaces stage (results_in o)
-places_at t stage None is = is
+places_at t stage None is = is.0
 places_at t stage (Some state) is = is.results
+
+flags_at : (t : TrackerData) (stage : StageData) (o : Option StageState) → IsSoundAt t stage o
+    → AreFlags stage (held_in o) (newest_among o)
+flags_at t stage None is = is.1
+flags_at t stage (Some state) is = is.flags
 
 attempts_at : (t : TrackerData) (stage : StageData) (o : Option StageState) → IsSoundAt t stage o
     → AreAttempts stage (attempts_in o)
@@ -106,6 +119,8 @@ sound_from d tracker stages long births charged at =
       stages = stages;
       states = long;
       results = λ s. places_at d.tracker (stage_at d s) (slice_get d.states s) (at s);
+      flags = λ s. (flags_at d.tracker (stage_at d s) (slice_get d.states s) (at s)).many;
+      held = λ s. (flags_at d.tracker (stage_at d s) (slice_get d.states s) (at s)).held;
       attempts = λ s.
           (attempts_at d.tracker (stage_at d s) (slice_get d.states s) (at s)).each;
       older = λ s. (attempts_at d.tracker (stage_at d s) (slice_get d.states s) (at s)).older;

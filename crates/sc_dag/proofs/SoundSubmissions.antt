@@ -1,28 +1,26 @@
 -- A submission keeps what holds of every job.
-use Rattle.std.proofs.Common.{◌≡◌, ◌⊎◌, inl, inr, ℕ, zero, suc, ◌+◌, ◌-◌, ◌<◌, ◌≤◌, ◌==◌, ◌||◌, ◌&&◌, not, Bool, true, false, cond, if◌then◌else◌, List, [], ◌∷◌, ◌++◌, All, filter, length, map, take, Option, Some, None, option_map, slice_get, refl, ap, sym, subst, ◌∙◌, arith, rules, true≢false}
+use Rattle.std.proofs.Common.{◌≡◌, ◌⊎◌, inl, inr, ℕ, zero, suc, ◌+◌, ◌-◌, ◌<◌, ◌≤◌, ◌==◌, ◌||◌, ◌&&◌, not, Bool, true, false, cond, if◌then◌else◌, List, [], ◌∷◌, ◌++◌, All, filter, length, take, Option, Some, None, option_map, slice_get, refl, ap, sym, subst, ◌∙◌, arith, rules, true≢false}
 use Rattle.std.proofs.lemmas.Bool.{or_right}
 use Rattle.std.specs.List.{list_all}
 use Rattle.std.proofs.lemmas.Bool.Decides.{nat_tests}
-use Rattle.std.proofs.lemmas.List.Elements.{All-cons, All-filter, All-head, All-map, All-nil, All-push, All-tail, All-weaker, filter_passes}
-use Rattle.std.proofs.lemmas.List.Kept.{AllPairs-cons, AllPairs-filter}
-use Rattle.sc_base.specs.Lists.{numbers_below, numbers_from}
+use Rattle.std.proofs.lemmas.List.Elements.{All-cons, All-head, All-map, All-nil, All-push, All-tail, All-weaker, filter_passes}
+use Rattle.std.proofs.lemmas.List.Kept.{AllPairs-filter}
+use Rattle.sc_base.specs.Lists.{at_or, numbers_below, numbers_from}
 use Rattle.sc_ids.specs.Changes.{change_at}
 use Rattle.sc_ids.specs.Graphs.{StageData}
 use Rattle.sc_ids.specs.declared.limits.Limits.{Limits}
-use Rattle.sc_taskset.specs.Lookups.{is_finished, is_there_and, task_at}
 use Rattle.sc_taskset.specs.Reports.{as_zombie}
-use Rattle.sc_taskset.specs.Sound.{AreRising}
-use Rattle.sc_taskset.specs.TaskSetData.{fresh_task}
-use Rattle.sc_taskset.specs.declared.tasks.Finish.TheVariants.{Unfinished}
+use Rattle.sc_taskset.specs.TaskSetData.{TaskSetData, fresh_set}
 use Rattle.sc_taskset.proofs.RoomLemmas.{held_fresh}
 use Rattle.sc_tracker.specs.TrackerData.{TrackerData}
 use Rattle.sc_dag.specs.DagData.{DagData, StageState, stage_at, stage_attempt, with_set}
 use Rattle.sc_dag.specs.Outputs.{has_inputs, is_complete_by, is_done_by, missing_by, results_in}
 use Rattle.sc_dag.specs.Births.{births_of, AreCharged}
-use Rattle.sc_dag.specs.Sound.{IsAttemptOf, IsSetOf, IsSoundDag, attempts_in, attempts_of, finish_among}
+use Rattle.sc_dag.specs.Sound.{AreHeldBy, IsAttemptOf, IsSetOf, IsSoundDag, attempts_in, attempts_of}
 use Rattle.sc_dag.specs.Submission.{AreLookedAt, IsSubmitted, as_waiting, is_map, moved_if, new_set, started}
 use Rattle.sc_dag.specs.declared.attempts.StageAttempt.{StageAttempt}
 use Rattle.sc_dag.proofs.Births.{births_changed, births_in, births_moved, births_pushed}
+use Rattle.sc_dag.proofs.FreshSets.{flagged, flagged_sound, fresh_finish, fresh_wants, fresh_within, numbers_rise}
 use Rattle.sc_dag.proofs.Items.{by_number_length, take_push}
 use Rattle.sc_dag.proofs.Looking.{looked_lacks}
 use Rattle.sc_dag.proofs.Moving.{after_looking, newest_started, state_after}
@@ -42,19 +40,6 @@ numbers_within first (suc count) =
     (All-weaker (λ q. q < suc first + count) (λ q. q < first + suc count)
     (λ q h. omega (arith, h)) (numbers_from (suc first) count)
     (numbers_within (suc first) count))
-
-numbers_above : (first count : ℕ) → All (λ q. first ≤ q) (numbers_from first count)
-numbers_above first zero = All-nil (λ q. first ≤ q)
-numbers_above first (suc count) =
-    All-cons (λ q. first ≤ q) first (numbers_from (suc first) count) (omega arith)
-    (All-weaker (λ q. suc first ≤ q) (λ q. first ≤ q) (λ q h. omega (arith, h))
-    (numbers_from (suc first) count) (numbers_above (suc first) count))
-
-pub numbers_rise : (first count : ℕ) → AreRising (numbers_from first count)
-numbers_rise first zero = λ i j d lt l. absurd (omega (arith, l))
-numbers_rise first (suc count) =
-    AllPairs-cons (λ p q. p < q) first (numbers_from (suc first) count)
-    (numbers_above (suc first) count) (numbers_rise (suc first) count)
 
 -- some are left where not all pass
 filter_some :
@@ -87,34 +72,6 @@ in_filter f (x ∷ xs) p e passes =
         let is : x ≡ p = grind (arith, nat_tests, same) in
         absurd (clash (subst (λ y. f y ≡ true) (sym is) passes) pass)
 
--- ---- a fresh set
-
--- nothing of it is finished
-fresh_finish :
-    (ps : List ℕ) (p : ℕ) → finish_among (task_at p (map fresh_task ps)) ≡ Unfinished
-fresh_finish [] p = refl
-fresh_finish (q ∷ ps) p = by (q == p) (fresh_finish ps p)
-  where
-    by : (b : Bool) → finish_among (task_at p (map fresh_task ps)) ≡ Unfinished
-        → finish_among (cond b (Some (fresh_task q)) (task_at p (map fresh_task ps)))
-        ≡ Unfinished
-    by true h = refl
-    by false h = h
-
--- and it wants what it has
-fresh_wants :
-    (ps : List ℕ) (p : ℕ)
-    → is_there_and (λ t. not (is_finished t)) (task_at p (map fresh_task ps)) ≡ is_in ps p
-fresh_wants [] p = refl
-fresh_wants (q ∷ ps) p = by (q == p) (fresh_wants ps p)
-  where
-    by : (b : Bool)
-        → is_there_and (λ t. not (is_finished t)) (task_at p (map fresh_task ps)) ≡ is_in ps p
-        → is_there_and (λ t. not (is_finished t))
-        (cond b (Some (fresh_task q)) (task_at p (map fresh_task ps))) ≡ (b || is_in ps p)
-    by true h = refl
-    by false h = h
-
 -- ---- a stage with a new attempt
 
 -- all attempts are zombies where the last one is made one
@@ -142,31 +99,33 @@ module _ (t : TrackerData) (limits : Limits) (stage : StageData) (state : StageS
   abbrev missing : List ℕ
   missing = missing_by t stage state.results
 
-  new_of : IsSetOf stage (new_set t limits stage state.results)
+  abbrev fresh : TaskSetData
+  fresh = fresh_set missing (is_map stage.target) limits t.epoch
+
+  new_of : IsSetOf stage (new_set t limits stage state.results state.held)
   new_of =
       record {
-        sound = (held_fresh missing (is_map stage.target) limits t.epoch 0 0
+        sound = flagged_sound state.held fresh
+            (held_fresh missing (is_map stage.target) limits t.epoch 0 0
             (AllPairs-filter (λ p q. p < q) (λ p. not (done p)) (numbers_below stage.tasks)
             (numbers_rise 0 stage.tasks))
             (filter_some done (numbers_below stage.tasks) lacks)).sound;
         kind = refl;
-        within = All-map (λ task. task.partition < stage.tasks) fresh_task missing
-            (All-filter (λ p. not (done p)) (λ p. p < stage.tasks) (numbers_below stage.tasks)
-            (All-weaker (λ p. p < 0 + stage.tasks) (λ p. p < stage.tasks)
-            (λ p h. omega (arith, h)) (numbers_below stage.tasks)
-            (numbers_within 0 stage.tasks)));
+        within = All-map (λ task. task.partition < stage.tasks) (flagged state.held) fresh.tasks
+            (fresh_within done stage.tasks);
       }
 
-  new_newest : IsNewest t stage state.results (Some (new_set t limits stage state.results))
+  new_newest : IsNewest t stage state.results
+      (Some (new_set t limits stage state.results state.held))
   new_newest =
       record {
         made = λ p exec shuffle target h.
-            absurd (search (rules, sym (fresh_finish missing p) ∙ h));
+            absurd (search (rules, sym (fresh_finish state.held missing p) ∙ h));
         wanted = λ p h. not_true (done p)
             (all_in (λ q. not (done q) ≡ true) missing p
             (filter_passes (λ q. not (done q)) (numbers_below stage.tasks))
-            (sym (fresh_wants missing p) ∙ h));
-        covered = λ p kind lt ne h. covered p lt (sym (fresh_wants missing p) ∙ h);
+            (sym (fresh_wants state.held missing p) ∙ h));
+        covered = λ p kind lt ne h. covered p lt (sym (fresh_wants state.held missing p) ∙ h);
       }
     where
       covered : (p : ℕ) → p < stage.tasks → is_in missing p ≡ false → done p ≡ true
@@ -181,17 +140,27 @@ module _ (t : TrackerData) (limits : Limits) (stage : StageData) (state : StageS
               absurd (clash (in_filter (λ q. not (done q)) (numbers_below stage.tasks) p
               (any_below (λ q. q == p) stage.tasks p lt itself) (ap not e)) none)
 
+  -- its tasks are held back by the flags of the stage
+  new_held : AreHeldBy state.held (Some (new_set t limits stage state.results state.held))
+  new_held =
+      All-map (λ task. task.denied ≡ at_or state.held task.partition false)
+      (flagged state.held) fresh.tasks (λ i d l. refl)
+
   pub started_sound : IsSoundState t stage (started t limits stage state)
   started_sound =
       record {
         results = is.results;
+        flags = record {
+          many = is.flags.many;
+          held = rw (newest_started t limits stage state) new_held;
+        };
         attempts = record {
-          each = All-push (IsAttemptOf stage) before fresh
+          each = All-push (IsAttemptOf stage) before newest
               (attempts_changed stage state.attempts (length state.attempts - 1)
               (with_set as_zombie)
               (λ a at. keeps_with stage a as_zombie (keeps_zombie a.set)) is.attempts).each
               (record { set = new_of; failed = λ e. absurd (true≢false (sym e)) });
-          older = rw (take_push before fresh)
+          older = rw (take_push before newest)
               (all_dead (length state.attempts - 1) state.attempts (omega arith)
               is.attempts.older);
         };
@@ -201,8 +170,8 @@ module _ (t : TrackerData) (limits : Limits) (stage : StageData) (state : StageS
       before : List StageAttempt
       before = change_at state.attempts (length state.attempts - 1) (with_set as_zombie)
 
-      fresh : StageAttempt
-      fresh = stage_attempt (new_set t limits stage state.results) false
+      newest : StageAttempt
+      newest = stage_attempt (new_set t limits stage state.results state.held) false
 
 -- it begins now
 pub births_started :
@@ -211,7 +180,7 @@ pub births_started :
     ≡ births_of state.attempts ++ t.epoch ∷ []
 births_started t limits stage state =
     births_pushed (change_at state.attempts (length state.attempts - 1) (with_set as_zombie))
-    (stage_attempt (new_set t limits stage state.results) false)
+    (stage_attempt (new_set t limits stage state.results state.held) false)
     ∙ ap (λ bs. bs ++ t.epoch ∷ [])
     (births_changed state.attempts (length state.attempts - 1) (with_set as_zombie) (λ a. refl))
 
@@ -277,7 +246,12 @@ looking_sound d submitted looked sound are =
         (sym (ap (λ o. is_complete_by d.tracker (stage_at d s) (results_in o)) e)
         ∙ looked_lacks d submitted looked s are look)
     own s state e is true look false =
-        record { results = is.results; attempts = is.attempts; newest = is.newest }
+        record {
+          results = is.results;
+          flags = is.flags;
+          attempts = is.attempts;
+          newest = is.newest;
+        }
     own s state e is false look c = is
 
     at : (s : ℕ)

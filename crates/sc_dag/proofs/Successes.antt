@@ -11,16 +11,17 @@ use Rattle.sc_taskset.specs.Reports.{after_success}
 use Rattle.sc_taskset.specs.TaskSetData.{TaskSetData}
 use Rattle.sc_taskset.specs.declared.tasks.Finish.TheVariants.{InOlderSet, OnExecutor}
 use Rattle.sc_tracker.specs.TrackerData.{TrackerData, output_of}
-use Rattle.sc_dag.specs.DagData.{StageState, changed_newest, changed_set, newest_set, place_of_attempt, set_in, with_set}
+use Rattle.sc_dag.specs.DagData.{StageState, changed_newest, changed_set, newest_set, place_of_attempt, set_in, with_attempts, with_set}
 use Rattle.sc_dag.specs.Outputs.{block_of, is_done_by}
 use Rattle.sc_dag.specs.Reports.{wants_in}
 use Rattle.sc_dag.specs.Sound.{finish_in}
 use Rattle.sc_dag.specs.Submission.{is_map}
 use Rattle.sc_dag.specs.declared.attempts.StageAttempt.{StageAttempt}
 use Rattle.sc_dag.proofs.Finishes.{finished_unwanted, success_older, success_other, success_own}
+use Rattle.sc_dag.proofs.Holding.{holds_success}
 use Rattle.sc_dag.proofs.Runners.{RunsIn}
 use Rattle.sc_dag.proofs.Sets.{keeps_success}
-use Rattle.sc_dag.proofs.SoundAttempts.{attempts_changed, keeps_with, newest_changed, newest_kept}
+use Rattle.sc_dag.proofs.SoundAttempts.{attempts_changed, flags_quiet, keeps_with, newest_changed, newest_kept}
 use Rattle.sc_dag.proofs.SoundStages.{HasPlaces, IsNewest, IsSoundState}
 use Rattle.sc_dag.proofs.Tests.{clash}
 
@@ -122,6 +123,8 @@ pub success_in_newest :
 success_in_newest t u stage state results a exec now is runs wants newest places to =
     record {
       results = places;
+      flags = flags_quiet stage state i (with_set g)
+          (λ x. holds_success x.set a.partition (Some a.nth) now) is.flags;
       attempts = attempts_changed stage state.attempts i (with_set g)
           (λ x there. keeps_with stage x g (keeps_success x.set a.partition (Some a.nth) now))
           is.attempts;
@@ -152,6 +155,8 @@ pub success_in_older :
 success_in_older t stage state a now is older =
     record {
       results = is.results;
+      flags = flags_quiet stage state i (with_set g)
+          (λ x. holds_success x.set a.partition (Some a.nth) now) is.flags;
       attempts = attempts_changed stage state.attempts i (with_set g)
           (λ x there. keeps_with stage x g (keeps_success x.set a.partition (Some a.nth) now))
           is.attempts;
@@ -179,6 +184,9 @@ pub success_in_both :
 success_in_both t u stage state results a exec now is wants older places to =
     record {
       results = places;
+      flags = flags_quiet stage (with_attempts state before) (length before - 1) (with_set h)
+          (λ x. holds_success x.set a.partition None now)
+          (success_in_older t stage state a now is older).flags;
       attempts = attempts_changed stage before (length before - 1) (with_set h)
           (λ x there. keeps_with stage x h (keeps_success x.set a.partition None now))
           (success_in_older t stage state a now is older).attempts;

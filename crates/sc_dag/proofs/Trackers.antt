@@ -91,6 +91,7 @@ sound_alike t u stage None same is = is
 sound_alike t u stage (Some state) same is =
     record {
       results = is.results;
+      flags = is.flags;
       attempts = is.attempts;
       newest = record {
         made = λ p exec shuffle target h.

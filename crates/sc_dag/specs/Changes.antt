@@ -3,7 +3,7 @@ use Rattle.std.specs.Prelude.{◌-◌, length, map}
 use Rattle.sc_ids.specs.Changes.{change_at}
 use Rattle.sc_taskset.specs.Reports.{after_end, after_held, after_loss, after_success, as_zombie}
 use Rattle.sc_dag.specs.DagData.{StageState, place_of_attempt, with_attempts, with_set}
-use Rattle.sc_dag.specs.Reports.{completed, failed_attempt, forgiven, with_result}
+use Rattle.sc_dag.specs.Reports.{completed, failed_attempt, forgiven, told_held, with_result}
 use Rattle.sc_dag.specs.Submission.{as_waiting}
 use Rattle.sc_dag.specs.declared.attempts.AttemptChange.{AttemptChange}
 use Rattle.sc_dag.specs.declared.attempts.AttemptChange.TheVariants as attempts
@@ -33,5 +33,6 @@ state_by (rows.Newest change) =
 state_by (rows.All change) =
     λ state. with_attempts state (map (attempt_by change) state.attempts)
 state_by (rows.HasResult partition) = with_result partition
+state_by (rows.Held partition denied) = told_held partition denied
 state_by rows.Waits = as_waiting
 state_by rows.Complete = completed

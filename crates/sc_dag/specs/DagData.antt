@@ -24,6 +24,8 @@ pub record StageState : Type 0 where
   pub waits : Bool
   -- for each partition whether it has a result; of a map stage the tracker tells
   pub results : List Bool
+  -- for each partition whether a grant that is still held has denied an attempt of it
+  pub held : List Bool
 
 -- the stages of a job
 pub record DagData : Type 0 where

@@ -73,6 +73,7 @@ blank_state stage before =
       attempts = [];
       waits = false;
       results = replicate (if is_map stage.target then 0 else stage.tasks) false;
+      held = replicate stage.tasks false;
     }
 
 -- how many attempts the stage of a number had in all jobs so far

@@ -44,6 +44,11 @@ is_done d s p = is_done_by d.tracker (stage_at d s).target (results_in (slice_ge
 abbrev pub is_complete : DagData → ℕ → Bool
 is_complete d s = is_complete_by d.tracker (stage_at d s) (results_in (slice_get d.states s))
 
+-- for each partition of a stage whether it is held back: a held grant has denied an attempt of it
+abbrev pub held_in : Option StageState → List Bool
+held_in None = []
+held_in (Some state) = state.held
+
 -- all stages whose outputs a stage reads are complete
 abbrev pub has_inputs : DagData → ℕ → Bool
 has_inputs d s = list_all (is_complete d) (stage_at d s).parents

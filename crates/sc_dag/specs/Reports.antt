@@ -168,7 +168,13 @@ is_finished_short d s =
     all_finished None = false
     all_finished (Some set) = are_finished set.tasks
 
--- the newest set of a stage told whether a held grant has denied an attempt of a partition
+-- A stage told whether a held grant has denied an attempt of a partition. It tells its newest
+-- attempt, and keeps it for those to come.
+abbrev pub told_held : ℕ → Bool → StageState → StageState
+told_held partition denied state =
+    record (changed_newest (λ set. after_held set partition denied) state) {
+      held = change_at state.held partition (λ _. denied);
+    }
+
 abbrev pub after_hold : DagData → ℕ → ℕ → Bool → DagData
-after_hold d s partition denied =
-    with_state d s (changed_newest (λ set. after_held set partition denied))
+after_hold d s partition denied = with_state d s (told_held partition denied)

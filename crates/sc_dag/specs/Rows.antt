@@ -33,9 +33,15 @@ abbrev pub row_data : StageData → StageState → Bool → RowData
 row_data stage state is_ready = record { stage = stage; state = state; is_ready = is_ready }
 
 -- a state with these parts
-abbrev pub state_of : ℕ → List StageAttempt → Bool → List Bool → StageState
-state_of before attempts waits results =
-    record { before = before; attempts = attempts; waits = waits; results = results }
+abbrev pub state_of : ℕ → List StageAttempt → Bool → List Bool → List Bool → StageState
+state_of before attempts waits results held =
+    record {
+      before = before;
+      attempts = attempts;
+      waits = waits;
+      results = results;
+      held = held;
+    }
 
 -- the stages of rows
 abbrev pub stages_of : List RowData → List StageData

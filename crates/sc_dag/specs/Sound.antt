@@ -1,5 +1,5 @@
 -- What holds of the stages of every job.
-use Rattle.std.specs.Prelude.{ℕ, ◌-◌, ◌<◌, ◌≤◌, ◌≡◌, ◌≢◌, ◌⊎◌, List, [], true, false, Option, Some, None, IfSome, All, if◌then◌else◌, length, slice_get, take}
+use Rattle.std.specs.Prelude.{ℕ, ◌-◌, ◌<◌, ◌≤◌, ◌≡◌, ◌≢◌, ◌⊎◌, Bool, List, [], true, false, Option, Some, None, IfSome, All, if◌then◌else◌, length, slice_get, take}
 use Rattle.std.specs.Option.{option_map}
 use Rattle.sc_base.specs.Lists.{at_or}
 use Rattle.sc_ids.specs.Graphs.{StageData}
@@ -16,7 +16,7 @@ use Rattle.sc_tracker.specs.TrackerFacts.{IsSoundTracker}
 use Rattle.sc_dag.specs.Births.{AreBornInTurn, AreCharged, ReadsOutput, WasThere, births_of}
 use Rattle.sc_dag.specs.DagData.{DagData, StageState, newest_at, no_stage, stage_at}
 use Rattle.sc_dag.specs.Openings.{AreOfTwo}
-use Rattle.sc_dag.specs.Outputs.{block_of, is_done, results_in}
+use Rattle.sc_dag.specs.Outputs.{block_of, held_in, is_done, results_in}
 use Rattle.sc_dag.specs.Reports.{set_of, wants_in}
 use Rattle.sc_dag.specs.Submission.{is_map}
 use Rattle.sc_dag.specs.declared.attempts.StageAttempt.{StageAttempt}
@@ -79,6 +79,11 @@ runner_in (Some set) a = runner_among (task_at a.partition set.tasks) a.nth
 abbrev pub runner_of : DagData → AttemptId → Option ℕ
 runner_of d a = runner_in (set_of d a) a
 
+-- the tasks of a set that may be there are held back exactly as the flags of their partitions say
+abbrev pub AreHeldBy : List Bool → Option TaskSetData → Type 0
+AreHeldBy flags set =
+    IfSome set (λ s. All (λ task. task.denied ≡ at_or flags task.partition false) s.tasks)
+
 -- the stages of every job
 pub record IsSoundDag (d : DagData) : Type 0 where
   pub tracker : IsSoundTracker d.tracker
@@ -100,6 +105,10 @@ pub record IsSoundDag (d : DagData) : Type 0 where
   -- and of a result stage all else is
   pub covered : (s p : ℕ) → is_map (stage_at d s).target ≡ false → p < (stage_at d s).tasks
       → newest_at d s ≢ None → wants_in (newest_at d s) p ≡ false → is_done d s p ≡ true
+  -- a stage has a flag for each of its partitions
+  pub flags : (s : ℕ) → length (held_in (slice_get d.states s)) ≡ (stage_at d s).tasks
+  -- and the tasks of its newest attempt are held back exactly as these say
+  pub held : (s : ℕ) → AreHeldBy (held_in (slice_get d.states s)) (newest_at d s)
   -- the attempts of a stage began one after another, and no later than now
   pub born : (s : ℕ) → AreBornInTurn d.tracker.epoch (births_of (attempts_of d s))
   -- they failed, or were given up, for events that came after they began

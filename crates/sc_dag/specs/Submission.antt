@@ -1,13 +1,13 @@
 -- Which stages are looked at when some are submitted, and what becomes of them.
-use Rattle.std.specs.Prelude.{ℕ, suc, ◌≡◌, ◌==◌, ◌&&◌, ◌||◌, not, List, [], ◌∷◌, ◌++◌, Bool, true, false, Option, Some, None, if◌then◌else◌, length, slice_get}
+use Rattle.std.specs.Prelude.{ℕ, suc, ◌≡◌, ◌==◌, ◌&&◌, ◌||◌, not, List, [], ◌∷◌, ◌++◌, Bool, true, false, Option, Some, None, if◌then◌else◌, length, map, slice_get}
 use Rattle.std.specs.List.{list_any}
-use Rattle.sc_base.specs.Lists.{numbers_below}
+use Rattle.sc_base.specs.Lists.{at_or, numbers_below}
 use Rattle.sc_ids.specs.Graphs.{StageData}
 use Rattle.sc_ids.specs.declared.blocks.Target.{Target}
 use Rattle.sc_ids.specs.declared.blocks.Target.TheVariants as targets
 use Rattle.sc_ids.specs.declared.limits.Limits.{Limits}
-use Rattle.sc_taskset.specs.Reports.{as_zombie}
-use Rattle.sc_taskset.specs.TaskSetData.{TaskSetData, fresh_set}
+use Rattle.sc_taskset.specs.Reports.{as_zombie, held_task}
+use Rattle.sc_taskset.specs.TaskSetData.{TaskSetData, fresh_set, with_tasks}
 use Rattle.sc_tracker.specs.TrackerData.{TrackerData}
 use Rattle.sc_dag.specs.DagData.{DagData, StageState, changed_newest, is_live, stage_at, stage_attempt, with_states}
 use Rattle.sc_dag.specs.Outputs.{has_inputs, is_complete, missing_by}
@@ -42,10 +42,16 @@ AreLookedAt d submitted looked =
     ≡ (not (is_complete d s)
     && (submitted s || (is_idle_in (slice_get d.states s) && is_asked_for d looked s)))
 
--- the task set of a new attempt: the partitions that aren't done
-abbrev pub new_set : TrackerData → Limits → StageData → List Bool → TaskSetData
-new_set t limits stage results =
-    fresh_set (missing_by t stage results) (is_map stage.target) limits t.epoch
+-- a task set each of whose tasks is held back as the flag of its partition says
+abbrev pub held_by : List Bool → TaskSetData → TaskSetData
+held_by flags set =
+    with_tasks set (map (λ t. held_task (at_or flags t.partition false) t) set.tasks)
+
+-- the task set of a new attempt: the partitions that aren't done, by results and the tracker, and
+-- those held back that were
+abbrev pub new_set : TrackerData → Limits → StageData → List Bool → List Bool → TaskSetData
+new_set t limits stage results held =
+    held_by held (fresh_set (missing_by t stage results) (is_map stage.target) limits t.epoch)
 
 -- a stage with a new attempt; those before start nothing more
 abbrev pub started : TrackerData → Limits → StageData → StageState → StageState
@@ -53,7 +59,7 @@ started t limits stage state =
     record state {
       waits = false;
       attempts = (changed_newest as_zombie state).attempts
-          ++ stage_attempt (new_set t limits stage state.results) false ∷ [];
+          ++ stage_attempt (new_set t limits stage state.results state.held) false ∷ [];
     }
 
 -- a stage that waits for its parents

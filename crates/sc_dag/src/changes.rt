@@ -13,7 +13,7 @@ ghost use Rattle.sc_dag.specs.Reports.{reaches_limit_in};
 ghost use Rattle.sc_dag.specs.Submission.{started};
 
 use crate::attempts::{AttemptChange, StageAttempt, change_all, change_in, fail_in, give_in};
-use crate::outputs::missing_set;
+use crate::outputs::new_set;
 use crate::rows::StageRow;
 use sc_ids::{AttemptId, ExecId, FailureCause, Limits};
 use sc_taskset::Verdict;
@@ -31,6 +31,8 @@ pub(crate) enum RowChange {
     All(AttemptChange),
     /// A partition has a result.
     HasResult(u32),
+    /// Whether a held grant has denied an attempt of a partition.
+    Held(u32, bool),
     /// It waits for its parents.
     Waits,
     /// All its partitions are done.
@@ -72,6 +74,12 @@ impl StageRow {
                     self.done += 1;
                 }
             }
+            RowChange::Held(partition, denied) => {
+                let place = self.last();
+                let change = AttemptChange::Held { partition, denied };
+                change_in(&mut self.attempts, place, change);
+                flag_in(&mut self.held, partition, denied);
+            }
             RowChange::Waits => self.waits = true,
             RowChange::Complete => {
                 self.waits = false;
@@ -106,7 +114,14 @@ impl StageRow {
     {
         match self.room.take() {
             Some(room) => {
-                let set = missing_set(room, &self.stage, tracker, &self.results, limits);
+                let set = new_set(
+                    room,
+                    &self.stage,
+                    tracker,
+                    &self.results,
+                    &self.held,
+                    limits,
+                );
                 let place = self.attempts.len().saturating_sub(1);
                 change_in(&mut self.attempts, place, AttemptChange::Zombie);
                 self.waits = false;
@@ -117,6 +132,15 @@ impl StageRow {
             }
             None => unreachable!(),
         }
+    }
+}
+
+/// A flag put in its place.
+fn flag_in(flags: &mut Vec<bool>, partition: u32, flag: bool)
+    ensures { flags.new.items ≡ change_at flags.old.items partition (λ _. flag) }
+{
+    if (partition as usize) < flags.len() {
+        flags[partition as usize] = flag;
     }
 }
 

@@ -84,14 +84,13 @@ impl Dag {
         fail_at(&mut self.rows, attempt, cause)
     }
 
-    /// The newest attempt of a stage is told whether a held grant has denied an attempt of a
-    /// partition.
+    /// A stage is told whether a held grant has denied an attempt of a partition. Its newest
+    /// attempt holds the partition back then, and so do those to come.
     pub fn held(&mut self, stage: StageId, partition: u32, denied: bool)
         ensures state { self.new.0 ≡ after_hold self.old.0 stage partition denied }
         ensures ready { self.new.1 ≡ self.old.1 }
     {
-        let held = AttemptChange::Held { partition, denied };
-        self.change(stage, RowChange::Newest(held));
+        self.change(stage, RowChange::Held(partition, denied));
     }
 
     /// Registers the output of a map task, which isn't bogus.

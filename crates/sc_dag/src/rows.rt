@@ -28,6 +28,7 @@ pub(crate) struct StageRow {
     pub(crate) results: Vec<bool>,
     /// How many partitions have a result.
     pub(crate) done: usize,
+    pub(crate) held: Vec<bool>,
     pub(crate) room: Option<SetRoom>,
 }
 
@@ -39,7 +40,7 @@ impl Model for StageRow {
     ghost Value = { RowData };
 
     ghost view = { λ r. row_data r.stage
-        (state_of r.before r.attempts.items r.waits r.results.items)
+        (state_of r.before r.attempts.items r.waits r.results.items r.held.items)
         (is_some r.room && (nat_lt (vec_len r.attempts) (vec_capacity r.attempts)
         && nat_lt (r.before + vec_len r.attempts + 1) (2 ^ 64))) };
 
@@ -58,6 +59,7 @@ impl StageRow {
         } else {
             vec![in alloc; false; stage.tasks() as usize]?
         };
+        let held = vec![in alloc; false; stage.tasks() as usize]?;
         Ok(StageRow {
             stage,
             before,
@@ -65,6 +67,7 @@ impl StageRow {
             waits: false,
             results,
             done: 0,
+            held,
             room: None,
         })
     }
