@@ -1,4 +1,6 @@
+pub mod ApartLemmas
 pub mod ChangeLemmas
 pub mod Gathering
 pub mod PathLemmas
+pub mod SaveLemmas
 pub mod TreeLemmas

@@ -3,4 +3,5 @@ pub mod Counts
 pub mod Limits
 pub mod Lists
 pub mod Outside
+pub mod Saves
 pub mod Trees

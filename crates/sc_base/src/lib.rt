@@ -5,7 +5,8 @@
 //! answer to what was to be found. `specs/Outside.antt` has what the outside of a run shows before
 //! and after a call: the files that a source holds and the names that it was asked for, the pieces
 //! that a sink took, and how often each of them failed. `specs/Counts.antt` says when such a count
-//! rose, and `specs/Lists.antt` has the words on lists that the definitions above share.
+//! rose, `specs/Trees.antt` what directories and files are, and `specs/Saves.antt` what a save
+//! leaves of them. `specs/Lists.antt` has the words on lists that the definitions above share.
 //! `proofs/Gathering.antt` carries every loop that gathers results up to the first that stops it.
 //!
 //! It stands below every other crate, and knows nothing of values, scripts or runs.

@@ -6,10 +6,10 @@ use Rattle.sc_base.specs.Lists.{at_or}
 use Rattle.sc_value.specs.Datum.{Datum}
 use Rattle.sc_expr.specs.ExprData.{ExprData}
 use Rattle.sc_expr.specs.Heads.{Outcome}
-use Rattle.sc_lineage.specs.Actions.{ActionOutcome, action_outcome, all_rows, folded, local_results, never, outcome_of_results, outcome_of_rows, printed_outcome, reduced, result_of, unless_never}
+use Rattle.sc_lineage.specs.Actions.{ActionOutcome, action_outcome, folded, local_results, never, outcome_of_results, outcome_of_rows, printed_outcome, reduced, result_of, rows_of_each, rows_together, unless_never}
 use Rattle.sc_lineage.specs.declared.streams.Stream.{Stream}
 use Rattle.sc_lineage.specs.Meaning.{local_streams}
-use Rattle.sc_lineage.specs.ScriptData.{ActionData, collect_action, count_action, reduce_action, node_of_action}
+use Rattle.sc_lineage.specs.ScriptData.{ActionData, collect_action, count_action, reduce_action, save_action, node_of_action}
 use Rattle.sc_lineage.specs.Streams.{ended_stream, raises}
 use Rattle.sc_lineage.specs.Targets.{own_value, result_target}
 use Rattle.sc_lineage.proofs.PlaceLemmas.{at_or-map}
@@ -27,11 +27,12 @@ reduced_not_never : (e : ExprData) (rows : List Datum) → reduced e rows ≡ ne
 reduced_not_never e [] is = cc
 reduced_not_never e (d ∷ rows) is = printed_not_never (folded e d rows) is
 
-rows_not_never : (action : ActionData) (rows : List Datum)
+rows_not_never : (action : ActionData) (rows : List (List Datum))
     → outcome_of_rows action rows ≡ never → ⊥
 rows_not_never (collect_action node) rows is = cc
 rows_not_never (count_action node) rows is = cc
-rows_not_never (reduce_action node e) rows is = reduced_not_never e rows is
+rows_not_never (reduce_action node e) rows is = reduced_not_never e (rows_together rows) is
+rows_not_never (save_action node dir) rows is = cc
 
 -- a stream of some that raises
 abbrev RaisesAt : List Stream → Type 0
@@ -62,8 +63,8 @@ nevers_by_raises work action sound there = record {
       (raises_by (local_results work action) p (result p within ∙ raised));
   only = λ is.
       let results = local_results work action in
-      let some = raises_at results 0 (outcome_of_rows action (all_rows results))
-      (rows_not_never action (all_rows results)) (same ∙ is) in
+      let some = raises_at results 0 (outcome_of_rows action (rows_of_each results))
+      (rows_not_never action (rows_of_each results)) (same ∙ is) in
       let below : some.0 < length streams =
       (let found = some.1 in omega (arith, found, length-map streams (result_of action))) in
       (some.0, below, sym (result some.0 below) ∙ some.2);

@@ -5,9 +5,9 @@ use Rattle.sc_value.specs.Datum.{Datum}
 use Rattle.sc_expr.specs.ExprData.{ExprData}
 use Rattle.sc_expr.specs.Heads.{Outcome}
 use Rattle.sc_expr.specs.declared.exprs.Raise.{Raise}
-use Rattle.sc_lineage.specs.Actions.{ActionOutcome, all_rows, folded, folded_stream, never, outcome_of_results, outcome_of_rows, result_of, row_of_outcome, unless_never}
+use Rattle.sc_lineage.specs.Actions.{ActionOutcome, folded, folded_stream, never, outcome_of_results, outcome_of_rows, result_of, row_of_outcome, rows_of_each, unless_never}
 use Rattle.sc_lineage.specs.declared.streams.Stream.{Stream}
-use Rattle.sc_lineage.specs.ScriptData.{ActionData, collect_action, count_action, reduce_action}
+use Rattle.sc_lineage.specs.ScriptData.{ActionData, collect_action, count_action, reduce_action, save_action}
 use Rattle.sc_lineage.specs.Streams.{raises}
 use Rattle.sc_laws.specs.Skips.{Agree}
 
@@ -28,6 +28,7 @@ result_raises : (action : ActionData) (s : Stream) → raises s ≡ true
 result_raises (collect_action node) s is = is
 result_raises (count_action node) s is = is
 result_raises (reduce_action node e) s is = folded_raises e s.rows s.raise is
+result_raises (save_action node dir) s is = is
 
 either_holds : (b c d e : Bool) → (b ≡ true → d ≡ true) → (c ≡ true → e ≡ true)
     → (b || c) ≡ true → (d || e) ≡ true
@@ -61,7 +62,7 @@ never_from (s ∷ results) i outcome is =
 pub results_never : (action : ActionData) (results : List Stream) → list_any raises results ≡ true
     → outcome_of_results action results ≡ never
 results_never action results is =
-    never_from results 0 (outcome_of_rows action (all_rows results)) is
+    never_from results 0 (outcome_of_rows action (rows_of_each results)) is
 
 pub raised_never : (action : ActionData) (streams : List Stream) → list_any raises streams ≡ true
     → outcome_of_results action (map (result_of action) streams) ≡ never

@@ -6,6 +6,7 @@ pub mod CountLemmas
 pub mod FoundLemmas
 pub mod NameLemmas
 pub mod NodeLemmas
+pub mod SaveLemmas
 pub mod SoundLemmas
 pub mod WholeLemmas
 pub mod ShuffleLemmas

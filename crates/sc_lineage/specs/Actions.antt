@@ -3,6 +3,7 @@
 use Rattle.std.specs.Prelude.{ℕ, ◌≡◌, List, [], ◌∷◌, ◌++◌, length, map, take, Option, Some, None, Ok, Err, unwrap_or}
 use Rattle.std.specs.Fmt.{decimal}
 use Rattle.std.specs.List.{flat_map, filter_map, position_from}
+use Rattle.sc_base.specs.Trees.{Path}
 use Rattle.sc_value.specs.Datum.{Datum}
 use Rattle.sc_value.specs.Printing.{printed_line, printed_lines}
 use Rattle.sc_expr.specs.ExprData.{ExprData}
@@ -13,7 +14,7 @@ use Rattle.sc_lineage.specs.declared.nodes.DriverFault.{DriverFault}
 use Rattle.sc_lineage.specs.declared.nodes.DriverFault.TheVariants.{EmptyCollection, Raised}
 use Rattle.sc_lineage.specs.declared.streams.Stream.{Stream}
 use Rattle.sc_lineage.specs.Meaning.{local_streams, node_streams}
-use Rattle.sc_lineage.specs.ScriptData.{ActionData, collect_action, count_action, reduce_action, WorkData, node_of_action}
+use Rattle.sc_lineage.specs.ScriptData.{ActionData, collect_action, count_action, reduce_action, save_action, WorkData, node_of_action}
 use Rattle.sc_lineage.specs.Streams.{whole_stream, ended_stream, raises}
 
 -- what a fold goes on with behind an outcome
@@ -43,11 +44,14 @@ abbrev pub result_of : ActionData → Stream → Stream
 result_of (collect_action node) s = s
 result_of (count_action node) s = s
 result_of (reduce_action node e) s = folded_stream e s.rows s.raise
+result_of (save_action node dir) s = s
 
--- what an action gives: a text; a fault where the results are put together; or nothing ever, since
--- a partition raises
+-- What an action gives: a text; the directory of a save, with the text of the part of each
+-- partition in order; a fault where the results are put together; or nothing ever, since a
+-- partition raises.
 pub data ActionOutcome : Type 0 where
   prints : List ℕ → ActionOutcome
+  saves : Path → List (List ℕ) → ActionOutcome
   faults : DriverFault → ActionOutcome
   never : ActionOutcome
 
@@ -65,11 +69,21 @@ reduced e (d ∷ ds) = printed_outcome (folded e d ds)
 abbrev pub all_rows : List Stream → List Datum
 all_rows streams = flat_map (λ s. s.rows) streams
 
--- what results give that don't raise: their rows a line each, their number, or their fold
-abbrev pub outcome_of_rows : ActionData → List Datum → ActionOutcome
-outcome_of_rows (collect_action node) rows = prints (printed_lines rows)
-outcome_of_rows (count_action node) rows = prints (decimal (length rows) ++ 10 ∷ [])
-outcome_of_rows (reduce_action node e) rows = reduced e rows
+-- the rows of streams, those of each apart
+abbrev pub rows_of_each : List Stream → List (List Datum)
+rows_of_each streams = map (λ s. s.rows) streams
+
+-- the rows of all results, those of each behind those before
+abbrev pub rows_together : List (List Datum) → List Datum
+rows_together rows = flat_map (λ rs. rs) rows
+
+-- What results give that don't raise, by the rows of each: all rows a line each, their number, or
+-- their fold; of a save the lines of each result apart.
+abbrev pub outcome_of_rows : ActionData → List (List Datum) → ActionOutcome
+outcome_of_rows (collect_action node) rows = prints (printed_lines (rows_together rows))
+outcome_of_rows (count_action node) rows = prints (decimal (length (rows_together rows)) ++ 10 ∷ [])
+outcome_of_rows (reduce_action node e) rows = reduced e (rows_together rows)
+outcome_of_rows (save_action node dir) rows = saves dir (map printed_lines rows)
 
 -- the first of some results that raises
 abbrev pub first_raise : List Stream → Option ℕ
@@ -83,7 +97,7 @@ unless_never (Some p) outcome = never
 -- what an action gives, from the results of its partitions in order
 abbrev pub outcome_of_results : ActionData → List Stream → ActionOutcome
 outcome_of_results action results =
-    unless_never (first_raise results) (outcome_of_rows action (all_rows results))
+    unless_never (first_raise results) (outcome_of_rows action (rows_of_each results))
 
 -- what an action gives, from the streams of its node
 abbrev pub outcome_from : ActionData → List Stream → ActionOutcome
@@ -97,9 +111,10 @@ local_results work action = map (result_of action) (local_streams work (node_of_
 abbrev pub action_outcome : WorkData → ActionData → ActionOutcome
 action_outcome work action = outcome_from action (node_streams work (node_of_action action))
 
--- the text of an outcome, where it has one
+-- the text that an outcome prints, where it has one: that of a save is empty
 abbrev pub text_of_outcome : ActionOutcome → Option (List ℕ)
 text_of_outcome (prints printed) = Some printed
+text_of_outcome (saves dir texts) = Some []
 text_of_outcome (faults fault) = None
 text_of_outcome never = None
 
@@ -124,4 +139,4 @@ texts_by work k =
 
 -- an action gives a text
 abbrev pub HasText : WorkData → ActionData → Type 0
-HasText work action = (printed : List ℕ) × (action_outcome work action ≡ prints printed)
+HasText work action = (printed : List ℕ) × (action_text work action ≡ Some printed)

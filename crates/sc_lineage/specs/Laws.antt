@@ -10,6 +10,7 @@ use Rattle.sc_lineage.specs.Meaning.{bounds_step, meanings_by, node_stream, part
 use Rattle.sc_lineage.specs.Narrow.{narrow_stream}
 use Rattle.sc_lineage.specs.NodeData.{NodeData}
 use Rattle.sc_lineage.specs.Partitioners.{PartitionerData, partitioner_step}
+use Rattle.sc_lineage.specs.Saves.{SavesAreLawful}
 use Rattle.sc_lineage.specs.ScriptData.{ScriptData, WorkData, IsSoundScript, count_step, declared_count, input_names, names_of_node}
 
 -- a partition's stream is that of its node, over the streams of the partitions that it reads, by
@@ -86,3 +87,4 @@ pub record MeaningIsLawful : Type 0 where
   pub inputs : InputsAreNamed
   pub inputs_once : InputsAreNamedOnce
   pub inputs_order : InputsAreInOrder
+  pub saves : SavesAreLawful

@@ -13,4 +13,5 @@ pub mod Meaning
 pub mod Actions
 pub mod Targets
 pub mod RowTypes
+pub mod Saves
 pub mod Laws

@@ -11,7 +11,7 @@ use Rattle.sc_lineage.specs.declared.nodes.Elementwise.TheVariants as by
 use Rattle.sc_lineage.specs.NodeData.{NodeData, ShufflingData, reduce_by_key, group_by_key, sort_by_key, repartition, text_node, parallelize_node, each_node, union_node, coalesce_node, cache_node, shuffle_node, meet_node}
 use Rattle.sc_lineage.specs.declared.nodes.Meeting.{Meeting}
 use Rattle.sc_lineage.specs.declared.nodes.Meeting.TheVariants as meetings
-use Rattle.sc_lineage.specs.ScriptData.{ActionData, collect_action, count_action, reduce_action}
+use Rattle.sc_lineage.specs.ScriptData.{ActionData, collect_action, count_action, reduce_action, save_action}
 
 -- the type of literals, all of which are numbers or texts as the first of them is
 abbrev pub literals_type : List Datum → Option TypeData
@@ -117,3 +117,4 @@ abbrev pub action_type : List TypeData → ActionData → Option TypeData
 action_type types (collect_action node) = slice_get types node
 action_type types (count_action node) = slice_get types node
 action_type types (reduce_action node e) = option_and_then (folds_type e) (slice_get types node)
+action_type types (save_action node dir) = slice_get types node

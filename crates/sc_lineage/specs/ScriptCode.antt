@@ -13,7 +13,7 @@ use Rattle.sc_lineage.specs.contracts.nodes.Elementwise.{the_row as elementwise}
 use Rattle.sc_lineage.specs.declared.nodes.Meeting.{Meeting}
 use Rattle.sc_lineage.specs.contracts.nodes.Meeting.{the_row as meeting}
 use Rattle.sc_lineage.specs.NodeData.{NodeData, ShufflingData, reduce_by_key, group_by_key, sort_by_key, repartition, text_node, parallelize_node, each_node, union_node, coalesce_node, cache_node, shuffle_node, meet_node}
-use Rattle.sc_lineage.specs.ScriptData.{ActionData, collect_action, count_action, reduce_action, ScriptData, WorkData, work_data}
+use Rattle.sc_lineage.specs.ScriptData.{ActionData, collect_action, count_action, reduce_action, save_action, ScriptData, WorkData, work_data}
 use Rattle.sc_ids.specs.declared.limits.Limits.{Limits}
 use Rattle.sc_ids.specs.contracts.limits.Limits.{the_row as limits}
 use Rattle.sc_plan.specs.declared.lines.PlanLine.{PlanLine}
@@ -94,24 +94,33 @@ node_code =
     node_parts node_from node_from-node_parts
 
 -- the arguments of an action
-abbrev pub action_parts : ActionData → ℕ ⊎ (ℕ ⊎ (ℕ × ExprData))
+abbrev pub ActionParts : Type 0
+ActionParts = ℕ ⊎ (ℕ ⊎ ((ℕ × ExprData) ⊎ (ℕ × List ℕ)))
+
+abbrev pub action_parts : ActionData → ActionParts
 action_parts (collect_action node) = inl node
 action_parts (count_action node) = inr (inl node)
-action_parts (reduce_action node e) = inr (inr (node, e))
+action_parts (reduce_action node e) = inr (inr (inl (node, e)))
+action_parts (save_action node dir) = inr (inr (inr (node, dir)))
 
-abbrev pub action_from : ℕ ⊎ (ℕ ⊎ (ℕ × ExprData)) → ActionData
+abbrev pub action_from : ActionParts → ActionData
 action_from (inl node) = collect_action node
 action_from (inr (inl node)) = count_action node
-action_from (inr (inr p)) = reduce_action p.0 p.1
+action_from (inr (inr (inl p))) = reduce_action p.0 p.1
+action_from (inr (inr (inr p))) = save_action p.0 p.1
 
 pub action_from-action_parts : (action : ActionData) → action_from (action_parts action) ≡ action
 action_from-action_parts (collect_action node) = refl
 action_from-action_parts (count_action node) = refl
 action_from-action_parts (reduce_action node e) = refl
+action_from-action_parts (save_action node dir) = refl
 
 abbrev pub action_code : Coded ActionData
 action_code =
-    code_by (ℕ ⊎ (ℕ ⊎ (ℕ × ExprData))) (coded⊎ coded_ℕ (coded⊎ coded_ℕ (coded× coded_ℕ expr_code)))
+    code_by ActionParts
+    (coded⊎ coded_ℕ
+    (coded⊎ coded_ℕ
+    (coded⊎ (coded× coded_ℕ expr_code) (coded× coded_ℕ (coded_list coded_ℕ)))))
     action_parts action_from action_from-action_parts
 
 abbrev pub script_code : Coded ScriptData

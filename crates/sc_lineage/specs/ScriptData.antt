@@ -4,6 +4,7 @@ use Rattle.std.specs.List.{All, flat_map}
 use Rattle.std.specs.Str.{IsUtf8}
 use Rattle.sc_base.specs.Lists.{at_or, firsts}
 use Rattle.sc_base.specs.Outside.{Files}
+use Rattle.sc_base.specs.Trees.{Path}
 use Rattle.sc_expr.specs.ExprData.{ExprData}
 use Rattle.sc_ids.specs.LimitRanges.{AreLimits}
 use Rattle.sc_ids.specs.declared.limits.Limits.{Limits}
@@ -18,6 +19,7 @@ pub data ActionData : Type 0 where
   collect_action : ℕ → ActionData
   count_action : ℕ → ActionData
   reduce_action : ℕ → ExprData → ActionData
+  save_action : ℕ → Path → ActionData
 
 -- nodes in the order of their definition, and what is done with them
 pub record ScriptData : Type 0 where
@@ -78,6 +80,7 @@ abbrev pub node_of_action : ActionData → ℕ
 node_of_action (collect_action node) = node
 node_of_action (count_action node) = node
 node_of_action (reduce_action node e) = node
+node_of_action (save_action node dir) = node
 
 -- what every checked script keeps
 pub record IsSoundScript (script : ScriptData) : Type 0 where

@@ -7,7 +7,7 @@ use Rattle.sc_lineage.specs.declared.nodes.Shuffling.{Shuffling}
 use Rattle.sc_lineage.specs.declared.nodes.Shuffling.TheVariants as shufflings
 use Rattle.sc_lineage.specs.declared.partitioners.Partitioner.{Partitioner}
 use Rattle.sc_lineage.specs.declared.partitioners.Partitioner.TheVariants as partitioners
-use Rattle.sc_lineage.specs.ScriptData.{ActionData, collect_action, count_action, reduce_action}
+use Rattle.sc_lineage.specs.ScriptData.{ActionData, collect_action, count_action, reduce_action, save_action}
 use Rattle.sc_lineage.specs.declared.nodes.Node.{Node}
 use Rattle.sc_lineage.specs.declared.nodes.Node.TheVariants as nodes
 use Rattle.sc_lineage.specs.declared.nodes.Action.{Action}
@@ -38,6 +38,7 @@ abbrev pub action_data_of : Action → ActionData
 action_data_of (actions.Collect node) = collect_action node
 action_data_of (actions.Count node) = count_action node
 action_data_of (actions.Reduce node expr) = reduce_action node (expr_data_of expr)
+action_data_of (actions.Save node dir) = save_action node dir
 
 -- what a place stands for
 abbrev pub place_data_of : Place → PlaceData

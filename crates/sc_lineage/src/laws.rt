@@ -5,8 +5,8 @@ ghost use Rattle.sc_lineage.specs.Laws.{MeaningIsLawful};
 
 /// The laws of the meaning: its folds are folds, a partition's stream is that of its node over what
 /// it reads, the partitions of a node together read each partition of its parents once, a node has
-/// as many partitions as the grammar counts, and the inputs are those named, each once and in the
-/// order of first naming.
+/// as many partitions as the grammar counts, the inputs are those named, each once and in the order
+/// of first naming, and saves leave one behind another what each of them leaves.
 pub fn meaning_is_lawful()
     ensures { MeaningIsLawful }
 {}

@@ -7,8 +7,9 @@
 //! narrow, each of an earlier node, and [`Work::partitioner`] by which rule its rows lie.
 //! `specs/Meaning.antt` gives the sequential meaning: the [`Stream`] of each partition by one fold
 //! over the list of nodes, where `narrow_stream` of `specs/Narrow.antt` says what a node makes of
-//! the streams that it reads. `specs/Actions.antt` says what an action gives, `specs/RowTypes.antt`
-//! which type rows have, and [`meaning_is_lawful`] which laws hold of all that.
+//! the streams that it reads. `specs/Actions.antt` says what an action gives, `specs/Saves.antt`
+//! which directories and files saves leave, `specs/RowTypes.antt` which type rows have, and
+//! [`meaning_is_lawful`] which laws hold of all that.
 //!
 //! What runs a script, by whatever threads and attempts, is held to that; nothing here runs.
 //!

@@ -136,6 +136,13 @@ pub enum Action {
         /// The expression over two values.
         expr: Expr,
     },
+    /// Saves its rows in a directory, each partition in a part of its own.
+    Save {
+        /// The node.
+        node: NodeId,
+        /// The directory.
+        dir: Name,
+    },
 }
 
 /// Why the results of an action have no value, though no partition raises.

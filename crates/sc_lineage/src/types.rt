@@ -69,7 +69,7 @@ pub fn action_type(alloc: Global, types: &[Ty], action: &Action) -> Result<Ty, T
         (type_of_action (map type_data_of types.now) (action_data_of action.now)) }
 {
     match action {
-        Action::Collect { node } | Action::Count { node } => {
+        Action::Collect { node } | Action::Count { node } | Action::Save { node, .. } => {
             Ok(type_at(types, *node)?.copy(alloc)?)
         }
         Action::Reduce { node, expr } => {

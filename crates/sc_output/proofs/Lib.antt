@@ -1,4 +1,3 @@
-mod ApartLemmas
 mod CallLemmas
 mod LoopLemmas
 mod NameLemmas

@@ -5,11 +5,12 @@ use Rattle.std.specs.Char.{digit_value}
 use Rattle.std.specs.Str.Parse.{AllDigits}
 use Rattle.std.proofs.lemmas.Fmt.{decimal_digit, decimal_injective, decimal_is_IsNumeral}
 use Rattle.std.proofs.lemmas.List.{append_assoc, append_cancel_left, same_from_push}
+use Rattle.sc_base.specs.Saves.{final_path, five_digits, success_path}
 use Rattle.sc_base.specs.Trees.{Path, lies_under}
 use Rattle.sc_base.proofs.PathLemmas.{lies_under-append, lies_under-child}
 use Rattle.sc_ids.specs.declared.attempts.AttemptId.{AttemptId}
 use Rattle.sc_output.specs.NameLaws.{NamesDiffer, NamesLieWithin}
-use Rattle.sc_output.specs.Names.{IsWithinTypes, committed_path, dashed, final_path, five_digits, staged_path, staging_path, success_path}
+use Rattle.sc_output.specs.Names.{IsWithinTypes, committed_path, dashed, staged_path, staging_path}
 
 -- ---- numbers between dashes
 

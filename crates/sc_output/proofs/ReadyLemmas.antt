@@ -5,6 +5,7 @@ use Rattle.std.specs.Char.{digit_value}
 use Rattle.std.specs.Str.Parse.{AllDigits}
 use Rattle.std.proofs.lemmas.Bool.{eqb-true}
 use Rattle.std.proofs.lemmas.Slice.Eq.{bytes_eq-Decides}
+use Rattle.sc_base.specs.Saves.{final_path, five_digits, success_path}
 use Rattle.sc_base.specs.Trees.{Tree, Path, dir_is_there, dir_part, dir_step, has_dir, has_place, is_in, lies_under, moved, without_tree}
 use Rattle.sc_base.specs.Outside.{FilesState}
 use Rattle.sc_base.proofs.ChangeLemmas.{changes-after, if_some-weaker}
@@ -14,7 +15,7 @@ use Rattle.sc_ids.specs.declared.attempts.AttemptId.{AttemptId}
 use Rattle.sc_output.specs.Calls.{AreOpen, MakesCalls, after_calls, remove_call, write_call}
 use Rattle.sc_output.proofs.CallLemmas.{open-back, open-front}
 use Rattle.sc_output.specs.Commits.{AreCommitted, AreWinnersFrom, IsReady, commit_calls, final_rename}
-use Rattle.sc_output.specs.Names.{IsWithinTypes, committed_path, five_digits, final_path, staging_path, success_path}
+use Rattle.sc_output.specs.Names.{IsWithinTypes, committed_path, staging_path}
 use Rattle.sc_output.proofs.NameLemmas.{committed-injective, committed-under, decimal-digits, final-beside, staging-under}
 
 -- ---- the directories of names

@@ -7,14 +7,15 @@ use Rattle.std.specs.FinSet as sets
 use Rattle.std.specs.Option.{unwrap_or}
 use Rattle.std.specs.Ordering.{nat_cmp, eq_by_cmp}
 use Rattle.std.proofs.lemmas.Slice.Eq.{bytes_eq-Decides}
+use Rattle.sc_base.specs.Saves.{IsApart, final_path, success_path, with_parts}
 use Rattle.sc_base.specs.Trees.{Tree, Path, FileMap, file_at, has_dir, is_in, lies_under, moved, tree, without_tree}
 use Rattle.sc_base.proofs.PathLemmas.{is_in-itself, lies_under-deeper, lies_under-itself}
 use Rattle.sc_base.proofs.TreeLemmas.{by_bytes, file_at-moved_other, file_at-without_tree, has_dir-without_tree, ties-other}
 use Rattle.sc_ids.specs.declared.attempts.AttemptId.{AttemptId}
 use Rattle.sc_output.specs.Calls.{after_calls, remove_call, write_call}
 use Rattle.sc_output.specs.Commits.{AreWinnersFrom, final_rename}
-use Rattle.sc_output.specs.Names.{IsWithinTypes, committed_path, final_path, staging_path, success_path}
-use Rattle.sc_output.specs.Saved.{AbortedIsEmpty, CommittedIsSaved, HaveTexts, IsApart, IsUnderWay, with_parts}
+use Rattle.sc_output.specs.Names.{IsWithinTypes, committed_path, staging_path}
+use Rattle.sc_output.specs.Saved.{AbortedIsEmpty, CommittedIsSaved, HaveTexts, IsUnderWay}
 use Rattle.sc_output.proofs.CallLemmas.{after_calls-append}
 use Rattle.sc_output.proofs.NameLemmas.{committed-under, final-beside, staging-under}
 use Rattle.sc_output.proofs.ReadyLemmas.{committed-final, committed-other}

@@ -1,25 +1,21 @@
--- What a commit or a save leaves as it was.
+-- What a commit leaves as it was.
 use Rattle.std.proofs.Common.{◌≡◌, ◌≢◌, ◌∙◌, ◌⊎◌, inl, inr, ℕ, suc, ◌&&◌, ◌||◌, Bool, true, false, true≢false, cond, not, List, [], ◌∷◌, ◌++◌, bytes_eq, refl, ap, sym, subst}
 use Rattle.std.specs.Prelude.{codes, Some, None}
 use Rattle.std.specs.Cmp.Lexicographic.{nat_list_cmp_total}
 use Rattle.std.specs.FinMap as maps
 use Rattle.std.specs.FinSet as sets
-use Rattle.sc_base.specs.Trees.{Tree, Path, FileMap, file_at, has_dir, is_in, lies_under, moved, with_file, without_file, without_tree}
+use Rattle.sc_base.specs.Saves.{final_path, five_digits, success_path}
+use Rattle.sc_base.specs.Trees.{Tree, Path, file_at, has_dir, is_in, lies_under, moved, with_file, without_file, without_tree}
 use Rattle.sc_base.proofs.PathLemmas.{lies_under-child, lies_under-deeper}
+use Rattle.sc_base.proofs.SaveLemmas.{outside-not}
 use Rattle.sc_base.proofs.TreeLemmas.{file_at-moved_other, file_at-with_file_other, file_at-without_file_other, file_at-without_tree, has_dir-without_tree, ties-other}
 use Rattle.sc_ids.specs.declared.attempts.AttemptId.{AttemptId}
 use Rattle.sc_output.specs.Calls.{Call, IsAfterFailed, IsPartOfTheWay, IsStoppedAt, after_call, after_calls, remove_call, rename_call, write_call}
 use Rattle.sc_output.specs.Commits.{commit_calls}
-use Rattle.sc_output.specs.Names.{committed_path, final_path, five_digits, staging_path, success_path}
-use Rattle.sc_output.specs.Saved.{CommitsStayWithin, IsSameOutside, SavesKeepApart, StopsLeave, with_parts}
-use Rattle.sc_output.proofs.ApartLemmas.{none_under_both}
+use Rattle.sc_output.specs.Names.{committed_path, staging_path}
+use Rattle.sc_output.specs.Saved.{CommitsStayWithin, IsSameOutside, StopsLeave}
 use Rattle.sc_output.proofs.NameLemmas.{committed-under, final-success, success-beside}
 use Rattle.sc_output.proofs.SavedLemmas.{in_staging-under}
-
--- a path outside a directory is none under it
-outside-not : (dir q path : Path) → lies_under dir q ≡ false → lies_under dir path ≡ true → q ≢ path
-outside-not dir q path out under e =
-    true≢false (sym under ∙ sym (ap (lies_under dir) e) ∙ out)
 
 -- ---- calls within a directory
 
@@ -251,36 +247,3 @@ staging-left dir (w ∷ ws) path t u (inr stop) one two =
 
 pub stops_leave : StopsLeave
 stops_leave = record { success = success-left; staging = staging-left }
-
--- ---- several saves
-
-insert-other : (files : FileMap) (path bytes q : Path) → q ≢ path
-    → maps.get (maps.insert files path bytes) q ≡ maps.get files q
-insert-other files path bytes q apart =
-    maps.get-insert nat_list_cmp_total files path bytes q
-    ∙ ap (λ b. cond b (Some bytes) (maps.get files q)) (ties-other q path apart)
-
-parts-other : (e : Path) (first : ℕ) (texts : List (List ℕ)) (files : FileMap) (q : Path)
-    → lies_under e q ≡ false → maps.get (with_parts e first texts files) q ≡ maps.get files q
-parts-other e first [] files q out = refl
-parts-other e first (x ∷ xs) files q out =
-    parts-other e (suc first) xs (maps.insert files (final_path e first) x) q out
-    ∙ insert-other files (final_path e first) x q
-    (outside-not e q (final_path e first) out
-    (lies_under-child e (codes "part-" ++ five_digits first)))
-
-pub saves_keep_apart : SavesKeepApart
-saves_keep_apart dir e texts t apart differ one two =
-    record {
-      itself = sets.contains-insert nat_list_cmp_total t.dirs e dir
-          ∙ ap (λ b. b || has_dir t dir) (ties-other dir e differ) ∙ apart.itself;
-      dirs = λ q under. sets.contains-insert nat_list_cmp_total t.dirs e q
-          ∙ ap (λ b. b || has_dir t q) (ties-other q e
-          (λ is. true≢false (sym under ∙ ap (lies_under dir) is ∙ one)))
-          ∙ apart.dirs q under;
-      files = λ q under.
-          let out = none_under_both dir e q differ one two under in
-          insert-other (with_parts e 0 texts t.files) (success_path e) [] q
-          (outside-not e q (success_path e) out (lies_under-child e (codes "_SUCCESS")))
-          ∙ parts-other e 0 texts t.files q out ∙ apart.files q under;
-    }

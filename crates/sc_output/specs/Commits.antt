@@ -1,9 +1,10 @@
 -- The commit and the abort of a job that saves.
 use Rattle.std.specs.Prelude.{ℕ, suc, ◌≡◌, List, [], ◌∷◌, ◌++◌, map, true, is_some}
+use Rattle.sc_base.specs.Saves.{final_path, success_path}
 use Rattle.sc_base.specs.Trees.{Tree, Path, file_at, has_dir}
 use Rattle.sc_ids.specs.declared.attempts.AttemptId.{AttemptId}
 use Rattle.sc_output.specs.Calls.{Call, remove_call, rename_call, write_call}
-use Rattle.sc_output.specs.Names.{IsWithinTypes, committed_path, final_path, staging_path, success_path}
+use Rattle.sc_output.specs.Names.{IsWithinTypes, committed_path, staging_path}
 
 -- puts the file of a winner where its partition's is to be
 abbrev pub final_rename : Path → AttemptId → Call

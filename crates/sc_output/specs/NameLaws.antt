@@ -1,8 +1,9 @@
 -- Laws of the names of saves.
 use Rattle.std.specs.Prelude.{ℕ, ◌≡◌, ◌≢◌, ◌<◌, ◌^◌, true, false}
+use Rattle.sc_base.specs.Saves.{final_path, success_path}
 use Rattle.sc_base.specs.Trees.{Path, lies_under}
 use Rattle.sc_ids.specs.declared.attempts.AttemptId.{AttemptId}
-use Rattle.sc_output.specs.Names.{IsWithinTypes, committed_path, final_path, staged_path, staging_path, success_path}
+use Rattle.sc_output.specs.Names.{IsWithinTypes, committed_path, staged_path, staging_path}
 
 -- in one directory, different attempts and partitions have different names, and so have the kinds
 -- of files
@@ -29,9 +30,3 @@ pub record NamesLieWithin : Type 0 where
   pub final_beside : (dir : Path) (p : ℕ)
       → lies_under (staging_path dir) (final_path dir p) ≡ false
   pub success_beside : (dir : Path) → lies_under (staging_path dir) (success_path dir) ≡ false
-
--- of two directories that differ, and of which none lies under the other, no path lies under both
-abbrev pub NoneUnderBoth : Type 0
-NoneUnderBoth =
-    (dir other path : Path) → dir ≢ other → lies_under dir other ≡ false
-    → lies_under other dir ≡ false → lies_under dir path ≡ true → lies_under other path ≡ false

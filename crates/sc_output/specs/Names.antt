@@ -1,5 +1,5 @@
--- The paths of what a save makes.
-use Rattle.std.specs.Prelude.{ℕ, ◌<◌, ◌^◌, ◌/◌, ◌%◌, List, ◌++◌, codes, decimal}
+-- The paths at which attempts write.
+use Rattle.std.specs.Prelude.{ℕ, ◌<◌, ◌^◌, List, ◌++◌, codes, decimal}
 use Rattle.sc_base.specs.Trees.{Path}
 use Rattle.sc_ids.specs.declared.attempts.AttemptId.{AttemptId}
 
@@ -8,12 +8,6 @@ abbrev pub dashed : AttemptId → List ℕ
 dashed a =
     decimal a.stage ++ (codes "-" ++ (decimal a.stage_attempt
     ++ (codes "-" ++ (decimal a.partition ++ (codes "-" ++ decimal a.nth)))))
-
--- a number in decimal, with zeros in front where it has less than five digits
-abbrev pub five_digits : ℕ → List ℕ
-five_digits n =
-    decimal (n / 10000) ++ (decimal (n / 1000 % 10) ++ (decimal (n / 100 % 10)
-    ++ (decimal (n / 10 % 10) ++ decimal (n % 10))))
 
 -- the directory in which attempts write
 abbrev pub staging_path : Path → Path
@@ -26,14 +20,6 @@ staged_path dir a = dir ++ (codes "/_temporary/s-" ++ dashed a)
 -- the file that a granted attempt makes of it
 abbrev pub committed_path : Path → AttemptId → Path
 committed_path dir a = dir ++ (codes "/_temporary/c-" ++ dashed a)
-
--- the file of a partition in the end
-abbrev pub final_path : Path → ℕ → Path
-final_path dir partition = dir ++ (codes "/part-" ++ five_digits partition)
-
--- the empty file that says that all parts are there
-abbrev pub success_path : Path → Path
-success_path dir = dir ++ codes "/_SUCCESS"
 
 -- the numbers of an attempt are no greater than their types allow
 pub record IsWithinTypes (a : AttemptId) : Type 0 where

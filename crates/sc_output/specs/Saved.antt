@@ -1,31 +1,12 @@
--- What a save leaves.
-use Rattle.std.specs.Prelude.{ℕ, suc, ◌≡◌, ◌≢◌, List, [], ◌∷◌, Some, None, true, false}
-use Rattle.std.specs.FinMap as maps
+-- What commits and aborts leave.
+use Rattle.std.specs.Prelude.{ℕ, ◌≡◌, ◌≢◌, List, [], ◌∷◌, Some, false}
 use Rattle.std.specs.FinSet as sets
-use Rattle.sc_base.specs.Trees.{Tree, Path, FileMap, file_at, has_dir, lies_under, tree, with_dir}
+use Rattle.sc_base.specs.Saves.{IsApart, saved_tree, success_path}
+use Rattle.sc_base.specs.Trees.{Tree, Path, file_at, has_dir, lies_under, with_dir}
 use Rattle.sc_ids.specs.declared.attempts.AttemptId.{AttemptId}
 use Rattle.sc_output.specs.Calls.{IsPartOfTheWay, IsStoppedAt, after_calls}
 use Rattle.sc_output.specs.Commits.{AreWinnersFrom, abort_calls, commit_calls}
-use Rattle.sc_output.specs.Names.{committed_path, final_path, staging_path, success_path}
-
--- files and the parts of partitions from `first` on, with these texts
-abbrev pub with_parts : Path → ℕ → List (List ℕ) → FileMap → FileMap
-with_parts dir first [] files = files
-with_parts dir first (text ∷ texts) files =
-    with_parts dir (suc first) texts (maps.insert files (final_path dir first) text)
-
--- what a save leaves: its directory, in it a part for each text and the empty file that says that
--- all are there, and all else as it was
-abbrev pub saved_tree : Path → List (List ℕ) → Tree → Tree
-saved_tree dir texts opening =
-    tree (sets.insert opening.dirs dir)
-    (maps.insert (with_parts dir 0 texts opening.files) (success_path dir) [])
-
--- there is no such directory, and nothing under it
-pub record IsApart (dir : Path) (t : Tree) : Type 0 where
-  pub itself : has_dir t dir ≡ false
-  pub dirs : (q : Path) → lies_under dir q ≡ true → has_dir t q ≡ false
-  pub files : (q : Path) → lies_under dir q ≡ true → file_at t q ≡ None
+use Rattle.sc_output.specs.Names.{committed_path, staging_path}
 
 -- a save under way: its directory and the staging area were made, and beside these only files in
 -- the staging area have changed
@@ -78,11 +59,3 @@ pub record StopsLeave : Type 0 where
   pub staging : (dir : Path) (winners : List AttemptId) (path : Path) (t u : Tree)
       → IsStoppedAt (commit_calls dir winners) path t u → path ≢ staging_path dir
       → path ≢ success_path dir → has_dir u (staging_path dir) ≡ has_dir t (staging_path dir)
-
--- a save leaves each directory apart that differs from its own, and of which none lies under the
--- other
-abbrev pub SavesKeepApart : Type 0
-SavesKeepApart =
-    (dir other : Path) (texts : List (List ℕ)) (t : Tree) → IsApart dir t → dir ≢ other
-    → lies_under dir other ≡ false → lies_under other dir ≡ false
-    → IsApart dir (saved_tree other texts t)

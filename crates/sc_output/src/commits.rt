@@ -3,11 +3,12 @@
 
 ghost use Rattle.std.specs.Prelude.{◌≡◌, List, [], ◌∷◌, IfSome, map, true};
 ghost use Rattle.sc_base.specs.Outside.{IsLaterFiles};
+ghost use Rattle.sc_base.specs.Saves.{success_path};
 ghost use Rattle.sc_base.specs.Trees.{has_place};
 ghost use Rattle.sc_output.specs.Calls.{AreOpen, IsOpen, MakesCalls, remove_call, write_call};
 ghost use Rattle.sc_output.specs.Commits.{AreWinnersFrom, IsReady, abort_calls, commit_calls, final_rename};
 ghost use Rattle.sc_output.specs.Ends.{EndsAs};
-ghost use Rattle.sc_output.specs.Names.{staging_path, success_path};
+ghost use Rattle.sc_output.specs.Names.{staging_path};
 
 use crate::names::{committed_name, final_name, staging_name, success_name};
 use sc_base::OrMemory;

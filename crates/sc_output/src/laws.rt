@@ -1,9 +1,10 @@
 //! What holds of names and of commits.
 #![tactic(auto)]
 
-ghost use Rattle.sc_output.specs.NameLaws.{NamesDiffer, NamesLieWithin, NoneUnderBoth};
+ghost use Rattle.sc_base.specs.Saves.{NoneUnderBoth, SavesKeepApart};
+ghost use Rattle.sc_output.specs.NameLaws.{NamesDiffer, NamesLieWithin};
 ghost use Rattle.sc_output.specs.Names.{IsWithinTypes};
-ghost use Rattle.sc_output.specs.Saved.{AbortedIsEmpty, CommitsStayWithin, CommittedIsSaved, SavesKeepApart, StopsLeave};
+ghost use Rattle.sc_output.specs.Saved.{AbortedIsEmpty, CommitsStayWithin, CommittedIsSaved, StopsLeave};
 
 use sc_ids::AttemptId;
 

@@ -2,7 +2,8 @@
 #![tactic(auto)]
 
 ghost use Rattle.std.specs.Prelude.{◌++◌, ◌≡◌, IfOk};
-ghost use Rattle.sc_output.specs.Names.{committed_path, dashed, final_path, staged_path, staging_path, success_path};
+ghost use Rattle.sc_base.specs.Saves.{final_path, success_path};
+ghost use Rattle.sc_output.specs.Names.{committed_path, dashed, staged_path, staging_path};
 
 use sc_ids::AttemptId;
 use sc_value::Name;

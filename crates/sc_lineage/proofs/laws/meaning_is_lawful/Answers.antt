@@ -5,6 +5,7 @@ use Rattle.sc_lineage.proofs.ByNodesLemmas.{fold_laws}
 use Rattle.sc_lineage.proofs.CountLemmas.{counts_are_within}
 use Rattle.sc_lineage.proofs.MeaningLemmas.{partitions_are_made, partitions_are_narrow}
 use Rattle.sc_lineage.proofs.NameLemmas.{inputs_are_named, inputs_are_named_once, inputs_are_in_order}
+use Rattle.sc_lineage.proofs.SaveLemmas.{saves_are_lawful}
 use Rattle.sc_lineage.proofs.WholeLemmas.{reads_are_whole}
 use Rattle.sc_lineage.proofs.laws.meaning_is_lawful.Goals as goal
 
@@ -20,4 +21,5 @@ returns c = record {
   inputs = inputs_are_named;
   inputs_once = inputs_are_named_once;
   inputs_order = inputs_are_in_order;
+  saves = saves_are_lawful;
 }

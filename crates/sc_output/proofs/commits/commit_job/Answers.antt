@@ -1,8 +1,9 @@
 use Rattle.std.proofs.Common.{[], ◌∷◌, map}
 use Rattle.std.proofs.lemmas.Result.{err_from_is_err_and}
+use Rattle.sc_base.specs.Saves.{success_path}
 use Rattle.sc_output.specs.Calls.{remove_call, write_call}
 use Rattle.sc_output.specs.Commits.{final_rename}
-use Rattle.sc_output.specs.Names.{staging_path, success_path}
+use Rattle.sc_output.specs.Names.{staging_path}
 use Rattle.sc_output.proofs.CallLemmas.{calls-ended, calls-then}
 use Rattle.sc_output.proofs.ReadyLemmas.{ready-finish, ready-renames}
 use Rattle.sc_output.proofs.commits.commit_job.Goals as goal

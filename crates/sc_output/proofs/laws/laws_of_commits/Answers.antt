@@ -1,5 +1,6 @@
+use Rattle.sc_base.proofs.SaveLemmas.{saves_keep_apart}
 use Rattle.sc_output.proofs.SavedLemmas.{aborted_is_empty, committed_is_saved}
-use Rattle.sc_output.proofs.WithinLemmas.{commits_stay_within, saves_keep_apart, stops_leave}
+use Rattle.sc_output.proofs.WithinLemmas.{commits_stay_within, stops_leave}
 use Rattle.sc_output.proofs.laws.laws_of_commits.Goals as goal
 
 pub returns-clause-saved : goal.returns-clause-saved

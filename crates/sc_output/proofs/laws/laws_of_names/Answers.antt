@@ -1,4 +1,4 @@
-use Rattle.sc_output.proofs.ApartLemmas.{none_under_both}
+use Rattle.sc_base.proofs.ApartLemmas.{none_under_both}
 use Rattle.sc_output.proofs.NameLemmas.{names_differ, names_lie_within}
 use Rattle.sc_output.proofs.laws.laws_of_names.Goals as goal
 

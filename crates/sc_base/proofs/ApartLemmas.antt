@@ -3,7 +3,7 @@ use Rattle.std.proofs.Common.{◌≡◌, ◌∙◌, ◌⊎◌, inl, inr, ℕ, �
 use Rattle.std.specs.Prelude.{◌==◌}
 use Rattle.std.proofs.lemmas.Bool.{eq-eqb, eqb-true}
 use Rattle.sc_base.specs.Trees.{Path, lies_under}
-use Rattle.sc_output.specs.NameLaws.{NoneUnderBoth}
+use Rattle.sc_base.specs.Saves.{NoneUnderBoth}
 
 and-parts : (a b : Bool) → (a && b) ≡ true → (a ≡ true) × (b ≡ true)
 and-parts true b e = (refl, e)
