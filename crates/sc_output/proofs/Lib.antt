@@ -1,7 +1,7 @@
 mod ApartLemmas
-mod CallLemmas
+pub mod CallLemmas
 mod LoopLemmas
-mod NameLemmas
-mod ReadyLemmas
-mod SavedLemmas
+pub mod NameLemmas
+pub mod ReadyLemmas
+pub mod SavedLemmas
 mod WithinLemmas
