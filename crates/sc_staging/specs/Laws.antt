@@ -31,8 +31,8 @@ pub record FilesStand : Type 0 where
   pub renewed : (dir : Path) (texts : List (List ℕ)) (t : Tree)
       → AreThere dir t → HasFiles dir texts [] (renewed_tree dir t)
   -- who wrote last may rename, and who renamed last may win
-  pub may_rename : (dir : Path) (texts : List (List ℕ)) (done : List Done) (a : AttemptId) (t : Tree)
-      → IsWithinTypes a → DidLast a wrote done → HasFiles dir texts done t
+  pub may_rename : (dir : Path) (texts : List (List ℕ)) (done : List Done) (a : AttemptId)
+      (t : Tree) → IsWithinTypes a → DidLast a wrote done → HasFiles dir texts done t
       → IsOpen (part_rename dir a) t
   pub may_win : (dir : Path) (texts : List (List ℕ)) (done : List Done)
       (winners : List AttemptId) (t : Tree) → AreWinnersFrom 0 winners

@@ -27,14 +27,14 @@ abbrev pub IsInTheWay : Path → Path → Tree → Tree → Type 0
 IsInTheWay dir path t u =
     ((path ≡ dir) × (has_dir t dir ≡ true) × (u ≡ t))
     ⊎ ((path ≡ staging_path dir) × (has_dir t dir ≡ false)
-        × (has_dir t (staging_path dir) ≡ true) × (u ≡ with_dir t dir))
+    × (has_dir t (staging_path dir) ≡ true) × (u ≡ with_dir t dir))
 
 -- the directory was made or wasn't, or it was, and the staging area was made or wasn't
 abbrev pub IsHalfOpened : Path → Path → Tree → Tree → Type 0
 IsHalfOpened dir path t u =
     ((path ≡ dir) × IsAllOrNothing (λ x. with_dir x dir) t u)
     ⊎ ((path ≡ staging_path dir) × (has_dir t dir ≡ false)
-        × IsAllOrNothing (λ x. with_dir x (staging_path dir)) (with_dir t dir) u)
+    × IsAllOrNothing (λ x. with_dir x (staging_path dir)) (with_dir t dir) u)
 
 -- nothing was made, or the directory was, which wasn't there
 abbrev pub IsOpenedNoFurther : Path → Tree → Tree → Type 0

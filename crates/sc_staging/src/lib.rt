@@ -1,9 +1,9 @@
 //! The files of one job that saves, while its attempts write.
 //!
-//! [`Staging::open`] makes the directory of a save and its staging area, and refuses a directory
-//! that is there. An attempt writes its part there ([`Staging::write_part`]) and gives it the name
-//! of a committed part once it is granted ([`Staging::rename_part`]). A call on the files that fails
-//! is told with all counts from before and after it. At the end the staging is given up: the job is
+//! [`Staging::open`] makes the directory of a save and its staging area, and refuses one that is
+//! there. An attempt writes its part there ([`Staging::write_part`]) and gives it the name of a
+//! committed part once it is granted ([`Staging::rename_part`]). A call on the files that fails is
+//! told with all counts from before and after it. At the end the staging is given up: the job is
 //! committed or aborted, or only the files are handed back.
 //!
 //! Contracts see the directory and what the files show (`specs/StagingData.antt`). Each call is one

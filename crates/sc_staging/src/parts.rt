@@ -4,11 +4,11 @@
 ghost use Rattle.std.specs.Prelude.{◌≡◌, IfOk, IfSome, OnErr};
 ghost use Rattle.sc_base.specs.Outside.{IsLaterFiles};
 ghost use Rattle.sc_output.specs.Calls.{IsOpen, rename_call, write_call};
-ghost use Rattle.sc_staging.specs.Parts.{EndsPart, part_rename, part_write};
+ghost use Rattle.sc_staging.specs.Parts.{EndsPart, Tells, part_rename, part_write};
 
 use crate::staging::Staging;
 use sc_files::{FileAnswer, Files};
-use sc_ids::{AttemptId, Fault};
+use sc_ids::{AttemptId, Counts, Fault};
 use sc_output::{committed_name, is_within_types, staged_name};
 use sc_value::Name;
 use std::alloc::{AllocError, Global};
@@ -47,11 +47,7 @@ impl<F: Files> Staging<F> {
     /// Gives the part that an attempt wrote the name of a committed one.
     ///
     /// Where the call failed, this was done or nothing was.
-    pub fn rename_part(
-        &mut self,
-        alloc: Global,
-        attempt: AttemptId,
-    ) -> Result<Written, AllocError>
+    pub fn rename_part(&mut self, alloc: Global, attempt: AttemptId) -> Result<Written, AllocError>
         requires staged { IfSome self.old.files.shown (IsOpen (part_rename self.old.dir attempt)) }
         ensures dir { self.new.dir ≡ self.old.dir }
         ensures later { IsLaterFiles self.old.files self.new.files }
@@ -74,14 +70,8 @@ fn write_file<F: Files>(files: &mut F, path: &Name, text: &[u8]) -> Result<Writt
     ensures unchanged { OnErr result (F.state files.new ≡ F.state files.old) }
 {
     let before = files.counts();
-    match files.write(path, text) {
-        FileAnswer::Done => Ok(Written::Done),
-        FileAnswer::NoDir | FileAnswer::NoFile | FileAnswer::Failed => {
-            let after = files.counts();
-            Ok(Written::Failed(Fault { before, after }))
-        }
-        FileAnswer::OutOfMemory => Err(AllocError),
-    }
+    let answer = files.write(path, text);
+    told(answer, before, files.counts())
 }
 
 /// Renames a file.
@@ -93,10 +83,17 @@ fn rename_file<F: Files>(files: &mut F, from: &Name, to: &Name) -> Result<Writte
     ensures unchanged { OnErr result (F.state files.new ≡ F.state files.old) }
 {
     let before = files.counts();
-    match files.rename(from, to) {
+    let answer = files.rename(from, to);
+    told(answer, before, files.counts())
+}
+
+/// What is told of a call for a part, of which all counts from before and after it are given.
+fn told(answer: FileAnswer, before: Counts, after: Counts) -> Result<Written, AllocError>
+    ensures { Tells answer before after result }
+{
+    match answer {
         FileAnswer::Done => Ok(Written::Done),
         FileAnswer::NoDir | FileAnswer::NoFile | FileAnswer::Failed => {
-            let after = files.counts();
             Ok(Written::Failed(Fault { before, after }))
         }
         FileAnswer::OutOfMemory => Err(AllocError),
