@@ -61,7 +61,7 @@ path-back : (xs ys : List Call) (path : Path) → HasPath ys path → HasPath (x
 path-back [] ys path h = h
 path-back (x ∷ xs) ys path h = inr (path-back xs ys path h)
 
-quiet-then : (s u v : FilesState) → IsQuietFiles s u → IsQuietFiles u v → IsQuietFiles s v
+pub quiet-then : (s u v : FilesState) → IsQuietFiles s u → IsQuietFiles u v → IsQuietFiles s v
 quiet-then s u v one two =
     record { faults = two.faults ∙ one.faults; clashes = two.clashes ∙ one.clashes }
 
@@ -79,7 +79,7 @@ unseen-before R (Some t) (Some u) x e = absurd (some-none u e)
         IfNone (Some x) = ⊥
 
 -- a call that isn't done behind others that raised no count
-not_done-then : (R : Tree → Tree → Type 0) (s u v : FilesState) → IsQuietFiles s u
+pub not_done-then : (R : Tree → Tree → Type 0) (s u v : FilesState) → IsQuietFiles s u
     → Changes R s.shown u.shown → IsNotDone u v → IsNotDone s v
 not_done-then R s u v quiet change (inl rose) =
     inl (subst (λ n. Rose n v.faults) quiet.faults rose)

@@ -1,6 +1,6 @@
-mod CallLemmas
+pub mod CallLemmas
 mod LoopLemmas
-mod NameLemmas
-mod ReadyLemmas
-mod SavedLemmas
+pub mod NameLemmas
+pub mod ReadyLemmas
+pub mod SavedLemmas
 mod WithinLemmas

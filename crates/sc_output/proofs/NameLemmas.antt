@@ -139,7 +139,7 @@ final-injective dir p q within within' e =
 bytes-differ : (a b x y : ℕ) → a ≡ x → b ≡ y → x < y → a ≡ b → ⊥
 bytes-differ a b x y is is' below e = omega (arith, is, is', below, e)
 
-staged-committed : (dir : Path) (a b : AttemptId) → staged_path dir a ≢ committed_path dir b
+pub staged-committed : (dir : Path) (a b : AttemptId) → staged_path dir a ≢ committed_path dir b
 staged-committed dir a b e =
     bytes-differ _ _ 99 115 refl refl (omega arith)
     (sym (ap (λ l. get_or l 12 0) (append_cancel_left dir _ _ e)))

@@ -35,7 +35,7 @@ dir_part-digits (x ∷ xs) ys all none =
     ap (dir_step x) (dir_part-digits xs ys all.1 none)
     ∙ ap (λ b. if b then Some [] else None) (slash-no_digit x (x == 47) all.0 refl)
 
-dir_part-decimal : (n : ℕ) (ys : Path) → n < 2 ^ 64 → dir_part ys ≡ None
+pub dir_part-decimal : (n : ℕ) (ys : Path) → n < 2 ^ 64 → dir_part ys ≡ None
     → dir_part (decimal n ++ ys) ≡ None
 dir_part-decimal n ys within none =
     dir_part-digits (decimal n) ys (decimal-digits n within) none
@@ -60,7 +60,7 @@ dir_part-final dir p within =
 dir_part-success : (dir : Path) → dir_part (success_path dir) ≡ Some dir
 dir_part-success dir = dir_part-append dir (codes "/_SUCCESS") [] refl ∙ ap Some (append-nil dir)
 
-has_place-dir : (t : Tree) (dir path : Path) → dir_part path ≡ Some dir → has_dir t dir ≡ true
+pub has_place-dir : (t : Tree) (dir path : Path) → dir_part path ≡ Some dir → has_dir t dir ≡ true
     → has_place t path ≡ true
 has_place-dir t dir path is there = ap (dir_is_there t.dirs) is ∙ there
 

@@ -62,6 +62,8 @@ mod sequences;
 #[cfg(test)]
 mod slow_attempts;
 #[cfg(test)]
+mod stagings;
+#[cfg(test)]
 mod streams;
 #[cfg(test)]
 mod transcripts;

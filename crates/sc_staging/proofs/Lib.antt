@@ -1,0 +1,6 @@
+pub mod DoneLemmas
+mod OpeningLemmas
+mod PartLemmas
+mod RenewalLemmas
+pub mod SaveLemmas
+pub mod WayLemmas

@@ -1,0 +1,6 @@
+pub mod Done
+pub mod Laws
+pub mod Opening
+pub mod Parts
+pub mod Renewal
+pub mod StagingData
