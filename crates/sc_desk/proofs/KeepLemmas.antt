@@ -108,6 +108,8 @@ in_time_later work told more (findings.Raised r) le h = tt
 in_time_later work told more (findings.Gone exec wanted found) le h =
     let later = wipes_more work told more exec le in omega (arith, h, later)
 in_time_later work told more (findings.Metadata last) le h = tt
+in_time_later work told more (findings.Device fault) le h = tt
+in_time_later work told more findings.Denied le h = tt
 
 -- how many wipes of each executor are due
 abbrev pub bound_of : WorkData → CoreData → ℕ → ℕ

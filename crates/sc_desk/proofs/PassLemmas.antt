@@ -23,7 +23,7 @@ use Rattle.sc_core.proofs.PlannedLemmas.{counted_more}
 use Rattle.sc_desk.proofs.TrackLemmas.{Sees, ShowsWithin, StaysOrDrops, Tracks, all_released_trust, lost_sees, sees_same, sees_then, tells_track}
 use Rattle.sc_core.proofs.TakeCases.{TakesSo, takes_so}
 use Rattle.sc_dag.specs.DagData.{DagData}
-use Rattle.sc_core.specs.Sides.{IsAside}
+use Rattle.sc_core.specs.Sides.{IsAside, MayHold}
 
 -- the shelf of a job that has ended is empty
 abbrev pub EndsEmpty : CoreData → Type 0
@@ -130,6 +130,11 @@ takes_pass bound c after exec answer step = by (takes_so c after exec answer ste
           shelf = λ r. ap (λ (x : CoreData). x.shelf) same.is;
         }
 
+-- where a partition may be held back, nothing is heard of executors
+held_trust : (d after : DagData) → MayHold d after → after.tracker.trust ≡ d.tracker.trust
+held_trust d after (inl is) = ap (λ (x : DagData). x.tracker.trust) is
+held_trust d after (inr (s, p, denied, is)) = ap (λ (x : DagData). x.tracker.trust) is
+
 -- what happens beside the reports
 pub aside_pass : (bound : ℕ → ℕ) (c after : CoreData) → IsAside c after → Telling bound c after
 aside_pass bound c after is =
@@ -138,7 +143,7 @@ aside_pass bound c after is =
           record {
             plan = is.plan;
             told = rw is.told (omega arith);
-            sees = sees_same bound c.dag after.dag (ap (λ (d : DagData). d.tracker.trust) is.dag);
+            sees = sees_same bound c.dag after.dag (held_trust c.dag after.dag is.dag);
             ends = λ h over. is.shelf ∙ h (ap is_running_job (sym is.job) ∙ over);
           };
       shelf = λ r. is.shelf;

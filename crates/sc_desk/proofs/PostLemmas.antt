@@ -165,6 +165,8 @@ early_known work d report due true_of given early r runs one =
     of findings.Planned is e = absurd e
     of (findings.Raised x) is e = absurd e
     of (findings.Metadata last) is e = absurd e
+    of (findings.Device fault) is e = absurd e
+    of findings.Denied is e = absurd e
 
 -- who is no stranger and in time is received
 pub received :
@@ -202,6 +204,8 @@ ended_for work told t (findings.Raised r) task is time =
     record { task = task.task; own = is.own; inputs = is.inputs }
 ended_for work told t (findings.Gone exec wanted found) task is time = time
 ended_for work told t (findings.Metadata last) task is time = tt
+ended_for work told t (findings.Device fault) task is time = is
+ended_for work told t findings.Denied task is time = tt
 
 -- and shows no generation above the wipes that are due
 pub shows_within :
@@ -213,6 +217,8 @@ shows_within work c findings.Planned time = tt
 shows_within work c (findings.Raised r) time = tt
 shows_within work c (findings.Gone exec wanted found) time = time
 shows_within work c (findings.Metadata last) time = tt
+shows_within work c (findings.Device fault) time = tt
+shows_within work c findings.Denied time = tt
 
 -- a finding that is told as a result hands one over
 record HasGiven (work : WorkData) (t : TaskData) (finding : Finding) : Type 0 where
@@ -230,6 +236,8 @@ has_given work t findings.Planned is e = absurd (search (rules, e))
 has_given work t (findings.Raised r) is e = absurd (search (rules, e))
 has_given work t (findings.Gone exec wanted found) is e = absurd (search (rules, e))
 has_given work t (findings.Metadata last) is e = absurd (search (rules, e))
+has_given work t (findings.Device fault) is e = absurd (search (rules, e))
+has_given work t findings.Denied is e = absurd (search (rules, e))
 
 finished_is : (answer : Answer) → is_finished answer ≡ true → answer ≡ says.Finished
 finished_is says.Finished e = refl

@@ -8,10 +8,13 @@ use Rattle.sc_taskset.proofs.FindLemmas.{found_is}
 use Rattle.sc_core.specs.CoreData.{job_runs, shelved_of}
 use Rattle.sc_core.specs.Journals.{Replays}
 use Rattle.sc_core.specs.Releases.{Releases as CoreReleases}
+use Rattle.sc_core.specs.Sides.{IsAside}
 use Rattle.sc_core.specs.Sound.{IsSoundCore}
+use Rattle.sc_core.proofs.SideLemmas.{steps_aside}
 use Rattle.sc_core.specs.declared.answers.Answer.{Answer}
 use Rattle.sc_core.specs.declared.answers.Answer.TheVariants as says
-use Rattle.sc_core.specs.declared.events.Event.TheVariants.{Release, Take, TellLost}
+use Rattle.sc_core.specs.declared.events.Event.TheVariants.{Release, Side, Take, TellLost}
+use Rattle.sc_core.specs.declared.events.SideEvent.{SideEvent}
 use Rattle.sc_core.specs.declared.running.Shelved.{Shelved}
 use Rattle.sc_net.specs.Reports.{ReportData, outcome_of}
 use Rattle.sc_net.specs.Shelves.{IsBefore, is_under}
@@ -22,13 +25,13 @@ use Rattle.sc_desk.specs.Dues.{IsInTime}
 use Rattle.sc_desk.specs.Entries.{Enters}
 use Rattle.sc_desk.specs.Posts.{attempt_of}
 use Rattle.sc_desk.specs.Shelves.{IsShelvedOf, as_shelved, report_under, shelf_in, without_key}
-use Rattle.sc_desk.specs.Sound.{EndedFor, IsSoundDesk}
+use Rattle.sc_desk.specs.Sound.{EndedFor, IsEvidentAside, IsSoundDesk}
 use Rattle.sc_desk.specs.Tellings.{results_with}
 use Rattle.sc_desk.proofs.KeepLemmas.{Entered, KeepsShelf, bound_of, leaves_keep}
-use Rattle.sc_desk.proofs.PassLemmas.{ReleaseShows, Released, Telling, losses_pass, releases_pass, takes_pass}
+use Rattle.sc_desk.proofs.PassLemmas.{ReleaseShows, Released, Telling, aside_pass, losses_pass, releases_pass, takes_pass}
 use Rattle.sc_desk.proofs.PostLemmas.{ended_for, shows_within, told_keeps}
 use Rattle.sc_desk.proofs.ShelfLemmas.{all_later, ends_so, keys_rise, same_keeps, shelf_keeps, under_alike, without_tie}
-use Rattle.sc_desk.proofs.StepLemmas.{IsWon, losses_leave, releases_leave, releases_win, takes_leave}
+use Rattle.sc_desk.proofs.StepLemmas.{IsWon, aside_leaves, losses_leave, releases_leave, releases_win, takes_leave}
 
 -- ---- executors that ask, and losses
 
@@ -75,6 +78,34 @@ lost_keeps work d after by exec answer sound core replays enters results shelf =
   where
     t : Telling (bound_of work (core_of d)) (core_of d) (core_of after)
     t = losses_pass (bound_of work (core_of d)) (core_of d) (core_of after) exec answer enters.step
+
+-- ---- what happens beside the reports
+
+pub noted_keeps :
+    (work : WorkData) (d after : DeskData) (by : Mark) (event : SideEvent) (answer : Answer)
+    → IsSoundDesk work d → IsSoundCore (core_of d)
+    → Replays d.journal.opening d.journal.entries (core_of d)
+    → Enters d by (Side event) answer after → IsEvidentAside event
+    → after.results ≡ d.results
+    → after.shelf ≡ shelf_in (core_of after) d.shelf → IsSoundDesk work after
+noted_keeps work d after by event answer sound core replays enters evident results shelf =
+    leaves_keep work d after by (Side event) answer
+    (record {
+      sound = sound;
+      core = core;
+      replays = replays;
+      enters = enters;
+      passes = t.passes;
+      evident = evident;
+    })
+    (aside_leaves (core_of d) (core_of after) is)
+    (same_keeps work d after sound t.passes.told t.passes.ends t.shelf shelf) results
+  where
+    is : IsAside (core_of d) (core_of after)
+    is = steps_aside (core_of d) (core_of after) event answer enters.step
+
+    t : Telling (bound_of work (core_of d)) (core_of d) (core_of after)
+    t = aside_pass (bound_of work (core_of d)) (core_of d) (core_of after) is
 
 -- ---- reports off the shelf
 

@@ -40,6 +40,7 @@ use Rattle.sc_core.specs.declared.events.Outcome.TheVariants as outcomes
 use Rattle.sc_core.specs.declared.running.Running.{Running}
 use Rattle.sc_core.specs.declared.running.Shelved.{Shelved}
 use Rattle.sc_core.proofs.LossLemmas.{lost_results}
+use Rattle.sc_core.specs.Sides.{IsAside, MayHold}
 use Rattle.sc_core.proofs.MoveLemmas.{state_results}
 use Rattle.sc_core.proofs.ResultLemmas.{runs_results}
 use Rattle.sc_core.proofs.SetLemmas.{nothing}
@@ -533,3 +534,15 @@ losses_leave c after exec answer step =
     })
     (freed_all (attempts_on exec c.running) (with_dag c (after_lost c.dag exec))))
     (losses_come c after exec answer step).dag
+
+-- ---- what happens beside the reports
+
+pub aside_leaves : (c after : CoreData) → IsAside c after → Leaves c.dag after.dag
+aside_leaves c after is = by is.dag
+  where
+    by : MayHold c.dag after.dag → Leaves c.dag after.dag
+    by (inl same) = left_with c after c.dag (leaves_itself c.dag) same
+    by (inr (s, p, denied, same)) =
+        left_with c after (after_hold c.dag s p denied)
+        (leaves_of nothing None c.dag (after_hold c.dag s p denied) (hold_free c.dag s p denied)
+        refl (hold_results c.dag s p denied)) same

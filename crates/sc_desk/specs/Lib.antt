@@ -7,4 +7,5 @@ pub mod Entries
 pub mod Takes
 pub mod Posts
 pub mod Tellings
+pub mod Asides
 pub mod Begins

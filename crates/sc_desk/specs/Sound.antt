@@ -2,6 +2,7 @@
 use Rattle.std.specs.Prelude.{ℕ, ◌≡◌, ◌≢◌, ◌≤◌, ◌<◌, All, Bool, true, false, List, [], ◌∷◌, Option, Some, None, IfSome, is_some, length, map}
 use Rattle.sc_base.specs.Lists.{at_or}
 use Rattle.sc_expr.specs.declared.exprs.Raise.{Raise}
+use Rattle.sc_ids.specs.Failures.{HasRisen}
 use Rattle.sc_ids.specs.declared.attempts.AttemptId.{AttemptId}
 use Rattle.sc_ids.specs.declared.failures.FailureCause.{FailureCause}
 use Rattle.sc_ids.specs.declared.failures.FailureCause.TheVariants as causes
@@ -24,11 +25,15 @@ use Rattle.sc_core.specs.declared.answers.Answer.{Answer}
 use Rattle.sc_core.specs.declared.answers.Answer.TheVariants as says
 use Rattle.sc_core.specs.declared.entries.Entry.{Entry}
 use Rattle.sc_core.specs.declared.events.Event.{Event}
-use Rattle.sc_core.specs.declared.events.Event.TheVariants.{Post, Release}
+use Rattle.sc_core.specs.declared.events.Event.TheVariants.{Post, Release, Side}
+use Rattle.sc_core.specs.declared.events.FileOutcome.{FileOutcome}
+use Rattle.sc_core.specs.declared.events.FileOutcome.TheVariants.{Done, Failed}
 use Rattle.sc_core.specs.declared.events.Outcome.{Outcome}
 use Rattle.sc_core.specs.declared.events.Outcome.TheVariants as outcomes
+use Rattle.sc_core.specs.declared.events.SideEvent.{SideEvent}
+use Rattle.sc_core.specs.declared.events.SideEvent.TheVariants.{Move, Stage}
 use Rattle.sc_jobs.specs.Fitting.{FitsWork}
-use Rattle.sc_jobs.specs.JobData.{HasTask, JobData, blocks_read, goal_action, target_of}
+use Rattle.sc_jobs.specs.JobData.{HasTask, JobData, blocks_read, goal_action, saves, target_of}
 use Rattle.sc_net.specs.Reports.{IsWithoutRaise}
 use Rattle.sc_desk.specs.DeskData.{DeskData, core_of}
 use Rattle.sc_desk.specs.Dues.{IsInTime, wipes_due}
@@ -68,28 +73,40 @@ pub record HasRaised (work : WorkData) (job : JobData) (a : AttemptId) (raise : 
   pub inputs : All (IsWithoutRaise work) (blocks_read job.graph a.stage)
 
 -- The evidence of a failure that is posted once so many reports were told: its cause is the plan's,
--- or the attempt's own, or a generation of a store that a wipe has brought. No job saves yet, so
--- none fails for a device or a denied commit.
+-- or the attempt's own, or a generation of a store that a wipe has brought, or a call on the files
+-- over which a count of theirs rose.
 abbrev pub FailedFor : WorkData → JobData → ℕ → AttemptId → FailureCause → Type 0
 FailedFor work job told a causes.Planned = is_failed work.plan (place_of a) ≡ true
 FailedFor work job told a (causes.Raised raise) = HasRaised work job a raise
 FailedFor work job told a (causes.Gone exec wanted found) = found ≤ wipes_due work told exec
 FailedFor work job told a (causes.Metadata last) = Unit {0}
-FailedFor work job told a (causes.Device fault) = ⊥
-FailedFor work job told a causes.Denied = ⊥
+FailedFor work job told a (causes.Device fault) = HasRisen fault
+FailedFor work job told a causes.Denied = Unit {0}
 
 abbrev pub EndedFor : WorkData → JobData → ℕ → AttemptId → Outcome → Type 0
 EndedFor work job told a (outcomes.Map loc) = Unit {0}
 EndedFor work job told a outcomes.Result = Unit {0}
 EndedFor work job told a (outcomes.Failed cause) = FailedFor work job told a cause
 
+-- a call on the files that failed has its evidence
+abbrev pub HasFailedFor : FileOutcome → Type 0
+HasFailedFor Done = Unit {0}
+HasFailedFor (Failed fault) = HasRisen fault
+
+-- so has what happens beside the reports
+abbrev pub IsEvidentAside : SideEvent → Type 0
+IsEvidentAside (Stage attempt wrote) = HasFailedFor wrote
+IsEvidentAside (Move attempt renamed) = HasFailedFor renamed
+IsEvidentAside event = Unit {0}
+
 -- what happens in a state has its evidence: a report that is posted, and not ignored, is true of
--- its attempt, and so is one that is told late
+-- its attempt, and so is one that is told late; and a call on the files that failed raised a count
 abbrev pub IsEvident : WorkData → JobData → CoreData → Event → Answer → Type 0
 IsEvident work job c (Post a outcome) answer =
     answer ≢ says.Ignored → EndedFor work job c.told a outcome
 IsEvident work job c (Release key) answer =
     IfSome (shelved_of c key) (λ s. EndedFor work job c.told s.attempt s.outcome)
+IsEvident work job c (Side event) answer = IsEvidentAside event
 IsEvident work job c event answer = Unit {0}
 
 -- each entry of a journal has its evidence, by the state before it
@@ -109,9 +126,10 @@ IsSeenDue work c =
 
 -- every desk
 pub record IsSoundDesk (work : WorkData) (d : DeskData) : Type 0 where
-  -- its job began behind another one or none, under the plan of the work, and saves nothing
+  -- its job began behind another one or none, under the plan of the work
   pub last : Option CoreData
-  pub opened : IsOpening d.job.graph work.limits false work.plan last d.journal.opening
+  pub opened : IsOpening d.job.graph work.limits (saves work d.job.goal) work.plan last
+      d.journal.opening
   -- with a core that is sound
   pub began : IsSoundCore d.journal.opening
   -- the core has the job's stages by their numbers, the work's limits and plan, and its executors

@@ -22,6 +22,7 @@
 //! Below it lie `sc_core`, `sc_jobs` and `sc_net`.
 #![tactic(auto)]
 
+mod asides;
 mod begins;
 mod closes;
 mod desks;
@@ -41,5 +42,5 @@ pub use laws::orders_are_due;
 pub use orders::{Ordered, Orders};
 pub use passes::Passed;
 pub use posts::Posted;
-pub use receipts::Receipt;
+pub use receipts::{Noted, Receipt};
 pub use takes::{Logged, Taken};

@@ -1,5 +1,5 @@
 -- A job as plain data: what it is for, and its stages.
-use Rattle.std.specs.Prelude.{ℕ, ◌==◌, ◌≡◌, ◌<◌, List, [], Option, Some, None, length, map, slice_get}
+use Rattle.std.specs.Prelude.{ℕ, ◌==◌, ◌≡◌, ◌<◌, Bool, true, false, List, [], Option, Some, None, length, map, slice_get}
 use Rattle.std.specs.Coded.{Coded, code_by, coded×, coded_list, coded_ℕ}
 use Rattle.std.specs.List.{find, flat_map}
 use Rattle.std.specs.Prelude.{refl}
@@ -10,7 +10,7 @@ use Rattle.sc_ids.specs.declared.blocks.BlockId.{BlockId}
 use Rattle.sc_ids.specs.declared.blocks.Target.{Target}
 use Rattle.sc_ids.specs.declared.blocks.Target.TheVariants as targets
 use Rattle.sc_lineage.specs.NodeData.{shuffle_node, sort_by_key}
-use Rattle.sc_lineage.specs.ScriptData.{ActionData, WorkData, collect_action, node_of_action}
+use Rattle.sc_lineage.specs.ScriptData.{ActionData, WorkData, collect_action, node_of_action, save_action}
 use Rattle.sc_lineage.specs.Targets.{TargetData, map_target, result_target}
 use Rattle.sc_dag.specs.Outputs.{block_of}
 use Rattle.sc_compute.specs.Stages.{mapped_in, node_at}
@@ -50,6 +50,15 @@ goal_action work (goals.Bounds sort) = collect_action (mapped_in (node_at work s
 -- the node that a job is for
 abbrev pub goal_node : WorkData → Goal → ℕ
 goal_node work goal = node_of_action (goal_action work goal)
+
+-- an action saves
+abbrev pub is_saving : ActionData → Bool
+is_saving (save_action node dir) = true
+is_saving action = false
+
+-- a job saves
+abbrev pub saves : WorkData → Goal → Bool
+saves work goal = is_saving (goal_action work goal)
 
 -- a work has such a goal: an action of that number, or a sort there
 abbrev pub IsGoal : WorkData → Goal → Type 0

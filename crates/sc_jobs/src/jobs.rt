@@ -10,7 +10,7 @@ ghost use Rattle.sc_lineage.specs.Views.{action_data_of};
 ghost use Rattle.sc_stagecut.specs.Carrying.{AreRightBounds, HasBounds, IsCarriedFor, after_job, is_sort};
 ghost use Rattle.sc_stagecut.specs.Cuts.{IsCut};
 ghost use Rattle.sc_jobs.specs.Equality.{jobs_are_equal, same_job};
-ghost use Rattle.sc_jobs.specs.JobData.{HasTask, IsGoal, goal_action, goal_node, stage_in, target_by, target_of};
+ghost use Rattle.sc_jobs.specs.JobData.{HasTask, IsGoal, goal_action, goal_node, is_saving, saves, stage_in, target_by, target_of};
 ghost use Rattle.sc_jobs.specs.Plans.{GivesResults, IsJobFor, MapsInto};
 
 use crate::goals::Goal;
@@ -183,6 +183,13 @@ impl<W: Naming> Job<W> {
         }
     }
 
+    /// Whether it saves.
+    pub fn saves(&self, work: &SharedWork<W>) -> bool
+        ensures { result ≡ saves W.work self.now.goal }
+    {
+        is_saving(self.action(work))
+    }
+
     /// Whether it has a stage of a number, with a task for a partition.
     pub fn has_task(&self, stage: StageId, partition: u32) -> bool
         ensures { IsTrue result ↔ HasTask self.now.graph stage partition }
@@ -267,4 +274,11 @@ impl<W: Naming> PartialEq for Job<W> {
     {
         self.is_same(other)
     }
+}
+
+/// Whether an action saves.
+fn is_saving(action: &Action) -> bool
+    ensures { result ≡ is_saving (action_data_of action.now) }
+{
+    matches!(action, Action::Save { .. })
 }

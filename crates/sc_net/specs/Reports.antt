@@ -2,6 +2,7 @@
 use Rattle.std.specs.Prelude.{ℕ, ◌≡◌, ◌<◌, true, false, Option, Some, None, All, Contains, refl}
 use Rattle.std.specs.Coded.{Coded, code_by, coded×}
 use Rattle.sc_expr.specs.declared.exprs.Raise.{Raise}
+use Rattle.sc_ids.specs.Failures.{HasRisen}
 use Rattle.sc_ids.specs.declared.blocks.BlockId.{BlockId}
 use Rattle.sc_ids.specs.declared.blocks.Loc.{Loc}
 use Rattle.sc_ids.specs.declared.failures.FailureCause.TheVariants as causes
@@ -66,6 +67,8 @@ IsTrueReport work t (findings.Raised r) = Raises work t r
 IsTrueReport work t (findings.Gone exec wanted found) =
     WasGiven t (locations.Here (loc_at exec wanted)) × (wanted < found)
 IsTrueReport work t (findings.Metadata last) = WasGiven t (locations.Missing (Some last))
+IsTrueReport work t (findings.Device fault) = HasRisen fault
+IsTrueReport work t findings.Denied = Unit {0}
 
 -- what the scheduler is told of a finding
 abbrev pub outcome_of : Finding → Outcome
@@ -75,6 +78,8 @@ outcome_of findings.Planned = outcomes.Failed causes.Planned
 outcome_of (findings.Raised r) = outcomes.Failed (causes.Raised r)
 outcome_of (findings.Gone exec wanted found) = outcomes.Failed (causes.Gone exec wanted found)
 outcome_of (findings.Metadata last) = outcomes.Failed (causes.Metadata last)
+outcome_of (findings.Device fault) = outcomes.Failed (causes.Device fault)
+outcome_of findings.Denied = outcomes.Failed causes.Denied
 
 -- the result that a finding hands over
 abbrev pub result_in : Finding → Option TaskResult

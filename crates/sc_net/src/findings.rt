@@ -5,7 +5,7 @@ ghost use Rattle.std.specs.Prelude.{◌≡◌, IfOk};
 
 use sc_compute::TaskResult;
 use sc_expr::Raise;
-use sc_ids::{ExecId, Generation, Loc};
+use sc_ids::{ExecId, Fault, Generation, Loc};
 use std::alloc::AllocError;
 
 /// What an attempt came to.
@@ -34,6 +34,10 @@ pub enum Finding {
         /// Where the block lay last.
         last: Loc,
     },
+    /// A call on the files failed, which its output is written to.
+    Device(Fault),
+    /// It may not commit its output.
+    Denied,
 }
 
 impl Finding {
@@ -56,6 +60,8 @@ impl Finding {
                 found: *found,
             },
             Finding::Metadata { last } => Finding::Metadata { last: *last },
+            Finding::Device(fault) => Finding::Device(*fault),
+            Finding::Denied => Finding::Denied,
         })
     }
 }

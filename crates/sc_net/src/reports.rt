@@ -91,6 +91,8 @@ impl<W: Naming> Report<W> {
                 found: *found,
             }),
             Finding::Metadata { last } => Outcome::Failed(FailureCause::Metadata { last: *last }),
+            Finding::Device(fault) => Outcome::Failed(FailureCause::Device(*fault)),
+            Finding::Denied => Outcome::Failed(FailureCause::Denied),
         }
     }
 

@@ -8,7 +8,8 @@ use Rattle.sc_base.proofs.ChangeLemmas.{changes-after}
 use Rattle.sc_ids.specs.declared.attempts.AttemptId.{AttemptId}
 use Rattle.sc_output.specs.Calls.{after_calls}
 use Rattle.sc_output.specs.Commits.{AreWinnersFrom, abort_calls, commit_calls}
-use Rattle.sc_output.specs.Saved.{HaveTexts, IsUnderWay, saved_tree}
+use Rattle.sc_base.specs.Saves.{saved_tree}
+use Rattle.sc_output.specs.Saved.{HaveTexts, IsUnderWay}
 use Rattle.sc_output.proofs.SavedLemmas.{aborted_is_empty, committed_is_saved}
 use Rattle.sc_staging.specs.Done.{Done, HasFiles, HaveRenamed, renamed}
 use Rattle.sc_staging.specs.Laws.{AbortLeaves, CommitSaves}

@@ -6,7 +6,8 @@ use Rattle.sc_ids.specs.declared.attempts.AttemptId.{AttemptId}
 use Rattle.sc_output.specs.Calls.{IsOpen, MakesCalls}
 use Rattle.sc_output.specs.Commits.{AreCommitted, AreWinnersFrom, abort_calls, commit_calls}
 use Rattle.sc_output.specs.Names.{IsWithinTypes}
-use Rattle.sc_output.specs.Saved.{IsApart, IsUnderWay, saved_tree}
+use Rattle.sc_base.specs.Saves.{IsApart, saved_tree}
+use Rattle.sc_output.specs.Saved.{IsUnderWay}
 use Rattle.sc_staging.specs.Done.{DidLast, Done, HasFiles, HaveRenamed, done_by, rename_deed, text_of, write_deed, wrote}
 use Rattle.sc_staging.specs.Opening.{opened_tree}
 use Rattle.sc_staging.specs.Parts.{EndsPart, part_rename, part_write}
