@@ -73,14 +73,14 @@ pub record HasRaised (work : WorkData) (job : JobData) (a : AttemptId) (raise : 
   pub inputs : All (IsWithoutRaise work) (blocks_read job.graph a.stage)
 
 -- The evidence of a failure that is posted once so many reports were told: its cause is the plan's,
--- or the attempt's own, or a generation of a store that a wipe has brought, or a call on the files
--- over which a count of theirs rose.
+-- or the attempt's own, or a generation of a store that a wipe has brought; or the job saves, and
+-- over a call on the files a count of theirs rose.
 abbrev pub FailedFor : WorkData → JobData → ℕ → AttemptId → FailureCause → Type 0
 FailedFor work job told a causes.Planned = is_failed work.plan (place_of a) ≡ true
 FailedFor work job told a (causes.Raised raise) = HasRaised work job a raise
 FailedFor work job told a (causes.Gone exec wanted found) = found ≤ wipes_due work told exec
 FailedFor work job told a (causes.Metadata last) = Unit {0}
-FailedFor work job told a (causes.Device fault) = HasRisen fault
+FailedFor work job told a (causes.Device fault) = HasRisen fault × (saves work job.goal ≡ true)
 FailedFor work job told a causes.Denied = Unit {0}
 
 abbrev pub EndedFor : WorkData → JobData → ℕ → AttemptId → Outcome → Type 0

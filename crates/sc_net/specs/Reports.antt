@@ -14,6 +14,7 @@ use Rattle.sc_tracker.specs.declared.outputs.Location.{Location}
 use Rattle.sc_tracker.specs.declared.outputs.Location.TheVariants as locations
 use Rattle.sc_core.specs.declared.events.Outcome.{Outcome}
 use Rattle.sc_core.specs.declared.events.Outcome.TheVariants as outcomes
+use Rattle.sc_jobs.specs.JobData.{saves}
 use Rattle.sc_net.specs.Tasks.{TaskData, blocks_of_task, is_map_task, is_planned, target_of_task, task_code}
 use Rattle.sc_net.specs.contracts.findings.Finding.{the_row as finding_row}
 use Rattle.sc_net.specs.declared.findings.Finding.{Finding}
@@ -67,7 +68,7 @@ IsTrueReport work t (findings.Raised r) = Raises work t r
 IsTrueReport work t (findings.Gone exec wanted found) =
     WasGiven t (locations.Here (loc_at exec wanted)) × (wanted < found)
 IsTrueReport work t (findings.Metadata last) = WasGiven t (locations.Missing (Some last))
-IsTrueReport work t (findings.Device fault) = HasRisen fault
+IsTrueReport work t (findings.Device fault) = HasRisen fault × (saves work t.job.goal ≡ true)
 IsTrueReport work t findings.Denied = Unit {0}
 
 -- what the scheduler is told of a finding

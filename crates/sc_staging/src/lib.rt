@@ -16,6 +16,7 @@
 mod ends;
 mod laws;
 mod opening;
+mod outputs;
 mod parts;
 mod renewal;
 mod staging;
@@ -23,6 +24,7 @@ mod staging;
 pub use ends::Ended;
 pub use laws::{laws_of_files, laws_of_saves, laws_of_ways};
 pub use opening::Opened;
+pub use outputs::Output;
 pub use parts::Written;
 pub use renewal::Renewed;
 pub use staging::Staging;
