@@ -17,7 +17,7 @@ use Rattle.sc_dag.specs.DagData.{DagData, StageState, changed_newest, changed_se
 use Rattle.sc_dag.specs.Losses.{after_lost}
 use Rattle.sc_dag.specs.Offers.{handed_out}
 use Rattle.sc_dag.specs.Outputs.{block_of, has_inputs, is_complete}
-use Rattle.sc_dag.specs.Reports.{CompletesMap, FailsStage, after_failed, after_hold, after_map_success, after_result_success, block_by, completed, completed_if, ended_in_own, failed_attempt, forgiven, in_own_set, is_of_newest, is_repeat, registered_by, set_of, succeeded_in_both, succeeded_in_own, wants_in, with_failed, with_output, with_result}
+use Rattle.sc_dag.specs.Reports.{CompletesMap, FailsStage, after_failed, after_hold, after_map_success, after_result_success, block_by, completed, completed_if, ended_in_own, failed_attempt, forgiven, in_own_set, is_of_newest, is_repeat, registered_by, set_of, succeeded_in_both, succeeded_in_own, told_held, wants_in, with_failed, with_output, with_result}
 use Rattle.sc_dag.specs.Sound.{IsSoundDag, runner_of}
 use Rattle.sc_dag.specs.Submission.{IsSubmitted, as_waiting, by_number, is_map, moved_if, started, waiting_stages}
 use Rattle.sc_dag.proofs.Births.{births_changed, births_mapped, births_newest, births_own}
@@ -61,7 +61,9 @@ failed_carries d a cause =
 pub hold_carries :
     (d : DagData) (s p : ℕ) (denied : Bool) → Carries d (after_hold d s p denied)
 hold_carries d s p denied =
-    newest_carries d s (λ set. after_held set p denied) (λ set. refl)
+    carries_state d s (told_held p denied)
+    (λ state. lasts_same state (told_held p denied state) refl
+    (births_newest (λ set. after_held set p denied) (λ set. refl) state))
 
 ended_carries : (d : DagData) (a : AttemptId) → Carries d (ended_in_own d a)
 ended_carries d a = own_carries d a (λ set. after_end set a.partition a.nth) (λ set. refl)

@@ -137,7 +137,7 @@ left_ended c job over =
     }
 
 -- committers are as many as before
-same_saves : (xs : List Committer) (i : ℕ) (f : Committer → Committer)
+pub same_saves : (xs : List Committer) (i : ℕ) (f : Committer → Committer)
     → is_save (change_at xs i f) ≡ is_save xs
 same_saves [] i f = refl
 same_saves (x ∷ xs) zero f = refl
@@ -249,7 +249,7 @@ misses_left c after a answer miss =
     by false (says, is) =
         subst (λ x. Left c x) (sym is) (left_same c)
 
-cause_left :
+pub cause_left :
     (c after : CoreData) (a : AttemptId) (cause : FailureCause) (zombie : Bool) (answer : Answer)
     → FailsBy cause zombie c a answer after → Left c after
 cause_left c after a (causes.Gone exec wanted found) zombie answer h =

@@ -21,6 +21,7 @@ pub mod CarryLemmas
 pub mod TrackerCarryLemmas
 pub mod CallCarryLemmas
 pub mod HeldLemmas
+pub mod GrantLemmas
 pub mod HandedLemmas
 pub mod ChargeLemmas
 pub mod RunningLemmas
@@ -29,6 +30,11 @@ pub mod ShelfLemmas
 pub mod SideLemmas
 pub mod SavingLemmas
 pub mod SideCases
+pub mod SaveLemmas
+pub mod SaveTellLemmas
+pub mod SaveResultLemmas
+pub mod SaveStepLemmas
+pub mod SaveAsideLemmas
 pub mod TakeCases
 pub mod PlannedLemmas
 pub mod ToldLemmas

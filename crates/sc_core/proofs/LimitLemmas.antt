@@ -12,9 +12,9 @@ use Rattle.sc_taskset.specs.Reports.{after_held, ended_task, failed_task, held_t
 use Rattle.sc_taskset.specs.Reports as taskset
 use Rattle.sc_taskset.specs.TaskSetData.{TaskData, TaskSetData}
 use Rattle.sc_taskset.proofs.ChangeLemmas.{find_changed, find_other}
-use Rattle.sc_dag.specs.DagData.{DagData, StageState, changed_newest, changed_set, place_of_attempt, set_in, stage_at, with_set}
+use Rattle.sc_dag.specs.DagData.{DagData, StageState, changed_set, place_of_attempt, set_in, stage_at, with_set}
 use Rattle.sc_dag.specs.Outputs.{is_done}
-use Rattle.sc_dag.specs.Reports.{after_hold, in_own_set, set_of}
+use Rattle.sc_dag.specs.Reports.{after_hold, in_own_set, set_of, told_held}
 use Rattle.sc_dag.specs.declared.attempts.StageAttempt.{StageAttempt}
 use Rattle.sc_dag.proofs.Tests.{both_left, both_right}
 use Rattle.sc_core.specs.CoreData.{result_stage}
@@ -153,7 +153,7 @@ pub held_full : (d : DagData) (a : AttemptId) (denied : Bool) (p : ℕ)
     → is_full (set_of (after_hold d a.stage a.partition denied) a) p ≡ is_full (set_of d a) p
 held_full d a denied p =
     ap (λ o. is_full (set_among o a.stage_attempt) p)
-    (slice_get_change_same d.states a.stage (changed_newest hold))
+    (slice_get_change_same d.states a.stage (told_held a.partition denied))
     ∙ by (slice_get d.states a.stage)
   where
     hold : TaskSetData → TaskSetData
@@ -179,7 +179,7 @@ held_full d a denied p =
         (λ is. grind (arith, nat_tests, e, is)))
 
     by : (o : Option StageState)
-        → is_full (set_among (option_map (changed_newest hold) o) a.stage_attempt) p
+        → is_full (set_among (option_map (told_held a.partition denied) o) a.stage_attempt) p
         ≡ is_full (set_among o a.stage_attempt) p
     by None = refl
     by (Some state) =

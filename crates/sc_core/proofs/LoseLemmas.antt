@@ -176,6 +176,9 @@ found_left {A = A} q w (x ∷ xs) all some =
 
 -- ---- a loss
 
+same_number : (m n : ℕ) → (m == n) ≡ true → m ≡ n
+same_number m n e = grind (arith, nat_tests, e)
+
 -- what holds of every core, whoever is live
 pub record IsSoundBut (c : CoreData) : Type 0 where
   pub job : IsSoundJob c
@@ -243,7 +246,7 @@ lose_sound calls others c exec sound may =
         → (trust_of next.dag.tracker e).lost ≡ true
         → is_due_after (loss_of c.plan e) c.told ≡ true
     planned e true f h =
-        let is : e ≡ exec = grind (arith, nat_tests, f) in
+        let is : e ≡ exec = same_number e exec f in
         ap (λ (n : ℕ). is_due_after (loss_of c.plan n) c.told) is ∙ due
     planned e false f h = sound.lost e (sym (moves.lost e f) ∙ h)
 

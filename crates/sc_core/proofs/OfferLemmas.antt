@@ -1,20 +1,24 @@
 -- A task that is handed out runs then, and what ran before runs on.
-use Rattle.std.proofs.Common.{◌+◌, ◌≡◌, inl, inr, ℕ, ◌-◌, ◌&&◌, ◌||◌, not, All, Bool, true, false, length, Option, Some, None, slice_get, refl, ap, sym, subst, ◌∙◌, rules, true≢false}
+use Rattle.std.proofs.Common.{◌+◌, ◌≡◌, ◌<◌, ◌==◌, inl, inr, ℕ, ◌-◌, ◌&&◌, ◌||◌, not, All, Bool, true, false, List, [], ◌∷◌, length, Option, Some, None, option_map, slice_get, refl, ap, sym, subst, ◌∙◌, arith, rules, true≢false}
+use Rattle.std.proofs.lemmas.Bool.Decides.{nat_tests}
+use Rattle.std.proofs.lemmas.List.Elements.{All-head, All-tail}
 use Rattle.sc_ids.specs.Changes.{change_at}
 use Rattle.sc_ids.specs.declared.attempts.AttemptId.{AttemptId}
 use Rattle.sc_commit.specs.Committing.{is_same}
-use Rattle.sc_taskset.specs.Lookups.{is_task_of, is_there_and, task_at}
+use Rattle.sc_taskset.specs.Lookups.{copy_at, is_task_of, is_there_and, task_at}
+use Rattle.sc_taskset.specs.declared.tasks.RunningCopy as taskset
 use Rattle.sc_taskset.specs.Offers.{IsNext, given_in, handed, is_copyable_task, is_slow, is_pending, is_pending_task, may_be_given}
 use Rattle.sc_taskset.specs.Sound.{IsSoundTask}
 use Rattle.sc_taskset.specs.TaskSetData.{TaskData, TaskSetData}
 use Rattle.sc_taskset.proofs.FindLemmas.{found_is}
 use Rattle.sc_dag.specs.DagData.{DagData, StageState, attempt_in, changed_newest, newest_at, place_of_attempt, set_in, with_attempts, with_set}
 use Rattle.sc_dag.specs.Offers.{IsOffer, OffersIn, given_of, handed_out, may_be_given_in, newest_number, number_in}
-use Rattle.sc_dag.specs.Sound.{IsSoundDag}
+use Rattle.sc_dag.specs.Sound.{IsSoundDag, runner_among, runner_in, runner_of}
 use Rattle.sc_dag.specs.declared.attempts.StageAttempt.{StageAttempt}
 use Rattle.sc_dag.proofs.Moving.{newest_among}
 use Rattle.sc_dag.proofs.Runners.{place_newest}
 use Rattle.sc_dag.proofs.Stuck.{newest_holds}
+use Rattle.sc_core.proofs.LookupLemmas.{set_of_newest}
 use Rattle.sc_core.proofs.MoveLemmas.{Moves, state_moves}
 use Rattle.sc_core.proofs.SetLemmas.{MovesIn, is_copy_of}
 use Rattle.sc_core.proofs.SetCallLemmas.{handed_moves}
@@ -128,3 +132,29 @@ handed_out_moves d exec now a o number =
             subst (λ s. MovesIn (is_copy_of a) (Some exec) s (handed s a.partition exec now))
             (sym same)
             (handed_moves o.set a o.task exec now o.is_task o.nth o.sound.handed_out)
+
+-- ---- what is offered is new
+
+-- an attempt that runs has another number than the one that comes next
+runs_below :
+    (nth : ℕ) (copies : List taskset.RunningCopy) → All (λ c. c.nth < nth) copies
+    → copy_at nth copies ≡ None
+runs_below nth [] all = refl
+runs_below nth (c ∷ copies) all =
+    let lt : c.nth < nth = All-head (λ d. d.nth < nth) c copies all in
+    let other : (c.nth == nth) ≡ false = grind (arith, nat_tests, lt) in
+    rw other (runs_below nth copies (All-tail (λ d. d.nth < nth) c copies all))
+
+-- what is offered doesn't run yet
+pub offered_new :
+    (d : DagData) (exec now : ℕ) (a : AttemptId) → IsOffered d exec now a
+    → a.stage_attempt ≡ newest_number d a.stage → runner_of d a ≡ None
+offered_new d exec now a o number =
+    ap (λ s. runner_in s a) (set_of_newest d a number ∙ o.newest)
+    ∙ ap (λ t. runner_among t a.nth) o.is_task
+    ∙ ap (λ c. exec_of c)
+    (ap (λ (n : ℕ). copy_at n o.task.copies) o.nth
+    ∙ runs_below o.task.given o.task.copies o.sound.handed_out)
+  where
+    exec_of : Option taskset.RunningCopy → Option ℕ
+    exec_of x = option_map (λ c. c.exec) x

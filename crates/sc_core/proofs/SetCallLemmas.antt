@@ -1,6 +1,7 @@
 -- What the calls of a task set do to the attempts that run in it.
 use Rattle.std.proofs.Common.{◌≡◌, ℕ, ◌+◌, ◌<◌, ◌==◌, nat_lt, All, Bool, true, false, cond, if◌then◌else◌, List, [], ◌∷◌, Some, None, refl, arith}
 use Rattle.std.proofs.lemmas.Bool.Decides.{nat_tests}
+use Rattle.sc_base.specs.Lists.{at_or}
 use Rattle.sc_ids.specs.declared.attempts.AttemptId.{AttemptId}
 use Rattle.sc_ids.specs.declared.failures.FailureCause.{FailureCause}
 use Rattle.sc_ids.specs.declared.limits.Limits.{Limits}
@@ -9,6 +10,7 @@ use Rattle.sc_taskset.specs.Offers.{handed, handed_task}
 use Rattle.sc_taskset.specs.Reports.{after_end, after_failure, after_held, after_success, as_zombie, ended_task, failed_task, held_task, is_counted_in, is_failure, noted_task, succeeded_task}
 use Rattle.sc_taskset.specs.TaskSetData.{TaskData, TaskSetData, fresh_set, fresh_task}
 use Rattle.sc_dag.specs.Sound.{runner_among, runner_in}
+use Rattle.sc_dag.specs.Submission.{held_by}
 use Rattle.sc_core.specs.Sound.{given_among}
 use Rattle.sc_core.proofs.SetLemmas.{MovesIn, calm_task, changed_task, ends_task, find_push, is_copy_of, nothing}
 
@@ -81,16 +83,18 @@ handed_moves set a t exec now found nth below =
     more : (given m : ℕ) → nat_lt m given ≡ true → nat_lt m (given + 1) ≡ true
     more given m h = grind (arith, nat_tests, h)
 
--- nothing runs in a fresh set
-pub fresh_runs : (partitions : List ℕ) (is_map : Bool) (limits : Limits) (born : ℕ) (b : AttemptId)
-    → runner_in (Some (fresh_set partitions is_map limits born)) b ≡ None
-fresh_runs [] is_map limits born b = refl
-fresh_runs (p ∷ ps) is_map limits born b =
-    by (p == b.partition) (fresh_runs ps is_map limits born b)
+-- nothing runs in a fresh set, whatever is held back of it
+pub fresh_runs :
+    (held : List Bool) (partitions : List ℕ) (is_map : Bool) (limits : Limits) (born : ℕ)
+    (b : AttemptId)
+    → runner_in (Some (held_by held (fresh_set partitions is_map limits born))) b ≡ None
+fresh_runs held [] is_map limits born b = refl
+fresh_runs held (p ∷ ps) is_map limits born b =
+    by (p == b.partition) (fresh_runs held ps is_map limits born b)
   where
     by : (x : Bool)
-        → runner_in (Some (fresh_set ps is_map limits born)) b ≡ None
-        → runner_among (cond x (Some (fresh_task p))
-        (task_at b.partition (fresh_set ps is_map limits born).tasks)) b.nth ≡ None
+        → runner_in (Some (held_by held (fresh_set ps is_map limits born))) b ≡ None
+        → runner_among (cond x (Some (held_task (at_or held p false) (fresh_task p)))
+        (task_at b.partition (held_by held (fresh_set ps is_map limits born)).tasks)) b.nth ≡ None
     by true h = refl
     by false h = h

@@ -88,7 +88,7 @@ runs_given d a exec sound runs = by (set_of d a) refl runs
     by (Some set) e h = task set e (task_at a.partition set.tasks) refl h
 
 -- one that comes next wasn't
-offered_fresh :
+pub offered_fresh :
     (d : DagData) (exec now : ℕ) (a : AttemptId) → IsOffered d exec now a
     → a.stage_attempt ≡ newest_number d a.stage → was_given d a ≡ false
 offered_fresh d exec now a o number =
@@ -278,7 +278,7 @@ told_shelf c after a out each rising left runs =
         }
 
 -- what is found is alone where no two others pass
-found_alone :
+pub found_alone :
     {A : Type 0} (R : A → A → Type 0) (p : A → Bool)
     → ((x y : A) → R x y → p x ≡ true → p y ≡ false) → (xs : List A) (one : A)
     → AllPairs R xs → find p xs ≡ Some one → All (λ y. p y ≡ true → y ≡ one) xs

@@ -1,5 +1,5 @@
 -- What happens beside the reports leaves what holds of every core, and as much to do.
-use Rattle.std.proofs.Common.{◌≡◌, ◌≢◌, ℕ, ◌≤◌, All, Bool, true, false, cond, List, [], ◌∷◌, map, max, Option, Some, None, IfSome, find, length, option_map, refl, ap, sym, subst, ◌∙◌, arith, rules, true≢false}
+use Rattle.std.proofs.Common.{◌≡◌, ◌≢◌, ℕ, ◌-◌, ◌≤◌, ◌&&◌, inl, inr, All, Bool, true, false, cond, if◌then◌else◌, List, [], ◌∷◌, map, max, Option, Some, None, IfSome, find, length, option_map, refl, ap, sym, subst, ◌∙◌, arith, rules, true≢false}
 use Rattle.std.specs.List.{AllPairs, filter}
 use Rattle.std.proofs.lemmas.List.{map-id}
 use Rattle.std.proofs.lemmas.List.Elements.{All-map, All-weaker}
@@ -7,26 +7,41 @@ use Rattle.std.proofs.lemmas.List.Kept.{AllPairs-cons}
 use Rattle.sc_ids.specs.declared.attempts.AttemptId.{AttemptId}
 use Rattle.sc_ids.specs.declared.failures.FailureCause.{FailureCause}
 use Rattle.sc_ids.specs.declared.failures.FailureCause.TheVariants as causes
-use Rattle.sc_commit.specs.Committing.{is_same}
+use Rattle.sc_ids.specs.Graphs.{StageData}
+use Rattle.sc_commit.specs.Committers.{committer_at}
+use Rattle.sc_commit.specs.Committing.{after_ask, answer_to, asked, denies, is_same}
+use Rattle.sc_commit.specs.declared.committers.Committer.{Committer}
+use Rattle.sc_commit.specs.declared.committers.Permission.{Permission}
+use Rattle.sc_commit.specs.declared.committers.Permission.TheVariants as permissions
 use Rattle.sc_taskset.proofs.FindLemmas.{pairs_head, pairs_tail}
 use Rattle.sc_dag.specs.DagData.{DagData}
-use Rattle.sc_dag.specs.Sound.{runner_of}
-use Rattle.sc_core.specs.CoreData.{CoreData, is_of, is_running_job}
+use Rattle.sc_dag.specs.Laws.{CallsKeepSound, OthersGoOn}
+use Rattle.sc_dag.specs.Reports.{after_hold}
+use Rattle.sc_core.specs.CoreData.{CoreData, is_of, is_running_job, job_runs, result_stage}
 use Rattle.sc_core.specs.HandOuts.{HandOutData}
 use Rattle.sc_core.specs.Laws.{left_to_do}
-use Rattle.sc_core.specs.Posts.{fits}
-use Rattle.sc_core.specs.Sides.{IsAside, IsFurther, Sides, StepsAside, first_with}
-use Rattle.sc_core.specs.Sound.{AreLostAsPlanned, AreOnLive, AreTwo, AwaitsTelling, GoesOn, HasLive, IsShelvedWell, IsSoundCore, IsSoundJob, IsSoundShelf, RunsWell, WasHandedOut, is_shelved}
+use Rattle.sc_core.specs.Posts.{fits, is_save}
+use Rattle.sc_core.specs.Saving.{AsksBy, AsksIf, MovesIf, StagesIf, as_far, come_to, is_given, is_granted, is_staged, moved_by, saver_phase, staged_by}
+use Rattle.sc_core.specs.Sides.{IsAside, IsFurther, LeavesIf, MayHold, Sides, StepsAside, TicksIf, first_with}
+use Rattle.sc_core.specs.Sound.{AreLostAsPlanned, AreTwo, AwaitsTelling, GoesOn, HasLive, IsShelvedWell, IsSoundCore, IsSoundJob, IsSoundSave, IsSoundShelf, RunsWell, WasHandedOut, is_shelved}
 use Rattle.sc_core.specs.declared.answers.Answer.{Answer}
 use Rattle.sc_core.specs.declared.answers.SideAnswer.{SideAnswer}
-use Rattle.sc_core.specs.declared.answers.SideAnswer.TheVariants.{Ignored, Left, Ticked}
 use Rattle.sc_core.specs.declared.events.Outcome.{Outcome}
 use Rattle.sc_core.specs.declared.events.Outcome.TheVariants as outcomes
 use Rattle.sc_core.specs.declared.events.SideEvent.{SideEvent}
-use Rattle.sc_core.specs.declared.events.SideEvent.TheVariants.{Leave, Tick}
+use Rattle.sc_core.specs.declared.events.SideEvent.TheVariants.{Ask, Leave, Move, Stage, Tick}
+use Rattle.sc_core.specs.declared.running.Phase.{Phase}
+use Rattle.sc_core.specs.declared.running.Phase.TheVariants as phases
 use Rattle.sc_core.specs.declared.running.Running.{Running}
 use Rattle.sc_core.specs.declared.running.Shelved.{Shelved}
+use Rattle.sc_core.proofs.CallCarryLemmas.{hold_carries}
+use Rattle.sc_core.proofs.CarryLemmas.{carries_same, handed_still}
+use Rattle.sc_core.proofs.LeftLemmas.{same_saves}
+use Rattle.sc_core.proofs.MoveLemmas.{still}
+use Rattle.sc_core.proofs.ResultLemmas.{Frees}
 use Rattle.sc_core.proofs.ShelfLemmas.{find_mapped, fits_still}
+use Rattle.sc_core.proofs.TaskCallLemmas.{hold_calms, hold_results}
+use Rattle.sc_core.proofs.ToldLemmas.{complete_same, goes_same}
 
 -- ---- each event is one
 
@@ -50,7 +65,7 @@ aside_with c first now later leads =
       shelf = refl;
       next_key = refl;
       saves = refl;
-      dag = refl;
+      dag = inl refl;
       plan = refl;
     }
 
@@ -61,22 +76,107 @@ stays (Some before) = refl
 same_aside : (c : CoreData) → IsAside c c
 same_aside c = aside_with c c.left_first c.now (omega arith) (stays c.left_first)
 
+-- an attempt that is out has come this far, and who may commit and which partition is held back
+-- may have changed
+come_aside :
+    (c : CoreData) (a : AttemptId) (phase : Phase) (committers : List Committer) (d : DagData)
+    → is_save committers ≡ is_save c.committers → MayHold c.dag d
+    → IsAside c (come_to (record c { committers = committers; dag = d }) a phase)
+come_aside c a phase committers d saves may =
+    record {
+      told = refl;
+      ticks = omega arith;
+      leaver = stays c.left_first;
+      handed = refl;
+      job = refl;
+      further = as_far a phase;
+      each = far;
+      running = refl;
+      shelf = refl;
+      next_key = refl;
+      saves = saves;
+      dag = may;
+      plan = refl;
+    }
+  where
+    far : (r : Running) → IsFurther r (as_far a phase r)
+    far r = by (is_of a r) r.is_out refl
+      where
+        by : (x y : Bool) → r.is_out ≡ y
+            → IsFurther r (if x && y then record r { phase = phase } else r)
+        by false y e = itself r
+        by true false e = itself r
+        by true true e =
+            record {
+              hand_out = refl;
+              exec = refl;
+              is_out = refl;
+              phase = λ h. absurd (true≢false (sym e ∙ h));
+            }
+
+asks_aside : (c after : CoreData) (a : AttemptId) (permission : Permission) (said : SideAnswer)
+    → AsksBy permission c a said after → IsAside c after
+asks_aside c after a permissions.Granted said (says, is) =
+    subst (IsAside c) (sym is)
+    (come_aside c a phases.Granted (after_ask c.committers a true) c.dag
+    (same_saves c.committers a.partition (asked a)) (inl refl))
+asks_aside c after a (permissions.Denied other) said (says, is) =
+    subst (IsAside c) (sym is)
+    (come_aside c a phases.Denied next (held (denies (committer_at next a.partition)))
+    (same_saves c.committers a.partition (asked a))
+    (may (denies (committer_at next a.partition))))
+  where
+    next : List Committer
+    next = after_ask c.committers a true
+
+    held : Bool → DagData
+    held b = if b then after_hold c.dag a.stage a.partition true else c.dag
+
+    may : (b : Bool) → MayHold c.dag (held b)
+    may true = inr (a.stage, a.partition, true, refl)
+    may false = inl refl
+asks_aside c after a permissions.Over said (says, is) =
+    subst (IsAside c) (sym is) (same_aside c)
+
 sides_aside : (c after : CoreData) (event : SideEvent) (said : SideAnswer)
     → Sides c event said after → IsAside c after
-sides_aside c after (Leave exec) Ignored (runs, is) = subst (IsAside c) (sym is) (same_aside c)
-sides_aside c after (Tick now) Ignored (runs, is) = subst (IsAside c) (sym is) (same_aside c)
-sides_aside c after (Tick now) Left step = absurd step
-sides_aside c after (Leave exec) Ticked step = absurd step
-sides_aside c after (Tick now) Ticked (runs, is) =
-    subst (IsAside c) (sym is)
-    (aside_with c c.left_first (max c.now now) (omega arith) (stays c.left_first))
-sides_aside c after (Leave exec) Left (runs, is) =
-    subst (IsAside c) (sym is)
-    (aside_with c (first_with c.left_first exec) c.now (omega arith) (leads c.left_first))
+sides_aside c after (Leave exec) said step = by (job_runs c) step
   where
     leads : (first : Option ℕ) → IfSome first (λ before. first_with first exec ≡ Some before)
     leads None = tt
     leads (Some before) = refl
+
+    by : (b : Bool) → LeavesIf b c exec said after → IsAside c after
+    by false (says, is) = subst (IsAside c) (sym is) (same_aside c)
+    by true (says, is) =
+        subst (IsAside c) (sym is)
+        (aside_with c (first_with c.left_first exec) c.now (omega arith) (leads c.left_first))
+sides_aside c after (Tick now) said step = by (job_runs c) step
+  where
+    by : (b : Bool) → TicksIf b c now said after → IsAside c after
+    by false (says, is) = subst (IsAside c) (sym is) (same_aside c)
+    by true (says, is) =
+        subst (IsAside c) (sym is)
+        (aside_with c c.left_first (max c.now now) (omega arith) (stays c.left_first))
+sides_aside c after (Stage a wrote) said step = by (is_given (saver_phase c a)) step
+  where
+    by : (b : Bool) → StagesIf b c a wrote said after → IsAside c after
+    by false (says, is) = subst (IsAside c) (sym is) (same_aside c)
+    by true (says, is) =
+        subst (IsAside c) (sym is)
+        (come_aside c a (staged_by wrote) c.committers c.dag refl (inl refl))
+sides_aside c after (Ask a) said step = by (is_staged (saver_phase c a)) step
+  where
+    by : (b : Bool) → AsksIf b c a said after → IsAside c after
+    by false (says, is) = subst (IsAside c) (sym is) (same_aside c)
+    by true asks = asks_aside c after a (answer_to c.committers a true) said asks
+sides_aside c after (Move a renamed) said step = by (is_granted (saver_phase c a)) step
+  where
+    by : (b : Bool) → MovesIf b c a renamed said after → IsAside c after
+    by false (says, is) = subst (IsAside c) (sym is) (same_aside c)
+    by true (says, is) =
+        subst (IsAside c) (sym is)
+        (come_aside c a (moved_by renamed) c.committers c.dag refl (inl refl))
 
 pub steps_aside : (c after : CoreData) (event : SideEvent) (answer : Answer)
     → StepsAside c event answer after → IsAside c after
@@ -88,14 +188,14 @@ steps_aside c after event answer (said, told, step) = sides_aside c after event 
 further_of : (a : AttemptId) (r next : Running) → IsFurther r next → is_of a next ≡ is_of a r
 further_of a r next f = ap (λ (h : HandOutData). is_same h.attempt a) f.hand_out
 
-runs_further : (c after : CoreData) (r next : Running) → after.dag ≡ c.dag → IsFurther r next
+runs_further : (c after : CoreData) (r next : Running) → Frees c.dag after.dag → IsFurther r next
     → RunsWell c r → RunsWell after next
-runs_further c after r next dag f w =
+runs_further c after r next frees f w =
     record {
-      in_set = rw (dag, f.hand_out, f.exec) w.in_set;
-      there = rw (dag, f.exec) w.there;
-      live = rw (dag, f.exec) w.live;
-      handed_out = subst (λ d. WasHandedOut d next.hand_out) (sym dag)
+      in_set = rw (f.hand_out, f.exec) (frees.calm.runners r.hand_out.attempt ∙ w.in_set);
+      there = rw (frees.calm.many, f.exec) w.there;
+      live = rw f.exec (frees.calm.lost r.exec ∙ w.live);
+      handed_out = handed_still c.dag after.dag next.hand_out frees.carries
           (subst (λ h. WasHandedOut c.dag h) (sym f.hand_out) w.handed_out);
     }
 
@@ -118,25 +218,62 @@ pairs_further further each (r ∷ rs) h =
     (pairs_head AreTwo r rs h)))
     (pairs_further further each rs (pairs_tail AreTwo r rs h))
 
-aside_job : (c after : CoreData) → IsAside c after → IsSoundJob c → IsSoundJob after
-aside_job c after is sound =
+-- what depends on the stages alone stays where a partition is held back, or not any more
+pub may_hold : CallsKeepSound → OthersGoOn → (d after : DagData) → MayHold d after → Frees d after
+may_hold calls others d after (inl is) =
+    subst (λ x. Frees d x) (sym is)
+    (record {
+      calm = still d;
+      carries = carries_same d;
+      results = λ s. refl;
+      sound = λ s. s;
+      goes = λ s t. (t, λ r under lacks. under.1);
+    })
+may_hold calls others d after (inr (s, p, denied, is)) =
+    subst (λ x. Frees d x) (sym is)
+    (record {
+      calm = hold_calms d s p denied;
+      carries = hold_carries d s p denied;
+      results = hold_results d s p denied;
+      sound = λ t. (calls d t).7 s p denied;
+      goes = λ t u. (others d t u).2 s p denied;
+    })
+
+-- the stages themselves, where outputs lie and the limits are the same ones
+pub held_stages : (d after : DagData) → MayHold d after → after.stages ≡ d.stages
+held_stages d after (inl is) = ap (λ (x : DagData). x.stages) is
+held_stages d after (inr (s, p, denied, is)) = ap (λ (x : DagData). x.stages) is
+
+pub held_tracker : (d after : DagData) → MayHold d after → after.tracker ≡ d.tracker
+held_tracker d after (inl is) = ap (λ (x : DagData). x.tracker) is
+held_tracker d after (inr (s, p, denied, is)) = ap (λ (x : DagData). x.tracker) is
+
+pub held_limits : (d after : DagData) → MayHold d after → after.limits ≡ d.limits
+held_limits d after (inl is) = ap (λ (x : DagData). x.limits) is
+held_limits d after (inr (s, p, denied, is)) = ap (λ (x : DagData). x.limits) is
+
+aside_job : (c after : CoreData) → IsAside c after → Frees c.dag after.dag → IsSoundJob c
+    → IsSoundJob after
+aside_job c after is frees sound =
     record {
-      dag = rw is.dag sound.dag;
-      result = rw is.dag sound.result;
-      maps = rw is.dag sound.maps;
+      dag = frees.sound sound.dag;
+      result = rw frees.calm.stages sound.result;
+      maps = rw frees.calm.stages sound.maps;
       running = subst (λ rs. All (RunsWell after) rs) (sym is.running)
           (All-map (RunsWell after) is.further c.running
           (All-weaker (RunsWell c) (λ r. RunsWell after (is.further r))
-          (λ r w. runs_further c after r (is.further r) is.dag (is.each r) w) c.running
+          (λ r w. runs_further c after r (is.further r) frees (is.each r) w) c.running
           sound.running));
       known = λ a exec h. subst (λ rs. find (is_of a) rs ≢ None) (sym is.running)
-          (known a (sound.known a exec (ap (λ d. runner_of d a) (sym is.dag) ∙ h)));
-      placed = subst (λ (d : DagData). AreOnLive d.tracker) (sym is.dag) sound.placed;
+          (known a (sound.known a exec (sym (frees.calm.runners a) ∙ h)));
+      placed = frees.carries.placed sound.placed;
       apart = subst (λ rs. AllPairs AreTwo rs) (sym is.running)
           (pairs_further is.further is.each c.running sound.apart);
-      budget = rw (is.handed, is.dag) sound.budget;
+      budget = rw (is.handed, frees.calm.limits) sound.budget;
       goes_on = λ h. goes (sound.goes_on (ap is_running_job (sym is.job) ∙ h));
-      done = λ h. rw is.dag (sound.done (sym is.job ∙ h));
+      done = λ h. rw (result_same, complete_same c.dag after.dag (result_stage c.dag)
+          frees.calm.stages (frees.results (result_stage c.dag)) sound.result)
+          (sound.done (sym is.job ∙ h));
     }
   where
     some : (o : Option Running) → o ≢ None → option_map is.further o ≢ None
@@ -150,8 +287,12 @@ aside_job c after is sound =
         (λ r. further_of a r (is.further r) (is.each r)) c.running)
         (some (find (is_of a) c.running) h)
 
+    result_same : result_stage after.dag ≡ result_stage c.dag
+    result_same = ap (λ (all : List StageData). length all - 1) frees.calm.stages
+
     goes : GoesOn c → GoesOn after
-    goes g = record { settled = rw is.dag g.settled; result = rw is.dag g.result }
+    goes g =
+        goes_same c after sound g frees.calm.stages frees.results (frees.goes sound.dag g.settled)
 
 -- ---- what is to be told later
 
@@ -159,7 +300,7 @@ aside_job c after is sound =
 fits_further : (c after : CoreData) (r next : Running) (outcome : Outcome) → IsAside c after
     → IsFurther r next → r.is_out ≡ false → fits c r outcome ≡ true → fits after next outcome ≡ true
 fits_further c after r next outcome is f is_in fit =
-    fits_still c after next outcome (ap (λ (d : DagData). d.stages) is.dag) is.saves
+    fits_still c after next outcome (held_stages c.dag after.dag is.dag) is.saves
     (same outcome ∙ fit)
   where
     phase : next.phase ≡ r.phase
@@ -179,8 +320,9 @@ fits_further c after r next outcome is f is_in fit =
     same outcomes.Result = rw (f.hand_out, phase) refl
     same (outcomes.Failed cause) = failed cause
 
-aside_shelf : (c after : CoreData) → IsAside c after → IsSoundShelf c → IsSoundShelf after
-aside_shelf c after is sound =
+aside_shelf : (c after : CoreData) → IsAside c after → Frees c.dag after.dag → IsSoundShelf c
+    → IsSoundShelf after
+aside_shelf c after is frees sound =
     record {
       out = subst (λ rs. All Waits rs) (sym is.running)
           (All-map Waits is.further c.running
@@ -213,7 +355,7 @@ aside_shelf c after is sound =
     kept s w =
         record {
           below = rw is.next_key w.below;
-          given = rw is.dag w.given;
+          given = frees.calm.given s.attempt w.given;
           runs = subst
               (λ rs. All (λ r. is_of s.attempt r ≡ true → AwaitsTelling after s r) rs)
               (sym is.running)
@@ -226,19 +368,22 @@ aside_shelf c after is sound =
 
 -- ---- every core
 
-pub aside_sound : (c after : CoreData) → IsAside c after → IsSoundCore c → IsSoundCore after
-aside_sound c after is sound =
+pub aside_sound : (c after : CoreData) → IsAside c after → Frees c.dag after.dag → IsSoundCore c
+    → (job_runs after ≡ true → IsSoundSave after) → IsSoundCore after
+aside_sound c after is frees sound save =
     record {
-      job = aside_job c after is sound.job;
-      shelf = λ h. aside_shelf c after is (sound.shelf (ap is_running_job (sym is.job) ∙ h));
+      job = aside_job c after is frees sound.job;
+      shelf = λ h. aside_shelf c after is frees
+          (sound.shelf (ap is_running_job (sym is.job) ∙ h));
+      save = save;
       lost = lost;
       told = rw is.told sound.told;
-      staffed = λ other. subst (λ (d : DagData). HasLive d.tracker) (sym is.dag)
+      staffed = λ other. subst HasLive (sym (held_tracker c.dag after.dag is.dag))
           (sound.staffed (λ e. other (is.job ∙ e)));
     }
   where
     lost : AreLostAsPlanned after
-    lost = rw (is.dag, is.plan, is.told) sound.lost
+    lost = rw (held_tracker c.dag after.dag is.dag, is.plan, is.told) sound.lost
 
 abbrev outs : List Running → List Running
 outs rs = filter (λ r. r.is_out) rs
@@ -260,7 +405,8 @@ outs_further further each (r ∷ rs) =
 pub aside_left : (c after : CoreData) → IsAside c after → left_to_do after ≡ left_to_do c
 aside_left c after is =
     rw (
-      is.dag,
+      held_limits c.dag after.dag is.dag,
+      held_tracker c.dag after.dag is.dag,
       is.handed,
       is.running,
       is.shelf,

@@ -108,7 +108,7 @@ started_calm t limits stage state =
     mid = changed_newest as_zombie state
 
     fresh : StageAttempt
-    fresh = stage_attempt (new_set t limits stage state.results) false
+    fresh = stage_attempt (new_set t limits stage state.results state.held) false
 
     given : (b : AttemptId) (x : Bool)
         → given_in (set_in (slice_get mid.attempts
@@ -134,5 +134,6 @@ started_calm t limits stage state =
         ∙ sym (slice_get_past mid.attempts (length mid.attempts) (omega arith)))
     by b false =
         added_runs b fresh
-        (fresh_runs (missing_by t stage state.results) (is_map stage.target) limits t.epoch b)
+        (fresh_runs state.held (missing_by t stage state.results) (is_map stage.target) limits
+        t.epoch b)
         mid.attempts (b.stage_attempt - state.before)

@@ -27,7 +27,7 @@ use Rattle.sc_core.specs.declared.answers.JobState.TheVariants as jobs
 use Rattle.sc_core.specs.declared.running.Running.{Running}
 use Rattle.sc_core.proofs.LookupLemmas.{is_itself, same_is, set_of_newest}
 use Rattle.sc_core.proofs.MoveLemmas.{Moves, state_results}
-use Rattle.sc_core.proofs.OfferLemmas.{IsOffered, handed_out_moves, offered, offered_may}
+use Rattle.sc_core.proofs.OfferLemmas.{IsOffered, handed_out_moves, offered, offered_may, offered_new}
 use Rattle.sc_core.proofs.RunningLemmas.{none_passes, same_sym}
 use Rattle.sc_core.proofs.ShelfLemmas.{task_shelf}
 use Rattle.sc_core.proofs.StaffLemmas.{runs_not_aborted}
@@ -81,30 +81,6 @@ aborted_sound c why job lost told staffed =
     }
 
 -- ---- a task
-
--- an attempt that runs has another number than the one that comes next
-runs_below :
-    (nth : ℕ) (copies : List taskset.RunningCopy) → All (λ c. c.nth < nth) copies
-    → copy_at nth copies ≡ None
-runs_below nth [] all = refl
-runs_below nth (c ∷ copies) all =
-    let lt : c.nth < nth = All-head (λ d. d.nth < nth) c copies all in
-    let other : (c.nth == nth) ≡ false = grind (arith, nat_tests, lt) in
-    rw other (runs_below nth copies (All-tail (λ d. d.nth < nth) c copies all))
-
--- what is offered doesn't run yet
-pub offered_new :
-    (d : DagData) (exec now : ℕ) (a : AttemptId) → IsOffered d exec now a
-    → a.stage_attempt ≡ newest_number d a.stage → runner_of d a ≡ None
-offered_new d exec now a o number =
-    ap (λ s. runner_in s a) (set_of_newest d a number ∙ o.newest)
-    ∙ ap (λ t. runner_among t a.nth) o.is_task
-    ∙ ap (λ c. exec_of c)
-    (ap (λ (n : ℕ). copy_at n o.task.copies) o.nth
-    ∙ runs_below o.task.given o.task.copies o.sound.handed_out)
-  where
-    exec_of : Option taskset.RunningCopy → Option ℕ
-    exec_of x = option_map (λ c. c.exec) x
 
 pub task_sound :
     (c : CoreData) (exec : ℕ) (h : HandOutData) → CallsKeepSound → OthersGoOn → IsSoundJob c

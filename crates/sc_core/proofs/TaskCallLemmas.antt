@@ -79,7 +79,7 @@ both_moves d a now = by (is_of_newest d a)
         (λ state. newest_calm (λ set. after_success set a.partition None now) state
         (λ set. success_calm set a.partition now)))
 
-both_results : (d : DagData) (a : AttemptId) (now : ℕ)
+pub both_results : (d : DagData) (a : AttemptId) (now : ℕ)
     → SameResults d (succeeded_in_both d a now)
 both_results d a now = by (is_of_newest d a)
   where
