@@ -2,7 +2,7 @@
 use Rattle.std.proofs.Common.{◌≡◌, ◌∙◌, ℕ, ◌<◌, List, None, length, get_or, ap, sym}
 use Rattle.std.proofs.lemmas.List.{get_or-map, length-map}
 use Rattle.sc_value.specs.Datum.{Datum}
-use Rattle.sc_lineage.specs.Actions.{all_rows, local_results, first_raise, outcome_of_rows, result_of, unless_never}
+use Rattle.sc_lineage.specs.Actions.{local_results, first_raise, outcome_of_rows, result_of, rows_of_each, unless_never}
 use Rattle.sc_lineage.specs.Meaning.{local_streams}
 use Rattle.sc_lineage.specs.ScriptData.{ActionData, WorkData, node_of_action}
 use Rattle.sc_lineage.specs.Streams.{ended_stream}
@@ -12,7 +12,7 @@ use Rattle.sc_lineage.proofs.PlaceLemmas.{at_or-get_or}
 use Rattle.sc_compute.specs.Evaluations.{Gives, Settles}
 use Rattle.sc_compute.specs.Stages.{local_count}
 use Rattle.sc_compute.specs.declared.evaluation.Evaluated.{Evaluated}
-use Rattle.sc_compute.specs.declared.evaluation.Evaluated.TheVariants.{Prints, Faults, Never}
+use Rattle.sc_compute.specs.declared.evaluation.Evaluated.TheVariants.{Prints, Saves, Faults, Never}
 
 -- there are as many results as partitions
 pub length-results : (work : WorkData) (action : ActionData)
@@ -30,14 +30,20 @@ result_at work action p d within =
     ∙ ap (result_of action) (sym (at_or-get_or streams p (ended_stream None)))
 
 -- an action of which no result raises
-pub gives-settled : (work : WorkData) (action : ActionData) (rows : List Datum) (e : Evaluated)
+pub gives-settled : (work : WorkData) (action : ActionData) (rows : List (List Datum)) (e : Evaluated)
     → first_raise (local_results work action) ≡ None
-    → rows ≡ all_rows (local_results work action) → Settles (outcome_of_rows action rows) e
+    → rows ≡ rows_of_each (local_results work action) → Settles (outcome_of_rows action rows) e
     → Gives work action e
 gives-settled work action rows (Prints printed) none all settles =
-    let outcome = outcome_of_rows action (all_rows (local_results work action)) in
+    let outcome = outcome_of_rows action (rows_of_each (local_results work action)) in
     ap (λ o. unless_never o outcome) none ∙ ap (outcome_of_rows action) (sym all) ∙ settles
+gives-settled work action rows Saves none all settles =
+    let outcome = outcome_of_rows action (rows_of_each (local_results work action)) in (
+      settles.0,
+      settles.1,
+      ap (λ o. unless_never o outcome) none ∙ ap (outcome_of_rows action) (sym all) ∙ settles.2,
+    )
 gives-settled work action rows (Faults fault) none all settles =
-    let outcome = outcome_of_rows action (all_rows (local_results work action)) in
+    let outcome = outcome_of_rows action (rows_of_each (local_results work action)) in
     ap (λ o. unless_never o outcome) none ∙ ap (outcome_of_rows action) (sym all) ∙ settles
 gives-settled work action rows (Never p) none all settles = absurd settles

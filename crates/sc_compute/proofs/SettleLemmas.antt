@@ -2,7 +2,7 @@
 use Rattle.std.proofs.Common.{◌≡◌, ◌∙◌, ◌+◌, ℕ, List, [], ◌∷◌, ◌++◌, None, map, flat_map, refl, ap, sym}
 use Rattle.std.specs.List.{position_from}
 use Rattle.sc_value.specs.Datum.{Datum}
-use Rattle.sc_lineage.specs.Actions.{all_rows, first_raise, local_results, outcome_of_rows}
+use Rattle.sc_lineage.specs.Actions.{first_raise, local_results, outcome_of_rows, rows_of_each}
 use Rattle.sc_lineage.specs.Meaning.{bounds_between, bounds_step, known_of, local_streams, meanings_by}
 use Rattle.sc_lineage.specs.NodeData.{shuffle_node, sort_by_key}
 use Rattle.sc_lineage.specs.ScriptData.{ActionData, WorkData}
@@ -19,18 +19,18 @@ none_raises k [] = refl
 none_raises k (rows ∷ results) = none_raises (k + 1) results
 
 rows_of_whole : (results : List (List Datum))
-    → all_rows (map whole_stream results) ≡ flat_map (λ rows. rows) results
+    → rows_of_each (map whole_stream results) ≡ results
 rows_of_whole [] = refl
-rows_of_whole (rows ∷ results) = ap (λ more. rows ++ more) (rows_of_whole results)
+rows_of_whole (rows ∷ results) = ap (λ more. rows ∷ more) (rows_of_whole results)
 
 -- what settles the rows of all results is what the action gives
 pub gives-rows : (work : WorkData) (action : ActionData) (results : List (List Datum))
     (e : Evaluated) → local_results work action ≡ map whole_stream results
-    → Settles (outcome_of_rows action (flat_map (λ rows. rows) results)) e → Gives work action e
+    → Settles (outcome_of_rows action results) e → Gives work action e
 gives-rows work action results e are settles =
-    gives-settled work action (flat_map (λ rows. rows) results) e
+    gives-settled work action results e
     (ap first_raise are ∙ none_raises 0 results)
-    (sym (ap all_rows are ∙ rows_of_whole results)) settles
+    (sym (ap rows_of_each are ∙ rows_of_whole results)) settles
 
 -- the bounds of a sort are those between the rows of its parent
 pub bounds_of_sort : (work : WorkData) (node parent n : ℕ) (results : List (List Datum))

@@ -9,6 +9,8 @@ use sc_value::Octets;
 pub enum Evaluated {
     /// Its text.
     Prints(Octets),
+    /// A directory with the part of each partition, which the tasks leave.
+    Saves,
     /// A fault of the driver, where the results are put together.
     Faults(DriverFault),
     /// Nothing ever, since a partition raises.

@@ -7,7 +7,7 @@ ghost use Rattle.sc_value.specs.Datum.{Datum};
 ghost use Rattle.sc_value.specs.Printing.{printed_line};
 ghost use Rattle.sc_value.specs.Views.{datum_of};
 ghost use Rattle.sc_expr.specs.Views.{expr_data_of};
-ghost use Rattle.sc_lineage.specs.Actions.{outcome_of_rows, reduced as reduced_outcome};
+ghost use Rattle.sc_lineage.specs.Actions.{outcome_of_rows, reduced as reduced_outcome, rows_together};
 ghost use Rattle.sc_lineage.specs.ScriptData.{ActionData};
 ghost use Rattle.sc_lineage.specs.Views.{action_data_of};
 ghost use Rattle.sc_compute.specs.Gathering.{IsGathered, Takes, rows_counted};
@@ -33,6 +33,8 @@ pub enum Gathered<'a> {
     Count(u128),
     /// Their rows, which the expression is to put together.
     Rows(&'a Expr, RowsBuilder),
+    /// Nothing: their rows stand in the parts of a save.
+    Saves,
 }
 
 impl<'a> Gathered<'a> {
@@ -45,6 +47,7 @@ impl<'a> Gathered<'a> {
             Action::Collect { .. } => Gathered::Lines(Vec::new(alloc)),
             Action::Count { .. } => Gathered::Count(0),
             Action::Reduce { expr, .. } => Gathered::Rows(expr, RowsBuilder::new(alloc)),
+            Action::Save { .. } => Gathered::Saves,
         }
     }
 
@@ -68,18 +71,21 @@ impl<'a> Gathered<'a> {
                 Ok(())
             }
             Gathered::Rows(_, all) => all.append(alloc, given.rows()),
+            Gathered::Saves => Ok(()),
         }
     }
 
     /// What the results give, where these are all.
     pub fn outcome(self, alloc: Global) -> Result<Evaluated, AllocError>
-        ensures { (action : ActionData) (rows : List Datum) → IsGathered action self.entry rows
+        ensures { (action : ActionData) (rows : List (List Datum))
+            → IsGathered action self.entry (rows_together rows)
             → IfOk result (Settles (outcome_of_rows action rows)) }
     {
         match self {
             Gathered::Lines(bytes) => Ok(Evaluated::Prints(Octets::new(alloc, bytes)?)),
             Gathered::Count(n) => Ok(Evaluated::Prints(count_line(alloc, n)?)),
             Gathered::Rows(expr, rows) => reduced(alloc, expr, &rows.finish(alloc)?),
+            Gathered::Saves => Ok(Evaluated::Saves),
         }
     }
 }

@@ -12,8 +12,9 @@
 //! once, and lets a stream go as soon as nothing is left to read it. Streams that several
 //! dependencies read are kept in between.
 //!
-//! A [`TaskResult`] is what the task of a partition hands over of its result: the rows, or for a
-//! `count` their number alone. [`settle`] puts those of an action together, as the driver does.
+//! A [`TaskResult`] is what the task of a partition hands over of its result: the rows, for a
+//! `count` their number alone, or of a save, whose rows stand in a part, that it is saved.
+//! [`settle`] puts those of an action together, as the driver does.
 //!
 //! It chooses an order and nothing else: what a node makes of its inputs is done by `sc_ops` and
 //! `sc_combine`. Another kind of task is a further variant of [`TaskTarget`].

@@ -16,6 +16,8 @@ pub enum TaskResult {
     Rows(Rows),
     /// How many rows its result has, of which none is kept.
     Count(u64),
+    /// That its result is saved, whose rows stand in the part that the task wrote.
+    Saved,
 }
 
 impl TaskResult {
@@ -26,6 +28,7 @@ impl TaskResult {
         match action {
             Action::Collect { .. } | Action::Reduce { .. } => TaskResult::Rows(rows),
             Action::Count { .. } => TaskResult::Count(rows.len() as u64),
+            Action::Save { .. } => TaskResult::Saved,
         }
     }
 
@@ -36,6 +39,7 @@ impl TaskResult {
         Ok(match self {
             TaskResult::Rows(rows) => TaskResult::Rows(rows.share()?),
             TaskResult::Count(count) => TaskResult::Count(*count),
+            TaskResult::Saved => TaskResult::Saved,
         })
     }
 
@@ -46,17 +50,18 @@ impl TaskResult {
     {
         match self {
             TaskResult::Rows(rows) => rows,
-            TaskResult::Count(_) => unreachable!(),
+            TaskResult::Count(_) | TaskResult::Saved => unreachable!(),
         }
     }
 
-    /// How many rows there are.
+    /// How many rows it tells of.
     pub(crate) fn count(&self) -> u64
         ensures { result ≡ length (rows_told self.now) }
     {
         match self {
             TaskResult::Rows(rows) => rows.len() as u64,
             TaskResult::Count(count) => *count,
+            TaskResult::Saved => 0,
         }
     }
 }

@@ -33,8 +33,7 @@ pub fn settle(
     requires { All (IsFor (action_data_of action.now)) results.items }
     ensures settles { (rows : List (List Datum))
         → results.items ≡ map (result_by (action_data_of action.now)) rows
-        → IfOk result (Settles (outcome_of_rows (action_data_of action.now)
-        (flat_map (λ rs. rs) rows))) }
+        → IfOk result (Settles (outcome_of_rows (action_data_of action.now) rows)) }
     ensures gives { (work : WorkData)
         → AreResultsOf work (action_data_of action.now) results.items
         → IfOk result (Gives work (action_data_of action.now)) }

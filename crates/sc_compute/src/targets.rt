@@ -133,7 +133,7 @@ pub fn node_of(action: &Action) -> NodeId
     match action {
         Action::Collect { node } => *node,
         Action::Count { node } => *node,
-        Action::Reduce { node, .. } => *node,
+        Action::Reduce { node, .. } | Action::Save { node, .. } => *node,
     }
 }
 
@@ -142,8 +142,7 @@ fn result(alloc: Global, action: &Action, stream: Stream) -> Result<Stream, Allo
     ensures { IfOk result (λ s. s ≡ result_of (action_data_of action.now) stream) }
 {
     match action {
-        Action::Collect { .. } => Ok(stream),
-        Action::Count { .. } => Ok(stream),
+        Action::Collect { .. } | Action::Count { .. } | Action::Save { .. } => Ok(stream),
         Action::Reduce { expr, .. } => fold_stream(alloc, expr, &stream),
     }
 }
