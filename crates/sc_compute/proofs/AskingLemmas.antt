@@ -41,6 +41,39 @@ all-inserted P k is (x ∷ xs) all =
     here Greater behind =
         All-cons P x (insert_key nat_cmp xs k) (All-head P x xs all) behind
 
+-- ---- what a target takes
+
+module _ (work : WorkData) where
+  -- the node that a target takes is before the node whose side it is
+  taken-before : (k : ℕ) (n : NodeData) (side : ℕ) → IsSideOf n side
+      → All (λ q. q < k) (parents_of n) → mapped_in n side < k
+  taken-before k (shuffle_node kind parent n) zero is before =
+      All-head (λ q. q < k) parent [] before
+  taken-before k (shuffle_node kind parent n) (suc side) is before = absurd (omega (arith, is))
+  taken-before k (meet_node kind left right n) zero is before =
+      All-head (λ q. q < k) left (right ∷ []) before
+  taken-before k (meet_node kind left right n) (suc zero) is before =
+      All-head (λ q. q < k) right [] (All-tail (λ q. q < k) left (right ∷ []) before)
+  taken-before k (meet_node kind left right n) (suc (suc side)) is before =
+      absurd (omega (arith, is))
+  taken-before k (text_node name n) side is before = absurd is
+  taken-before k (parallelize_node rows n) side is before = absurd is
+  taken-before k (each_node kind parent e) side is before = absurd is
+  taken-before k (union_node left right) side is before = absurd is
+  taken-before k (coalesce_node parent n) side is before = absurd is
+  taken-before k (cache_node parent) side is before = absurd is
+
+  -- the partition that a target takes is one of the work's
+  pub taken_known : IsSoundScript work.script → (target : TargetData) → IsTargetOf work target
+      → (node_taken work target < length work.script.nodes)
+      × (partition_taken target < local_count work (node_taken work target))
+  taken_known sound (map_target node side m) is =
+      let found = slice_get-at_or work.script.nodes node (cache_node 0) is.0 in
+      let before = taken-before node (node_at work node) side is.1
+      (reads_before work.script node (node_at work node) sound found) in
+      let first = is.0 in (omega (arith, before, first), is.2)
+  taken_known sound (result_target action p) is = is
+
 -- What is left of a work.
 module _ (work : WorkData) (stages : ShuffleInputs) where
   -- the greatest is taken out
@@ -109,37 +142,12 @@ module _ (work : WorkData) (stages : ShuffleInputs) where
             (All-get_or (λ q. HasMade stages q.node) places i d (omega (arith, there, size)) made);
       })
 
-  -- the node that a target takes is before the node whose side it is
-  taken-before : (k : ℕ) (n : NodeData) (side : ℕ) → IsSideOf n side
-      → All (λ q. q < k) (parents_of n) → mapped_in n side < k
-  taken-before k (shuffle_node kind parent n) zero is before =
-      All-head (λ q. q < k) parent [] before
-  taken-before k (shuffle_node kind parent n) (suc side) is before = absurd (omega (arith, is))
-  taken-before k (meet_node kind left right n) zero is before =
-      All-head (λ q. q < k) left (right ∷ []) before
-  taken-before k (meet_node kind left right n) (suc zero) is before =
-      All-head (λ q. q < k) right [] (All-tail (λ q. q < k) left (right ∷ []) before)
-  taken-before k (meet_node kind left right n) (suc (suc side)) is before =
-      absurd (omega (arith, is))
-  taken-before k (text_node name n) side is before = absurd is
-  taken-before k (parallelize_node rows n) side is before = absurd is
-  taken-before k (each_node kind parent e) side is before = absurd is
-  taken-before k (union_node left right) side is before = absurd is
-  taken-before k (coalesce_node parent n) side is before = absurd is
-  taken-before k (cache_node parent) side is before = absurd is
-
   -- the partition that a target takes is there
   pub taken-there : IsSoundScript work.script → (target : TargetData) → IsTargetOf work target
       → HasAll work stages target
       → IsThere work stages (node_taken work target) (partition_taken target)
   taken-there sound (map_target node side m) is has =
-      let found = slice_get-at_or work.script.nodes node (cache_node 0) is.0 in
-      let before = taken-before node (node_at work node) side is.1
-      (reads_before work.script node (node_at work node) sound found) in
-      record {
-        known = let first = is.0 in omega (arith, before, first);
-        within = is.2;
-        made = has.0;
-      }
+      let known = taken_known work sound (map_target node side m) is in
+      record { known = known.0; within = known.1; made = has.0 }
   taken-there sound (result_target action p) is has =
       record { known = is.0; within = is.1; made = has }

@@ -1,16 +1,19 @@
 -- The nodes that a node takes in, and what was handed in for their shuffles.
-use Rattle.std.proofs.Common.{◌≡◌, ◌∙◌, ℕ, zero, suc, ◌⊎◌, inl, inr, Bool, true, false, if◌then◌else◌, List, [], ◌∷◌, ◌++◌, Option, Some, None, refl, ap, sym, subst, arith}
+use Rattle.std.proofs.Common.{◌≡◌, ◌∙◌, ℕ, zero, suc, ◌<◌, ◌≤◌, ◌⊎◌, inl, inr, Bool, true, false, if◌then◌else◌, List, [], ◌∷◌, ◌++◌, All, Option, Some, None, map, true≢false, refl, ap, sym, subst, arith}
+use Rattle.std.proofs.lemmas.List.Elements.{All-append, All-cons, All-contains, All-head, All-nil, All-tail}
 use Rattle.std.specs.HashMap.{get}
 use Rattle.std.specs.List.{Contains, flat_map, slice_get}
 use Rattle.std.specs.Option.{is_some}
-use Rattle.sc_lineage.specs.Dependencies.{dependencies_by, one_to_one, parents_of, shuffled, unless_parted}
+use Rattle.sc_lineage.specs.Dependencies.{Dependency, dependencies_by, dependencies_of, grouped, one_to_one, parent_of, parents_of, range_behind, shuffled, unless_parted}
 use Rattle.sc_lineage.specs.Meaning.{known_of}
 use Rattle.sc_lineage.specs.NodeData.{NodeData, text_node, parallelize_node, each_node, union_node, coalesce_node, cache_node, shuffle_node, meet_node}
 use Rattle.sc_lineage.specs.Partitioners.{PartitionerData, hash_partitioner, partitioner_of_shuffle}
-use Rattle.sc_lineage.specs.ScriptData.{WorkData}
-use Rattle.sc_compute.specs.Inputs.{Grows, HasInputs, HasSides, Makes, TakesIn, direct_parent, direct_parents, direct_parents_of}
+use Rattle.sc_lineage.specs.ScriptData.{IsSoundScript, WorkData}
+use Rattle.sc_lineage.proofs.MeaningLemmas.{reads_before}
+use Rattle.sc_compute.specs.Inputs.{Grows, HasInputs, HasSides, Leads, Makes, TakesIn, direct_parent, direct_parents, direct_parents_of}
 use Rattle.sc_compute.specs.Keeping.{same_place}
-use Rattle.sc_compute.specs.Stages.{GoesThrough, HasMade, handed_in, left_parent, lies_so, node_at, unless_handed}
+use Rattle.sc_compute.specs.Stages.{GoesThrough, HasMade, handed_in, left_parent, lies_so, made_in, node_at, unless_handed}
+use Rattle.sc_compute.specs.declared.stages.Sides.{Sides}
 use Rattle.sc_compute.specs.declared.stages.ShuffleInputs.{ShuffleInputs}
 use Rattle.sc_compute.proofs.LeftLemmas.{Handed}
 use Rattle.sc_compute.proofs.StageLemmas.{not_there}
@@ -143,12 +146,82 @@ left_read work inputs k side node left parent found is has of_side some =
         parent_read work node side parent there (not_through work inputs k side node is has none)
     by (Some outputs) handed there = let e : None ≡ Some parent = there in absurd (cc)
 
+-- what was made is there where it is the same
+pub still_made : (before after : ShuffleInputs) (k : ℕ) → made_in after k ≡ made_in before k
+    → HasMade before k → HasMade after k
+still_made before after k same made = subst (λ o. is_some o ≡ true) (sym same) made
+
+-- nothing was made where there is nothing
+pub none_made : (o : Option Sides) → is_some o ≡ false → o ≡ None
+none_made None is = refl
+none_made (Some sides) is = absurd (true≢false is)
+
+-- ---- what is taken in lies before
+
+module _ (work : WorkData) (sound : IsSoundScript work.script) where
+  before_by : (k : ℕ) (ds : List Dependency) → All (λ q. q < k) (map parent_of ds)
+      → All (λ q. q < k) (flat_map direct_parent (map (unless_parted (known_of work)) ds))
+  before_by k [] all = All-nil (λ q. q < k)
+  before_by k (d ∷ ds) all =
+      All-append (λ q. q < k) (direct_parent (unless_parted (known_of work) d))
+      (flat_map direct_parent (map (unless_parted (known_of work)) ds))
+      (one d (All-head (λ q. q < k) (parent_of d) (map parent_of ds) all))
+      (before_by k ds (All-tail (λ q. q < k) (parent_of d) (map parent_of ds) all))
+    where
+      alone : (q : ℕ) → q < k → All (λ q. q < k) (q ∷ [])
+      alone q before = All-cons (λ q. q < k) q [] before (All-nil (λ q. q < k))
+
+      lying : (b : Bool) (q : ℕ) (by : PartitionerData) → q < k
+          → All (λ q. q < k) (direct_parent (if b then one_to_one q else shuffled q by))
+      lying true q by before = alone q before
+      lying false q by before = All-nil (λ q. q < k)
+
+      one : (d : Dependency) → parent_of d < k
+          → All (λ q. q < k) (direct_parent (unless_parted (known_of work) d))
+      one (one_to_one q) before = alone q before
+      one (range_behind q others) before = alone q before
+      one (grouped q n) before = alone q before
+      one (shuffled q by) before = lying (lies_so work by q) q by before
+
+  pub direct_before : (k : ℕ) → All (λ q. q < k) (direct_parents work k)
+  direct_before k = at (slice_get work.script.nodes k) refl
+    where
+      at : (o : Option NodeData) → slice_get work.script.nodes k ≡ o
+          → All (λ q. q < k) (direct_parents_of work o)
+      at None found = All-nil (λ q. q < k)
+      at (Some node) found =
+          before_by k (dependencies_of node) (reads_before work.script k node sound found)
+
+  pub taken_before : (from to : ℕ) → TakesIn work from to → to ≤ from
+  taken_before from to takes = by takes.0 from takes.1
+    where
+      by : (path : List ℕ) (k : ℕ) → Leads work k path to → to ≤ k
+      by [] k same = omega (arith, same)
+      by (via ∷ path) k leads =
+          let below = by path via leads.1 in
+          let before = All-contains (λ q. q < k) (direct_parents work k) via (direct_before k)
+          leads.0 in
+          omega (arith, below, before)
+
+  -- for a node nothing is made while a node before it is prepared
+  pub unmade_still : (k parent : ℕ) (before after : ShuffleInputs) → parent < k
+      → Grows work parent before after → made_in before k ≡ None → made_in after k ≡ None
+  unmade_still k parent before after below grows none = at (made_in after k) refl
+    where
+      by : HasMade before k ⊎ TakesIn work parent k → made_in after k ≡ None
+      by (inl made) = absurd (not_there (made_in before k) made none)
+      by (inr takes) = let reach = taken_before parent k takes in absurd (omega (arith, below, reach))
+
+      at : (o : Option Sides) → made_in after k ≡ o → made_in after k ≡ None
+      at None is = is
+      at (Some sides) is = by (grows.only k (ap is_some is))
+
 -- What was made grows.
 module _ (work : WorkData) where
   -- nothing is made
   pub grows_none : (node : ℕ) (inputs : ShuffleInputs) → Grows work node inputs inputs
   grows_none node inputs = record {
-    kept = λ k made. made;
+    kept = λ k made. refl;
     only = λ k made. inl made;
     handed = refl;
     told = refl;
@@ -174,7 +247,7 @@ module _ (work : WorkData) where
   pub grows_on : (node : ℕ) (first second third : ShuffleInputs) → Grows work node first second
       → Grows work node second third → Grows work node first third
   grows_on node first second third low high = record {
-    kept = λ k made. high.kept k (low.kept k made);
+    kept = λ k made. high.kept k (still_made first second k (low.kept k made) made) ∙ low.kept k made;
     only = λ k made. by k (high.only k made);
     handed = high.handed ∙ low.handed;
     told = high.told ∙ low.told;

@@ -17,3 +17,4 @@ pub mod InputLemmas
 pub mod SettleLemmas
 pub mod ResultLemmas
 pub mod AskingLemmas
+pub mod AsksLemmas

@@ -17,7 +17,7 @@ place_same a b same =
     ap₂ place (eqb-true a.node b.node parts.0) (eqb-true a.partition b.partition parts.1)
 
 -- what can't be both
-never : (b : Bool) → b ≡ true → b ≡ false → {A : Type 0} → A
+pub never : (b : Bool) → b ≡ true → b ≡ false → {A : Type 0} → A
 never b is not = absurd (is-not b is not)
   where
     is-not : (b : Bool) → b ≡ true → b ≡ false → ⊥

@@ -1,5 +1,5 @@
 -- What sides are read from, and what stays, when something is made for one node.
-use Rattle.std.proofs.Common.{◌≡◌, ℕ, ◌⊎◌, inl, inr, Bool, true, false, cond, nat_eq, Option, Some, None, refl, sym, subst}
+use Rattle.std.proofs.Common.{◌≡◌, ◌∙◌, ℕ, ◌⊎◌, inl, inr, Bool, true, false, cond, nat_eq, Option, Some, None, refl, sym, subst}
 use Rattle.std.proofs.lemmas.Bool.{eqb-true}
 use Rattle.std.specs.Option.{IfSome, is_some}
 use Rattle.sc_compute.specs.Inputs.{Makes}
@@ -7,6 +7,7 @@ use Rattle.sc_compute.specs.Stages.{AreReadOf, HasMade, made_in}
 use Rattle.sc_compute.specs.declared.stages.Sides.{Sides}
 use Rattle.sc_compute.specs.declared.stages.ShuffleInputs.{ShuffleInputs}
 use Rattle.sc_compute.proofs.LeftLemmas.{Handed}
+use Rattle.sc_compute.proofs.StageLemmas.{not_there}
 
 -- What is read, where the same was handed in.
 module _ (handed : ℕ → ℕ → Handed) (before after : ℕ → Option Sides)
@@ -38,7 +39,7 @@ pub makes_none : (node : ℕ) (before after : ShuffleInputs)
     → ((k : ℕ) → made_in after k ≡ made_in before k) → after.handed ≡ before.handed
     → after.bounds ≡ before.bounds → Makes node before after
 makes_none node before after same handed told = record {
-  kept = λ k made. subst (λ o. is_some o ≡ true) (sym (same k)) made;
+  kept = λ k made. same k;
   only = λ k made. inl (subst (λ o. is_some o ≡ true) (same k) made);
   handed = handed;
   told = told;
@@ -46,20 +47,23 @@ makes_none node before after same handed told = record {
 
 -- something is made for one node
 pub makes_put : (node : ℕ) (before after : ShuffleInputs) (sides : Sides)
+    → made_in before node ≡ None
     → ((k : ℕ) → made_in after k ≡ cond (nat_eq node k) (Some sides) (made_in before k))
     → after.handed ≡ before.handed → after.bounds ≡ before.bounds → Makes node before after
-makes_put node before after sides updates handed told = record {
-  kept = λ k made. subst (λ o. is_some o ≡ true) (sym (updates k)) (stays k (nat_eq node k) made);
+makes_put node before after sides unmade updates handed told = record {
+  kept = λ k made. updates k ∙ stays k (nat_eq node k) refl made;
   only = λ k made.
       by k (nat_eq node k) refl (subst (λ o. is_some o ≡ true) (updates k) made);
   handed = handed;
   told = told;
 }
   where
-    stays : (k : ℕ) (b : Bool) → HasMade before k
-        → is_some (cond b (Some sides) (made_in before k)) ≡ true
-    stays k true made = refl
-    stays k false made = made
+    stays : (k : ℕ) (b : Bool) → nat_eq node k ≡ b → HasMade before k
+        → cond b (Some sides) (made_in before k) ≡ made_in before k
+    stays k true same made =
+        absurd (not_there (made_in before k) made
+        (subst (λ j. made_in before j ≡ None) (eqb-true node k same) unmade))
+    stays k false other made = refl
 
     by : (k : ℕ) (b : Bool) → nat_eq node k ≡ b
         → is_some (cond b (Some sides) (made_in before k)) ≡ true

@@ -78,16 +78,18 @@ pub record IsSame (before after : ShuffleInputs) : Type 0 where
   pub handed : (k s : ℕ) → handed_in after k s ≡ handed_in before k s
   pub told : (k : ℕ) → bounds_told after k ≡ bounds_told before k
 
--- something may be made for a node, and for no other, and all else stays
+-- something may be made for a node, and for no other, and all else stays; what was made before is
+-- the same
 pub record Makes (node : ℕ) (before after : ShuffleInputs) : Type 0 where
-  pub kept : (k : ℕ) → HasMade before k → HasMade after k
+  pub kept : (k : ℕ) → HasMade before k → made_in after k ≡ made_in before k
   pub only : (k : ℕ) → HasMade after k → HasMade before k ⊎ (node ≡ k)
   pub handed : after.handed ≡ before.handed
   pub told : after.bounds ≡ before.bounds
 
--- something may be made for nodes that a node takes in, and for no others, and all else stays
+-- something may be made for nodes that a node takes in, and for no others, and all else stays; what
+-- was made before is the same
 pub record Grows (work : WorkData) (node : ℕ) (before after : ShuffleInputs) : Type 0 where
-  pub kept : (k : ℕ) → HasMade before k → HasMade after k
+  pub kept : (k : ℕ) → HasMade before k → made_in after k ≡ made_in before k
   pub only : (k : ℕ) → HasMade after k → HasMade before k ⊎ TakesIn work node k
   pub handed : after.handed ≡ before.handed
   pub told : after.bounds ≡ before.bounds

@@ -1,9 +1,10 @@
 //! Which partitions of cache nodes a target reads.
 #![tactic(auto)]
 
-ghost use Rattle.std.specs.Prelude.{◌≡◌, ◌<◌, ◌^◌, IfOk, IfSome};
-ghost use Rattle.sc_lineage.specs.Views.{node_data_of};
-ghost use Rattle.sc_compute.specs.Asking.{IsAsked, IsAsking, IsThere, node_taken, partition_taken, place_number};
+ghost use Rattle.std.specs.Prelude.{◌≡◌, ◌<◌, ◌^◌, Bool, IfOk, IfSome, List, OnOk};
+ghost use Rattle.sc_lineage.specs.Dependencies.{PlaceData};
+ghost use Rattle.sc_lineage.specs.Views.{node_data_of, place_data_of};
+ghost use Rattle.sc_compute.specs.Asking.{AsksBehind, AsksFor, AsksNext, IsAsked, IsAsking, IsThere, node_taken, partition_taken, place_number, place_of_number, place_taken};
 ghost use Rattle.sc_compute.specs.Stages.{AreRight, mapped_in};
 ghost use Rattle.sc_compute.specs.Tasks.{HasAll, IsSideOf, IsTargetOf, target_data_of};
 
@@ -17,7 +18,8 @@ use std::collections::BTreeSet;
 
 /// The partitions of cache nodes that a target reads, nearest to it first: the caller is given one
 /// after another, and says of which it doesn't have the rows. Only then what lies behind is looked
-/// at. A call that is refused may leave some of them out.
+/// at. So each that the caller has is given, unless another that it has stands between, and no
+/// other. A call that is refused may leave some of them out.
 #[derive(Drop)]
 pub struct Asking {
     /// The numbers of the partitions that are still to be looked at.
@@ -36,7 +38,9 @@ impl Asking {
     ) -> Result<Asking, AllocError>
         requires target { IsTargetOf work.now (target_data_of target) }
         requires made { HasAll work.now stages.now (target_data_of target) }
-        ensures { IfOk result (IsAsking work.now stages.now) }
+        ensures asking { IfOk result (IsAsking work.now stages.now) }
+        ensures asks { IfOk result (λ a. (had : PlaceData → Bool) (given : List PlaceData)
+            → AsksFor work.now had (place_taken work.now (target_data_of target.entry)) given a) }
     {
         work.is_sound();
         let number = number_of(place_of_target(work, target));
@@ -58,6 +62,7 @@ impl Asking {
         ensures asking { IsAsking work.now stages.now self.new }
         ensures asked { IfOk result (λ o. IfSome o (IsAsked work.now stages.now self.new)) }
         ensures fewer { IfOk result (λ o. IfSome o (λ at. self.new.below < self.old.below)) }
+        ensures asks { IfOk result (AsksNext work.now self.old self.new) }
     {
         while let Some(number) = self.left.pop_last() {
             self.below = u128::from(number);
@@ -84,7 +89,9 @@ impl Asking {
         requires last { place_number at ≡ self.old.below }
         ensures asking { IsAsking work.now stages.now self.new }
         ensures below { self.new.below ≡ self.old.below }
+        ensures asks { OnOk result (AsksBehind work.now (place_data_of at) self.old self.new) }
     {
+        work.is_sound();
         let places = places_read(alloc, work, stages, at)?;
         for place in &places {
             self.left.insert(number_of(*place))?;
@@ -134,6 +141,7 @@ fn number_of(at: Place) -> u64
 /// The partition of a number.
 fn place_of(number: u64) -> Place
     ensures number { place_number result ≡ number }
+    ensures place { place_data_of result ≡ place_of_number number }
     ensures small { result.partition < 2 ^ 32 }
 {
     Place {

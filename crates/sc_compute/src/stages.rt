@@ -1,7 +1,7 @@
 //! What is made for the nodes of a work before their partitions can be computed.
 #![tactic(auto)]
 
-ghost use Rattle.std.specs.Prelude.{◌≡◌, ◌<◌, All, IfOk, OnOk, length, option_map};
+ghost use Rattle.std.specs.Prelude.{◌≡◌, ◌<◌, All, IfOk, None, OnOk, length, option_map};
 ghost use Rattle.sc_compute.specs.Inputs.{Grows, HasInputs, HasSides, IsUnmade, Makes};
 ghost use Rattle.sc_compute.specs.Stages.{AreReadOf, AreRight, AreSides, AtDirectParents, HasMade, handed_in, local_count, made_in, node_at, parents_left};
 
@@ -79,7 +79,8 @@ impl ShuffleInputs {
 
     /// Makes what the partitions of a node need: how many it has and what its shuffles are read
     /// from, and the same for all nodes that it takes in, and for no other. For each shuffle among
-    /// them the outputs were handed in. A refused call may have made some of it.
+    /// them the outputs were handed in. A refused call may have made some of it; what was made
+    /// before is the same.
     pub fn prepare(&mut self, alloc: Global, work: &Work, node: NodeId) -> Result<(), AllocError>
         requires known { node < length work.now.script.nodes }
         requires right { AreRight work.now self.old }
@@ -109,6 +110,7 @@ impl ShuffleInputs {
         requires parents { All (HasMade self.old)
             (parents_left self.old node (node_at work.now node)) }
         requires sides { HasSides work.now self.old node }
+        requires unmade { made_in self.old node ≡ None }
         ensures right { AreRight work.now self.new }
         ensures made { OnOk result (HasMade self.new node) }
         ensures makes { Makes node self.old self.new }
@@ -125,6 +127,7 @@ impl ShuffleInputs {
         requires count { count ≡ local_count work.now node }
         requires are { AreSides work.now (node_at work.now node) sides }
         requires read { AreReadOf (handed_in self.old node) sides }
+        requires unmade { made_in self.old node ≡ None }
         ensures right { AreRight work.now self.new }
         ensures made { OnOk result (HasMade self.new node) }
         ensures makes { Makes node self.old self.new }

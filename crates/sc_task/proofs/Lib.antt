@@ -4,3 +4,5 @@ pub mod LeavingLemmas
 pub mod HandingLemmas
 pub mod InputLemmas
 pub mod ListLemmas
+pub mod FetchLemmas
+pub mod CacheLemmas

@@ -1,12 +1,14 @@
 -- The states of an attempt, as plain data, and what holds of them.
 use Rattle.std.specs.Prelude.{ℕ, ◌≡◌, ◌++◌, List, Option, Some, IfSome, refl}
-use Rattle.std.specs.Coded.{Coded, code_by, coded×, coded_ℕ}
+use Rattle.std.specs.Coded.{Coded, code_by, coded×, coded_list, coded_ℕ}
 use Rattle.std.specs.List.{AllZip}
 use Rattle.sc_value.specs.Datum.{Datum}
 use Rattle.sc_ids.specs.contracts.blocks.Loc.{the_row as loc_row}
 use Rattle.sc_ids.specs.declared.blocks.BlockId.{BlockId}
 use Rattle.sc_ids.specs.declared.blocks.Loc.{Loc}
 use Rattle.sc_lineage.specs.ScriptData.{WorkData}
+use Rattle.sc_compute.specs.contracts.caching.CachedPart.{the_row as part_row}
+use Rattle.sc_compute.specs.declared.caching.CachedPart.{CachedPart}
 use Rattle.sc_store.specs.OwnBlocks.{IsOwnBlock}
 use Rattle.sc_net.specs.Reports.{IsResultOf}
 use Rattle.sc_net.specs.Tasks.{TaskData, block_of_task, blocks_of_task, task_code}
@@ -21,9 +23,21 @@ pub record AssignedData : Type 0 where
   -- how many blocks it has read
   pub got : ℕ
 
+-- an attempt that has read all
+pub record ReadData : Type 0 where
+  pub task : TaskData
+  -- how many blocks it has read
+  pub got : ℕ
+  -- the partitions of cache nodes that it needn't compute, with their rows
+  pub known : List CachedPart
+
 -- an attempt that has computed what it is to compute
 pub record ComputedData : Type 0 where
   pub task : TaskData
+  -- the partitions that were known
+  pub used : List CachedPart
+  -- the partitions of cache nodes that it computed, with their rows
+  pub fresh : List CachedPart
 
 -- an attempt whose block was put
 pub record StoredData : Type 0 where
@@ -34,8 +48,11 @@ pub record StoredData : Type 0 where
 abbrev pub assigned_data : TaskData → ℕ → AssignedData
 assigned_data task got = record { task = task; got = got }
 
-abbrev pub computed_data : TaskData → ComputedData
-computed_data task = record { task = task }
+abbrev pub read_data : TaskData → ℕ → List CachedPart → ReadData
+read_data task got known = record { task = task; got = got; known = known }
+
+abbrev pub computed_data : TaskData → List CachedPart → List CachedPart → ComputedData
+computed_data task used fresh = record { task = task; used = used; fresh = fresh }
 
 abbrev pub stored_data : TaskData → Loc → StoredData
 stored_data task loc = record { task = task; loc = loc }
@@ -46,8 +63,19 @@ assigned_code =
     code_by (TaskData × ℕ) (coded× task_code coded_ℕ)
     (λ a. (a.task, a.got)) (λ p. assigned_data p.0 p.1) (λ _. refl)
 
+abbrev pub parts_code : Coded (List CachedPart)
+parts_code = coded_list part_row.coded
+
+abbrev pub read_code : Coded ReadData
+read_code =
+    code_by (TaskData × (ℕ × List CachedPart)) (coded× task_code (coded× coded_ℕ parts_code))
+    (λ r. (r.task, (r.got, r.known))) (λ p. read_data p.0 p.1.0 p.1.1) (λ _. refl)
+
 abbrev pub computed_code : Coded ComputedData
-computed_code = code_by TaskData task_code (λ c. c.task) computed_data (λ _. refl)
+computed_code =
+    code_by (TaskData × (List CachedPart × List CachedPart))
+    (coded× task_code (coded× parts_code parts_code))
+    (λ c. (c.task, (c.used, c.fresh))) (λ p. computed_data p.0 p.1.0 p.1.1) (λ _. refl)
 
 abbrev pub stored_code : Coded StoredData
 stored_code =

@@ -1,9 +1,12 @@
 -- What the steps of an attempt do.
-use Rattle.std.specs.Prelude.{◌≡◌, ◌≤◌, ◌<◌, ◌+◌, false, Some, None, is_some, true}
+use Rattle.std.specs.Prelude.{◌≡◌, ◌≤◌, ◌<◌, ◌+◌, false, List, Some, None, is_some, true}
 use Rattle.sc_ids.specs.declared.blocks.BlockId.{BlockId}
 use Rattle.sc_ids.specs.declared.blocks.Loc.{Loc}
 use Rattle.sc_lineage.specs.ScriptData.{WorkData}
 use Rattle.sc_lineage.specs.Targets.{own_value}
+use Rattle.sc_compute.specs.Asking.{place_taken}
+use Rattle.sc_compute.specs.Needs.{AreFresh, places_in}
+use Rattle.sc_compute.specs.declared.caching.CachedPart.{CachedPart}
 use Rattle.sc_store.specs.BlockData.{BlockData}
 use Rattle.sc_store.specs.OwnBlocks.{IsOwnBlock}
 use Rattle.sc_store.specs.StoreData.{StoreData, output_in}
@@ -12,7 +15,7 @@ use Rattle.sc_net.specs.Reports.{report_data}
 use Rattle.sc_net.specs.Tasks.{TaskData, block_of_task, is_planned, target_of_task}
 use Rattle.sc_net.specs.declared.findings.Finding.{Finding}
 use Rattle.sc_net.specs.declared.findings.Finding.TheVariants as findings
-use Rattle.sc_task.specs.States.{AssignedData, assigned_data, computed_data}
+use Rattle.sc_task.specs.States.{AssignedData, assigned_data}
 use Rattle.sc_task.specs.declared.next.Next.{Next}
 use Rattle.sc_task.specs.declared.next.Next.TheVariants.{Fetch, Missing, Complete}
 use Rattle.sc_task.specs.declared.took.Did.{Did}
@@ -49,12 +52,15 @@ FailsAs work t (findings.Raised r) =
     (is_planned work t ≡ false) × ((own_value work (target_of_task work t)).raise ≡ Some r)
 FailsAs work t finding = ⊥
 
--- what an attempt does that has read all: it fails, or computes what doesn't raise
-abbrev pub Computes : {W : _} → WorkData → TaskData → Did W → Type 0
-Computes work t (dids.Computed computed) =
+-- What an attempt does that has read all, where some partitions are known: it fails, or computes
+-- what doesn't raise; then the fresh ones are exactly the partitions of cache nodes that it computed.
+abbrev pub Computes : {W : _} → WorkData → TaskData → List CachedPart → Did W → Type 0
+Computes work t known (dids.Computed computed) =
     (is_planned work t ≡ false) × ((own_value work (target_of_task work t)).raise ≡ None)
-    × (computed ≡ computed_data t)
-Computes work t (dids.Failed report) =
+    × (computed.task ≡ t) × (computed.used ≡ known)
+    × AreFresh work (places_in known) (place_taken work (target_of_task work t))
+    (places_in computed.fresh)
+Computes work t known (dids.Failed report) =
     (report.task ≡ t) × FailsAs work t report.finding
 
 -- the own block of a map task is put into a store

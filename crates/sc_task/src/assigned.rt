@@ -1,22 +1,20 @@
 //! Attempts that read.
 #![tactic(auto)]
 
-ghost use Rattle.std.specs.Prelude.{◌≡◌, ◌<◌, ◌+◌, IfErr, IfOk, OnErr, Some, false, slice_get, true};
+ghost use Rattle.std.specs.Prelude.{◌≡◌, ◌<◌, ◌+◌, [], IfErr, IfOk, Some, slice_get, vec_len};
 ghost use Rattle.sc_net.specs.Reports.{WasGiven, loc_at, report_data};
-ghost use Rattle.sc_net.specs.Tasks.{blocks_of_task, is_planned};
+ghost use Rattle.sc_net.specs.Tasks.{blocks_of_task};
 ghost use Rattle.sc_net.specs.declared.findings.Finding.{Finding};
-ghost use Rattle.sc_task.specs.Caches.{IsSameButCache, has_cache};
 ghost use Rattle.sc_task.specs.Nexts.{FetchesFrom, LaySomewhere, Misses, next_of};
-ghost use Rattle.sc_task.specs.States.{assigned_data};
-ghost use Rattle.sc_task.specs.Steps.{Computes, Reads};
+ghost use Rattle.sc_task.specs.States.{HasReadAll, assigned_data, read_data};
+ghost use Rattle.sc_task.specs.Steps.{Reads};
 ghost use Rattle.sc_task.specs.declared.next.Next.{Next};
 ghost use Rattle.sc_tracker.specs.declared.outputs.Location.{Location};
 
-use crate::computing::left_by;
 use crate::cursors::Cursor;
-use crate::leaving::did;
 use crate::next::Next;
-use crate::took::{Did, Took};
+use crate::read::Read;
+use crate::took::Took;
 use sc_ids::{ExecId, Generation};
 use sc_net::{Finding, Report, Task};
 use sc_shuffle::MapOutput;
@@ -164,34 +162,25 @@ impl<W: Naming> Assigned<W> {
         }
     }
 
-    /// Computes what the task is to compute from what was read, which is all, unless the fault plan
-    /// fails the attempt. Partitions of cache nodes that a store has aren't computed again, and
-    /// those that were computed are kept there, as long as there is memory for them. A refused
-    /// call changes nothing and hands the attempt back.
-    pub fn compute(
-        self,
-        alloc: Global,
-        store: &mut Store<W>,
-    ) -> Result<Did<W>, AllocFailed<Assigned<W>>>
+    /// The attempt, which has read all.
+    pub fn ready(self, alloc: Global) -> Read<W>
         requires next { next_of self.task self.got ≡ Next.Complete }
-        ensures did { IfOk result (Computes W.work self.task) }
-        ensures rest { IsSameButCache store.old store.new }
-        ensures planned { is_planned W.work self.task ≡ true → store.new ≡ store.old }
-        ensures uncached { has_cache W.work ≡ false → store.new ≡ store.old }
-        ensures refused { OnErr result (store.new ≡ store.old) }
-        ensures back { IfErr result (λ failed. failed.value ≡ self) }
+        ensures { result ≡ read_data self.task self.got [] }
     {
-        if self.task.is_planned() {
-            let Assigned { task, .. } = self;
-            return Ok(Did::Failed(Report::new(task, Finding::Planned)));
-        }
         self.task.is_task();
-        match left_by(alloc, &self.task, self.got.as_slice(), store) {
-            Ok(left) => {
-                let Assigned { task, .. } = self;
-                Ok(did(task, left))
-            }
-            Err(_) => Err(AllocFailed { value: self }),
+        let Assigned { task, got, .. } = self;
+        Read::new(alloc, task, got)
+    }
+
+    /// An attempt that has read all, as one that reads.
+    pub(crate) fn done(task: Task<W>, got: Vec<MapOutput>) -> Assigned<W>
+        requires all { HasReadAll W.work task got.items }
+        ensures { result ≡ assigned_data task (vec_len got) }
+    {
+        Assigned {
+            task,
+            got,
+            cursor: None,
         }
     }
 }

@@ -1,19 +1,21 @@
 //! Attempts that have computed what they are to compute.
 #![tactic(auto)]
 
-ghost use Rattle.std.specs.Prelude.{◌≡◌, IfErr, IfOk, OnErr, OnOk, false, true};
-ghost use Rattle.sc_net.specs.Reports.{IsResultOf, loc_at, report_data};
-ghost use Rattle.sc_net.specs.Tasks.{block_of_task, is_map_task, is_planned};
+ghost use Rattle.std.specs.Prelude.{◌≡◌, [], All, IfErr, IfOk, OnErr, OnOk, false, true};
+ghost use Rattle.sc_compute.specs.Caching.{IsCachedPart};
+ghost use Rattle.sc_net.specs.Reports.{loc_at, report_data};
+ghost use Rattle.sc_net.specs.Tasks.{is_map_task, is_planned};
 ghost use Rattle.sc_net.specs.declared.findings.Finding.{Finding};
 ghost use Rattle.sc_store.specs.Storing.{Puts};
-ghost use Rattle.sc_task.specs.States.{computed_data, stored_data};
+ghost use Rattle.sc_task.specs.Caches.{IsSameButCache, KeepsEach, KeepsSome};
+ghost use Rattle.sc_task.specs.States.{IsMade, computed_data, stored_data};
 ghost use Rattle.sc_task.specs.Steps.{PutsOwn};
 ghost use Rattle.sc_compute.specs.declared.results.TaskResult.{TaskResult};
-ghost use Rattle.std.specs.Prelude.{Some};
 
+use crate::keeping::keep_all;
 use crate::made::Made;
 use crate::stored::Stored;
-use sc_compute::TaskResult;
+use sc_compute::{CachedPart, TaskResult};
 use sc_ids::Loc;
 use sc_net::{Finding, Report, Task};
 use sc_store::{Block, PutReceipt, Store};
@@ -26,10 +28,15 @@ use std::marker::Model;
 pub struct Computed<W: Naming> {
     task: Task<W>,
     made: Made<W>,
+    /// The partitions that were taken from a store.
+    used: Vec<CachedPart>,
+    /// The partitions of cache nodes that were computed.
+    fresh: Vec<CachedPart>,
 }
 
 impl<W: Naming> Model for Computed<W> {
-    ghost use Rattle.std.specs.Prelude.{◌≡◌, false};
+    ghost use Rattle.std.specs.Prelude.{◌≡◌, All, false};
+    ghost use Rattle.sc_compute.specs.Caching.{IsCachedPart};
     ghost use Rattle.sc_net.specs.Tasks.{is_planned};
     ghost use Rattle.sc_task.specs.States.{ComputedData, IsMade, computed_code, computed_data};
 
@@ -37,30 +44,31 @@ impl<W: Naming> Model for Computed<W> {
 
     ghost coded = { computed_code };
 
-    ghost view = { λ c. computed_data c.task };
+    ghost view = { λ c. computed_data c.task c.used.items c.fresh.items };
 
-    ghost invariant = { λ c. IsMade W.work c.task c.made × (is_planned W.work c.task ≡ false) };
+    ghost invariant = { λ c. IsMade W.work c.task c.made × (is_planned W.work c.task ≡ false)
+        × All (IsCachedPart W.work) c.fresh.items };
 }
 
 impl<W: Naming> Computed<W> {
-    /// A map task's own block.
-    pub(crate) fn of_block(task: Task<W>, block: Block<W>) -> Computed<W>
-        requires own { block_of_task task ≡ Some block.id }
+    /// What a task makes, and the partitions that were taken and computed for it.
+    pub(crate) fn new(
+        task: Task<W>,
+        made: Made<W>,
+        used: Vec<CachedPart>,
+        fresh: Vec<CachedPart>,
+    ) -> Computed<W>
+        requires made { IsMade W.work task made }
         requires planned { is_planned W.work task ≡ false }
-        ensures { result ≡ computed_data task }
+        requires own { All (IsCachedPart W.work) fresh.items }
+        ensures { result ≡ computed_data task used.items fresh.items }
     {
-        let made = Made::Block(block);
-        Computed { task, made }
-    }
-
-    /// What is handed over of a task's result.
-    pub(crate) fn of_result(task: Task<W>, given: TaskResult) -> Computed<W>
-        requires own { IsResultOf W.work task given }
-        requires planned { is_planned W.work task ≡ false }
-        ensures { result ≡ computed_data task }
-    {
-        let made = Made::Result(given);
-        Computed { task, made }
+        Computed {
+            task,
+            made,
+            used,
+            fresh,
+        }
     }
 
     /// The task.
@@ -68,6 +76,34 @@ impl<W: Naming> Computed<W> {
         ensures { result.now ≡ self.now.task }
     {
         &self.task
+    }
+
+    /// Keeps the partitions of cache nodes that were computed in the store of its executor, one
+    /// after another. Those that were taken from there become the most recently used before. A
+    /// refused call has kept the first of them alone, and hands the attempt back.
+    pub fn keep(self, store: &mut Store<W>) -> Result<Computed<W>, AllocFailed<Computed<W>>>
+        ensures kept { IfOk result (λ c. c ≡ computed_data self.task [] []) }
+        ensures keeps { OnOk result (KeepsEach self.used self.fresh store.old store.new) }
+        ensures refused { OnErr result (KeepsSome self.used self.fresh store.old store.new) }
+        ensures rest { IsSameButCache store.old store.new }
+        ensures back { IfErr result (λ failed. failed.value ≡ self) }
+    {
+        let Computed {
+            task,
+            made,
+            mut used,
+            mut fresh,
+        } = self;
+        match keep_all(store, used.as_slice(), fresh.as_slice()) {
+            Ok(()) => {
+                used.clear();
+                fresh.clear();
+                Ok(Computed::new(task, made, used, fresh))
+            }
+            Err(_) => Err(AllocFailed {
+                value: Computed::new(task, made, used, fresh),
+            }),
+        }
     }
 
     /// Puts the block of a map task into a store. A refused call changes nothing and hands the
@@ -80,7 +116,12 @@ impl<W: Naming> Computed<W> {
         ensures refused { OnErr result (store.new ≡ store.old) }
         ensures back { IfErr result (λ failed. failed.value ≡ self) }
     {
-        let Computed { task, made } = self;
+        let Computed {
+            task,
+            made,
+            used,
+            fresh,
+        } = self;
         let Made::Block(block) = made else {
             unreachable!();
         };
@@ -88,7 +129,7 @@ impl<W: Naming> Computed<W> {
         match put_share(store, &block) {
             Ok(PutReceipt { generation }) => Ok(Stored::new(task, Loc { exec, generation })),
             Err(_) => Err(AllocFailed {
-                value: Computed::of_block(task, block),
+                value: Computed::new(task, Made::Block(block), used, fresh),
             }),
         }
     }
@@ -99,7 +140,7 @@ impl<W: Naming> Computed<W> {
         ensures { (given : TaskResult)
             × (result ≡ report_data self.task (Finding.Result given)) }
     {
-        let Computed { task, made } = self;
+        let Computed { task, made, .. } = self;
         match made {
             Made::Result(given) => Report::new(task, Finding::Result(given)),
             Made::Block(_) => unreachable!(),

@@ -1,8 +1,11 @@
 //! What a task leaves, computed from what was read.
 #![tactic(auto)]
 
-ghost use Rattle.std.specs.Prelude.{◌≡◌, ◌<◌, IfOk, OnErr, OnOk, Some, false, ℕ, length};
-ghost use Rattle.sc_compute.specs.Inputs.{HasInputs, IsUnmade};
+ghost use Rattle.std.specs.Prelude.{◌≡◌, ◌<◌, All, IfOk, OnErr, OnOk, Some, ℕ, length};
+ghost use Rattle.sc_compute.specs.Asking.{place_taken};
+ghost use Rattle.sc_compute.specs.Caching.{IsCachedPart, IsOwnPart};
+ghost use Rattle.sc_compute.specs.Inputs.{HasInputs, IsSame, IsUnmade};
+ghost use Rattle.sc_compute.specs.Needs.{AreFresh, places_in};
 ghost use Rattle.sc_compute.specs.Stages.{AreRight, HasBounds, HasMade, HasOutputs, mapped_in, node_at};
 ghost use Rattle.sc_compute.specs.Tasks.{HasAll, IsSideOf, IsTargetOf, Leaves, target_data_of};
 ghost use Rattle.sc_jobs.specs.JobData.{blocks_left};
@@ -10,34 +13,32 @@ ghost use Rattle.sc_jobs.specs.Plans.{MapsInto};
 ghost use Rattle.sc_lineage.specs.ScriptData.{node_of_action};
 ghost use Rattle.sc_lineage.specs.Views.{action_data_of};
 ghost use Rattle.sc_net.specs.Tasks.{target_of_task};
-ghost use Rattle.sc_task.specs.Caches.{IsSameButCache, has_cache};
-ghost use Rattle.sc_task.specs.Handing.{AreHanded, IsHanded, IsOfWork};
+ghost use Rattle.sc_task.specs.Handing.{AreHanded, AreHandedIn, IsHanded, IsOfWork};
 ghost use Rattle.sc_task.specs.States.{AreOf, HasReadAll};
 
-use crate::caching::left_with;
 use crate::cursors::parents_of;
-use sc_compute::{ShuffleInputs, TaskOutput, TaskTarget};
+use sc_compute::{CachedPart, ShuffleInputs, TaskOutput, TaskTarget, compute_cached};
 use sc_ids::{Stage, Target};
 use sc_lineage::{Action, Node, NodeId, Work};
 use sc_net::Task;
 use sc_shuffle::MapOutput;
-use sc_store::Store;
 use sc_work::Naming;
 use std::alloc::{AllocError, Global};
 
-/// What a task leaves, computed from what was read of its blocks and from what a store has cached.
-/// A refused call changes nothing.
+/// What a task leaves, computed from what was read of its blocks, where some partitions are known
+/// that aren't computed, and beside it the partitions of cache nodes that were.
 pub(crate) fn left_by<W: Naming>(
     alloc: Global,
     task: &Task<W>,
     got: &[MapOutput],
-    store: &mut Store<W>,
-) -> Result<TaskOutput, AllocError>
+    known: &[CachedPart],
+) -> Result<(TaskOutput, Vec<CachedPart>), AllocError>
     requires all { HasReadAll W.work task.now got.now }
-    ensures leaves { IfOk result (Leaves W.work (target_of_task W.work task.now)) }
-    ensures rest { IsSameButCache store.old store.new }
-    ensures uncached { has_cache W.work ≡ false → store.new ≡ store.old }
-    ensures refused { OnErr result (store.new ≡ store.old) }
+    requires known { All (IsOwnPart W.work) known.now }
+    ensures leaves { IfOk result (λ both. Leaves W.work (target_of_task W.work task.now) both.0) }
+    ensures own { IfOk result (λ both. All (IsCachedPart W.work) both.1.items) }
+    ensures fresh { IfOk result (λ both. AreFresh W.work (places_in known.now)
+        (place_taken W.work (target_of_task W.work task.now)) (places_in both.1.items)) }
 {
     task.is_task();
     let attempt = task.attempt();
@@ -47,12 +48,12 @@ pub(crate) fn left_by<W: Naming>(
         .job()
         .task_target(shared, attempt.stage, attempt.partition);
     let stages = made_for(alloc, work, task, got, target)?;
-    left_with(alloc, work, &stages, store, target)
+    compute_cached(alloc, work, &stages, known, target)
 }
 
-/// What has to be made before a target of a task's job can be computed, from what was read of the
-/// task's blocks.
-fn made_for<W: Naming>(
+/// What has to be made before a target of a task's job can be computed: its shuffles are read from
+/// what was read of the task's blocks, and from nothing else.
+pub(crate) fn made_for<W: Naming>(
     alloc: Global,
     work: &Work,
     task: &Task<W>,
@@ -65,6 +66,7 @@ fn made_for<W: Naming>(
     requires known { IsTargetOf work.now (target_data_of target) }
     ensures right { IfOk result (AreRight work.now) }
     ensures has { IfOk result (λ s. HasAll work.now s (target_data_of target.entry)) }
+    ensures handed { IfOk result (AreHandedIn task.now got.now) }
 {
     task.is_task();
     task.job().is_job();
@@ -97,6 +99,7 @@ fn made_to_map<W: Naming>(
     ensures right { IfOk result (AreRight work.now) }
     ensures made { IfOk result (λ s. HasMade s (mapped_in (node_at work.now node) side)) }
     ensures told { IfOk result (λ s. HasBounds s node (node_at work.now node)) }
+    ensures handed { IfOk result (λ s. s.handed ≡ stages.handed) }
 {
     work.is_sound();
     stages.prepare(alloc, work, mapped_by(work, node, side))?;
@@ -116,6 +119,7 @@ fn handed<W: Naming>(
     requires all { HasReadAll work.now task.now got.now }
     ensures right { IfOk result (AreRight work.now) }
     ensures handed { IfOk result (AreHanded task.now) }
+    ensures got { IfOk result (AreHandedIn task.now got.now) }
 {
     task.job().is_job();
     let mut stages = ShuffleInputs::new(alloc, work)?;
@@ -141,7 +145,7 @@ fn count_left(stage: &Stage) -> usize
     }
 }
 
-/// Hands in what the tasks of a stage left.
+/// Hands in what the tasks of a stage left. A refused call changes nothing.
 fn hand_in(
     alloc: Global,
     work: &Work,
@@ -158,6 +162,7 @@ fn hand_in(
     ensures handed { OnOk result (IsHanded stages.new stage.now) }
     ensures kept { OnOk result ((k side : ℕ) → HasOutputs stages.old k side
         → HasOutputs stages.new k side) }
+    ensures refused { OnErr result (IsSame stages.old stages.new) }
 {
     match stage.target() {
         Target::Map(shuffle) => {
@@ -179,7 +184,8 @@ fn shared(alloc: Global, outputs: &[MapOutput]) -> Result<Vec<MapOutput>, AllocE
     Ok(out)
 }
 
-/// Tells the bounds of a node that a map stage of the job deals out for, where it is a sort.
+/// Tells the bounds of a node that a map stage of the job deals out for, where it is a sort. A
+/// refused call changes nothing.
 fn tell_bounds<W: Naming>(
     work: &Work,
     task: &Task<W>,
@@ -192,6 +198,8 @@ fn tell_bounds<W: Naming>(
     ensures right { AreRight work.now stages.new }
     ensures told { OnOk result (HasBounds stages.new node (node_at work.now node)) }
     ensures kept { (k : ℕ) → HasMade stages.old k → HasMade stages.new k }
+    ensures handed { OnOk result (stages.new.handed ≡ stages.old.handed) }
+    ensures refused { OnErr result (IsSame stages.old stages.new) }
 {
     match task.job().bounds(node) {
         Some(bounds) => stages.tell_bounds(work, node, bounds.share()?),

@@ -2,6 +2,9 @@
 #![tactic(auto)]
 
 ghost use Rattle.std.specs.Prelude.{◌≡◌, All, Some, false};
+ghost use Rattle.sc_compute.specs.Asking.{place_taken};
+ghost use Rattle.sc_compute.specs.Caching.{IsCachedPart};
+ghost use Rattle.sc_compute.specs.Needs.{AreFresh, places_in};
 ghost use Rattle.sc_compute.specs.Results.{HandsOver};
 ghost use Rattle.sc_compute.specs.Tasks.{Leaves};
 ghost use Rattle.sc_compute.specs.declared.targets.TaskOutput.TheVariants.{Output};
@@ -10,13 +13,14 @@ ghost use Rattle.sc_lineage.specs.Targets.{own_value};
 ghost use Rattle.sc_net.specs.Reports.{IsWithoutRaise, report_data};
 ghost use Rattle.sc_net.specs.Tasks.{blocks_of_task, is_map_task, is_planned, target_of_task};
 ghost use Rattle.sc_net.specs.declared.findings.Finding.{Finding};
-ghost use Rattle.sc_task.specs.States.{computed_data};
+ghost use Rattle.sc_task.specs.States.{IsMade};
 ghost use Rattle.sc_task.specs.Steps.{Computes};
 
 use crate::computed::Computed;
+use crate::made::Made;
 use crate::took::Did;
 use sc_columns::Rows;
-use sc_compute::{TaskOutput as Left, TaskResult};
+use sc_compute::{CachedPart, TaskOutput as Left, TaskResult};
 use sc_expr::Raise;
 use sc_lineage::Stream;
 use sc_net::{Finding, Report, Task};
@@ -25,47 +29,49 @@ use sc_store::Block;
 use sc_work::Naming;
 
 /// What an attempt does whose task leaves this, where nothing that it reads raises and the plan
-/// doesn't fail it.
-pub(crate) fn did<W: Naming>(task: Task<W>, left: Left) -> Did<W>
+/// doesn't fail it; some partitions were known, and others were computed.
+pub(crate) fn did<W: Naming>(
+    task: Task<W>,
+    left: Left,
+    used: Vec<CachedPart>,
+    fresh: Vec<CachedPart>,
+) -> Did<W>
     requires left { Leaves W.work (target_of_task W.work task) left }
     requires inputs { All (IsWithoutRaise W.work) (blocks_of_task task) }
     requires planned { is_planned W.work task ≡ false }
-    ensures { Computes W.work task result }
+    requires own { All (IsCachedPart W.work) fresh.items }
+    requires fresh { AreFresh W.work (places_in used.items)
+        (place_taken W.work (target_of_task W.work task)) (places_in fresh.items) }
+    ensures { Computes W.work task used.items result }
 {
     match left {
-        Left::Output(output) => Did::Computed(of_output(task, output)),
+        Left::Output(output) => {
+            let made = of_output(&task, output);
+            Did::Computed(Computed::new(task, made, used, fresh))
+        }
         Left::Raised(raise) => Did::Failed(raised(task, raise)),
         Left::Result(stream) => {
             let Stream { rows, raise } = stream;
             match raise {
                 Some(raise) => Did::Failed(raised(task, raise)),
-                None => Did::Computed(of_rows(task, rows)),
+                None => {
+                    let made = Made::Result(handed_over(&task, rows));
+                    Did::Computed(Computed::new(task, made, used, fresh))
+                }
             }
         }
     }
 }
 
-/// An attempt that has computed the block of a map task.
-fn of_output<W: Naming>(task: Task<W>, output: MapOutput) -> Computed<W>
-    requires left { Leaves W.work (target_of_task W.work task) (Output output) }
-    requires planned { is_planned W.work task ≡ false }
-    ensures { result ≡ computed_data task }
+/// What a map task makes: its block.
+fn of_output<W: Naming>(task: &Task<W>, output: MapOutput) -> Made<W>
+    requires left { Leaves W.work (target_of_task W.work task.now) (Output output) }
+    ensures { IsMade W.work task.now result }
 {
     match task.block() {
-        Some(id) => Computed::of_block(task, Block::new(id, output)),
+        Some(id) => Made::Block(Block::new(id, output)),
         None => unreachable!(),
     }
-}
-
-/// An attempt that has computed the rows of a result.
-fn of_rows<W: Naming>(task: Task<W>, rows: Rows) -> Computed<W>
-    requires own { own_value W.work (target_of_task W.work task) ≡ whole_stream rows }
-    requires result { is_map_task task ≡ false }
-    requires planned { is_planned W.work task ≡ false }
-    ensures { result ≡ computed_data task }
-{
-    let given = handed_over(&task, rows);
-    Computed::of_result(task, given)
 }
 
 /// What the task of a result hands over of its rows, which are then let go where their number is

@@ -1,11 +1,13 @@
 //! How one attempt goes on.
 #![tactic(auto)]
 
-ghost use Rattle.std.specs.Prelude.{◌≡◌, IfErr, IfOk, OnErr, OnOk, Some};
+ghost use Rattle.std.specs.Prelude.{◌≡◌, IfErr, IfOk, List, OnErr, OnOk, Some};
+ghost use Rattle.sc_compute.specs.declared.caching.CachedPart.{CachedPart};
 ghost use Rattle.sc_net.specs.Tasks.{is_map_task};
 ghost use Rattle.sc_task.specs.Attempts.{assigned, attempt_data_of};
 ghost use Rattle.sc_task.specs.Caches.{IsSameButCache};
 ghost use Rattle.sc_task.specs.Nexts.{next_of};
+ghost use Rattle.sc_task.specs.Steps.{Computes};
 ghost use Rattle.sc_task.specs.declared.next.Next.{Next};
 ghost use Rattle.sc_world.specs.Places.{AreInOrder, FetchStands, FetchesTo, IsAtRest, NextStands};
 ghost use Rattle.sc_world.specs.Steps.{HasMade, Makes, ReadsAt, phase_of, phase_reading};
@@ -13,7 +15,7 @@ ghost use Rattle.sc_world.specs.Steps.{HasMade, Makes, ReadsAt, phase_of, phase_
 use crate::places::AttemptState;
 use sc_net::Task;
 use sc_store::Store;
-use sc_task::{Assigned, Attempt, Computed, Did, Next, Took};
+use sc_task::{Assigned, Attempt, Computed, Did, Next, Read, Took};
 use sc_work::Naming;
 use std::alloc::{AllocFailed, Global};
 
@@ -78,8 +80,9 @@ fn fetch_next<W: Naming>(
     }
 }
 
-/// The attempt that has computed, unless it fails: then it is to report. A refused call hands it
-/// back.
+/// The attempt that has computed, unless it fails: then it is to report. Partitions of cache nodes
+/// that the store has it takes from there before, and others it keeps there behind, as long as
+/// there is memory for them. A refused call hands it back.
 pub(crate) fn compute_next<W: Naming>(
     alloc: Global,
     state: Assigned<W>,
@@ -92,10 +95,45 @@ pub(crate) fn compute_next<W: Naming>(
     ensures back { IfErr result (λ failed. failed.value ≡ state) }
     ensures same { OnErr result (store.new ≡ store.old) }
 {
-    match state.compute(alloc, store) {
-        Ok(Did::Computed(computed)) => Ok(made_of(computed)),
+    match did_of(alloc, state.ready(alloc), store) {
+        Ok(Did::Computed(computed)) => Ok(made_of(kept(computed, store))),
         Ok(Did::Failed(report)) => Ok(Attempt::Reported(report)),
+        Err(failed) => {
+            let read = failed.value;
+            Err(AllocFailed {
+                value: read.reading(),
+            })
+        }
+    }
+}
+
+/// What an attempt does that has read all: it takes from the store what that has, and computes. A
+/// refused call hands it back.
+fn did_of<W: Naming>(
+    alloc: Global,
+    read: Read<W>,
+    store: &Store<W>,
+) -> Result<Did<W>, AllocFailed<Read<W>>>
+    ensures did { IfOk result (λ did. (known : List CachedPart)
+        × Computes W.work read.task known did) }
+    ensures task { IfErr result (λ failed. failed.value.task ≡ read.task) }
+    ensures got { IfErr result (λ failed. failed.value.got ≡ read.got) }
+{
+    match read.cached(alloc, store) {
+        Ok(read) => read.compute(alloc),
         Err(failed) => Err(failed),
+    }
+}
+
+/// An attempt whose partitions of cache nodes were kept in the store, as long as there was memory
+/// for them.
+fn kept<W: Naming>(computed: Computed<W>, store: &mut Store<W>) -> Computed<W>
+    ensures task { result.task ≡ computed.task }
+    ensures cached { IsSameButCache store.old store.new }
+{
+    match computed.keep(store) {
+        Ok(kept) => kept,
+        Err(failed) => failed.value,
     }
 }
 

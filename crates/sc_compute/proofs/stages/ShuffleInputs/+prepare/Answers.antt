@@ -1,10 +1,10 @@
-use Rattle.std.proofs.Common.{◌≡◌, ◌∙◌, ℕ, ◌<◌, Some, Contains, refl, sym, arith}
+use Rattle.std.proofs.Common.{◌≡◌, ◌∙◌, ℕ, ◌<◌, None, Some, Contains, refl, sym, arith}
 use Rattle.sc_lineage.specs.Dependencies.{parents_of}
 use Rattle.sc_lineage.specs.Views.{node_data_of}
 use Rattle.sc_lineage.proofs.MeaningLemmas.{reads_before}
 use Rattle.sc_compute.specs.Inputs.{Grows, direct_parents}
-use Rattle.sc_compute.specs.Stages.{AreRight, HasMade, handed_in}
-use Rattle.sc_compute.proofs.InputLemmas.{grows_last, grows_none, grows_on, grows_parent, inputs_of_parent, inputs_stay, left_read, takes_itself}
+use Rattle.sc_compute.specs.Stages.{AreRight, HasMade, handed_in, made_in}
+use Rattle.sc_compute.proofs.InputLemmas.{grows_last, grows_none, grows_on, grows_parent, inputs_of_parent, inputs_stay, left_read, none_made, still_made, takes_itself, unmade_still}
 use Rattle.sc_compute.proofs.LeftLemmas.{left_same, of_left}
 use Rattle.sc_compute.proofs.StageLemmas.{hold_both, of_same}
 use Rattle.sc_compute.proofs.stages.ShuffleInputs.+prepare.Goals.{in-Some+in_ok-prepare, in_default, in-Some-second+in_ok-prepare-2, in_default-second}
@@ -99,7 +99,9 @@ prepare_behind-requires-clause-parents t c =
     let kept : (k : ℕ) → HasMade c.match-parents.self k → HasMade c.match-parents-2.self k =
     elim c.match-parents-2.branch [
       | in-Some-second+in_ok-prepare-2 w ↦
-          rw w.self-is w.prepare-in-Some-second.ensures.grows.kept
+          rw w.self-is
+          (λ k made. still_made c.match-parents.self w.prepare-in-Some-second.new.self k
+          (w.prepare-in-Some-second.ensures.grows.kept k made) made)
       | in_default-second w ↦ rw w.self-is (λ k made. made)
     ] in
     let at_second : (p : ℕ) → parents.second ≡ Some p → HasMade c.match-parents-2.self p =
@@ -134,6 +136,37 @@ prepare_behind-requires-clause-sides t c =
     ] in
     inputs_stay work before after c.args.node (same_second ∙ same_first) c.requires.inputs
     c.args.node (takes_itself work c.args.node)
+
+pub prepare_behind-requires-clause-unmade : goal.prepare_behind-requires-clause-unmade
+prepare_behind-requires-clause-unmade t c =
+    let work = c.args.work.now in
+    let before = c.args.self.now in
+    let k = c.args.node in
+    let parents = c.parents_left-parents.result in
+    let node = node_data_of c.node_in.result.now in
+    let all = reads_before work.script k node c.is_sound.ensures.script c.node_in.ensures.found in
+    let none : made_in before k ≡ None =
+    none_made (made_in before k) (sym c.contains_key.ensures ∙ c.if-contains_key.false) in
+    let first : made_in c.match-parents.self k ≡ None =
+    elim c.match-parents.branch [
+      | in-Some+in_ok-prepare w ↦
+          rw w.self-is
+          (unmade_still work c.is_sound.ensures.script k w.in-Some.parent before w.prepare.new.self
+          (of_left (λ q. q < k) (parents_of node) 0 (handed_in before k 0) parents.first
+          w.in-Some.parent c.parents_left-parents.ensures.first w.in-Some.is all)
+          w.prepare.ensures.grows none)
+      | in_default w ↦ rw w.self-is none
+    ] in
+    elim c.match-parents-2.branch [
+      | in-Some-second+in_ok-prepare-2 w ↦
+          rw w.self-is
+          (unmade_still work c.is_sound.ensures.script k w.in-Some-second.parent
+          c.match-parents.self w.prepare-in-Some-second.new.self
+          (of_left (λ q. q < k) (parents_of node) 1 (handed_in before k 1) parents.second
+          w.in-Some-second.parent c.parents_left-parents.ensures.second w.in-Some-second.is all)
+          w.prepare-in-Some-second.ensures.grows first)
+      | in_default-second w ↦ rw w.self-is first
+    ]
 
 pub returns-in_err-prepare-clause-grows : goal.returns-in_err-prepare-clause-grows
 returns-in_err-prepare-clause-grows t c =

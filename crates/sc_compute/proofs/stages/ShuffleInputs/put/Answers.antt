@@ -47,4 +47,5 @@ returns-in_err-insert-clause-makes c =
 
 pub returns-clause-makes : goal.returns-clause-makes
 returns-clause-makes c =
-    makes_put c.args.node c.args.self.now _ c.args.sides c.in_ok-insert.ensures.updates.0 refl refl
+    makes_put c.args.node c.args.self.now _ c.args.sides c.requires.unmade
+    c.in_ok-insert.ensures.updates.0 refl refl
