@@ -2,9 +2,11 @@
 #![tactic(auto)]
 
 ghost use Rattle.std.specs.Prelude.{◌≡◌, IfSome};
+ghost use Rattle.sc_files.specs.Calls.{counts_of};
 ghost use Rattle.sc_staging.specs.StagingData.{AreThere};
 
 use sc_files::Files;
+use sc_ids::Counts;
 use sc_value::Name;
 use std::marker::Model;
 
@@ -35,6 +37,13 @@ impl<F: Files> Staging<F> {
         ensures { IfSome self.now.files.shown (AreThere self.now.dir) }
     {
         let _ = &self.area;
+    }
+
+    /// How many calls on the files failed, and how many clashed with what was there.
+    pub fn counts(&self) -> Counts
+        ensures { result ≡ counts_of self.now.files }
+    {
+        self.files.counts()
     }
 
     /// Gives the files back, and changes nothing.
