@@ -16,10 +16,6 @@ use Rattle.sc_core.proofs.OpeningLemmas.{openings_by}
 use Rattle.sc_core.proofs.SideLemmas.{aside_left, steps_aside}
 use Rattle.sc_core.proofs.StepLemmas.{replays_keep_by, steps_keep_by}
 use Rattle.sc_core.proofs.WaitLemmas.{waits_by}
-use Rattle.sc_core.proofs.SaveTellLemmas.{failure_saves}
-use Rattle.sc_core.proofs.SaveResultLemmas.{result_saves}
-use Rattle.sc_core.proofs.SaveStepLemmas.{lose_saves, shelved_saves, task_saves}
-use Rattle.sc_core.proofs.SaveAsideLemmas.{sides_save}
 
 pub waits_have_cause : WaitsHaveCause
 waits_have_cause = waits_by nothing_is_stuck

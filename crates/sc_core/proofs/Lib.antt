@@ -51,6 +51,7 @@ pub mod AbortLemmas
 pub mod EndLemmas
 pub mod TakeAgreeLemmas
 pub mod AgreeLemmas
+pub mod SaveOpenLemmas
 pub mod OpeningLemmas
 pub mod SubmitLemmas
 pub mod TakeAnswerLemmas

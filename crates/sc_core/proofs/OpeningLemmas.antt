@@ -36,6 +36,7 @@ use Rattle.sc_core.proofs.StageCallLemmas.{submitted_calm}
 use Rattle.sc_core.proofs.MoveLemmas.{Calm}
 use Rattle.sc_core.proofs.StateLemmas.{runs_in}
 use Rattle.sc_core.proofs.CallCarryLemmas.{submitted_carries}
+use Rattle.sc_core.proofs.SaveOpenLemmas.{opened_saves}
 use Rattle.sc_core.proofs.StaffLemmas.{live_still}
 use Rattle.sc_core.proofs.TrackerCarryLemmas.{live_as}
 use Rattle.sc_tracker.proofs.BlockLemmas.{sizes_for_all}
@@ -230,6 +231,8 @@ openings_by calls opening settles graph limits saved plan last c job fits sound 
     record {
       job = sound_job;
       shelf = λ r. sound_shelf;
+      save = λ r. opened_saves c o.dag before saved (this_stage (result_stage o.dag)) o.submits
+          sound_job.result o.opens.states o.running o.committers;
       lost = λ e h. rw (o.told, o.plan_is)
           (planned last sound e (sym (trust e) ∙ h));
       told = rw o.told (counts last sound);

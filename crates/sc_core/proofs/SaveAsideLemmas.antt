@@ -540,8 +540,12 @@ asks_save c after a said job save s asks = at (slice_get c.committers a.partitio
         → AsksBy (permitted_at a o) c a said after → IsSoundSave after
     at None e (says, is) = subst IsSoundSave (sym is) save
     at (Some k) e h =
-        by k e (search (rules, e, at_or_slice_get c.committers a.partition Nobody
-        (slice_get_within c.committers a.partition k e))) h
+        by k e (search (
+          rules,
+          e,
+          at_or_slice_get c.committers a.partition Nobody
+              (slice_get_within c.committers a.partition k e),
+        )) h
 
 -- ---- any event beside the reports
 

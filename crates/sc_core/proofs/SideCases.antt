@@ -54,9 +54,12 @@ there c (Ask a) = by (is_staged (saver_phase c a))
         → AsksBy permission c a s x → Are said next s x) × AsksBy permission c a said next
     asks permissions.Granted =
         (sides.Granted, come_to (asked c a) a phases.Granted, λ s x h. h, (refl, refl))
-    asks (permissions.Denied other) =
-        (sides.Denied other, come_to (held_back (asked c a) a) a phases.Denied, λ s x h. h,
-        (refl, refl))
+    asks (permissions.Denied other) = (
+      sides.Denied other,
+      come_to (held_back (asked c a) a) a phases.Denied,
+      λ s x h. h,
+      (refl, refl),
+    )
     asks permissions.Over = (sides.Over, c, λ s x h. h, (refl, refl))
 
     by : (b : Bool) → (said : SideAnswer) × (next : CoreData) × ((s : SideAnswer) (x : CoreData)

@@ -271,8 +271,11 @@ aside_job c after is frees sound =
           (pairs_further is.further is.each c.running sound.apart);
       budget = rw (is.handed, frees.calm.limits) sound.budget;
       goes_on = λ h. goes (sound.goes_on (ap is_running_job (sym is.job) ∙ h));
-      done = λ h. rw (result_same, complete_same c.dag after.dag (result_stage c.dag)
-          frees.calm.stages (frees.results (result_stage c.dag)) sound.result)
+      done = λ h. rw (
+        result_same,
+        complete_same c.dag after.dag (result_stage c.dag)
+            frees.calm.stages (frees.results (result_stage c.dag)) sound.result,
+      )
           (sound.done (sym is.job ∙ h));
     }
   where

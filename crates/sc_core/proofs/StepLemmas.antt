@@ -5,14 +5,15 @@ use Rattle.std.proofs.lemmas.List.Elements.{All-weaker}
 use Rattle.sc_ids.specs.declared.attempts.AttemptId.{AttemptId}
 use Rattle.sc_taskset.proofs.FindLemmas.{found_is, found_passes}
 use Rattle.sc_dag.specs.Laws.{CallsKeepSound, FailuresGoOn, MapSuccessesGoOn, OthersGoOn, ResultSuccessesGoOn}
-use Rattle.sc_core.specs.CoreData.{CoreData, as_in, has_key, is_of, job_runs, running_of, shelved, shelved_if, shelved_of, taken_off, told_once, without_shelved}
+use Rattle.sc_core.specs.CoreData.{CoreData, as_in, has_key, is_of, is_running_job, job_runs, running_of, shelved, shelved_if, shelved_of, taken_off, told_once, without_shelved}
 use Rattle.sc_core.specs.Laws.{ReplaysKeepSound, StepsKeepSound}
 use Rattle.sc_core.specs.Posts.{PostsBy, PostsIf, PostsOf, TellsNow, comes_twice, delay_for, fits}
 use Rattle.sc_tracker.specs.Trust.{are_lost}
 use Rattle.sc_core.specs.declared.answers.Abort.TheVariants.{NoExecutor}
 use Rattle.sc_core.specs.Losses.{LosesOrAborts, without_executor}
 use Rattle.sc_core.specs.Releases.{ReleasesIf, ReleasesOf}
-use Rattle.sc_core.specs.Sound.{AreLostAsPlanned, IsShelvedWell, IsSoundCore, IsSoundJob, IsStaffed, RunsWell, is_shelved}
+use Rattle.sc_core.specs.Sound.{AreLostAsPlanned, IsShelvedWell, IsSoundCore, IsSoundJob, IsSoundSave, IsStaffed, RunsWell, SavesWell, is_shelved}
+use Rattle.sc_core.specs.Sides.{StepsAside}
 use Rattle.sc_core.specs.Tells.{Tells, TellsTo}
 use Rattle.sc_core.specs.declared.events.Event.TheVariants.{Post, Release, Side, Take, TellLost}
 use Rattle.sc_core.specs.declared.events.Outcome.{Outcome}
@@ -30,7 +31,12 @@ use Rattle.sc_core.proofs.FailureLemmas.{failure_keeps}
 use Rattle.sc_core.proofs.MapLemmas.{map_keeps}
 use Rattle.sc_core.proofs.ResultLemmas.{result_keeps}
 use Rattle.sc_core.proofs.StaffLemmas.{live_still, not_all_lost, runs_not_aborted}
-use Rattle.sc_core.proofs.SideLemmas.{aside_sound, steps_aside}
+use Rattle.sc_core.proofs.SaveAsideLemmas.{sides_save}
+use Rattle.sc_core.proofs.SaveResultLemmas.{result_saves}
+use Rattle.sc_core.proofs.SaveStepLemmas.{lose_saves, shelved_saves}
+use Rattle.sc_core.proofs.SaveTellLemmas.{calm_saves, failure_saves, map_saves}
+use Rattle.sc_core.proofs.SideLemmas.{aside_sound, may_hold, steps_aside}
+use Rattle.sc_dag.proofs.Tests.{both_left}
 
 -- what a report of a running attempt is told of
 pub record IsPosted (c : CoreData) (a : AttemptId) (r : Running) : Type 0 where
@@ -44,6 +50,24 @@ posted c a r sound e =
       attempt = same_is r.hand_out.attempt a (found_passes (is_of a) c.running r e);
       well = found_is (RunsWell c) (is_of a) c.running r sound.running e;
     }
+
+-- it is as far as its grant tells
+posted_far : (c : CoreData) (a : AttemptId) (r : Running) → IsSoundSave c
+    → running_of c a ≡ Some r → SavesWell c r
+posted_far c a r save e = found_is (SavesWell c) (is_of a) c.running r save.phases e
+
+-- what a report that fits leaves of who may commit
+tells_save :
+    CallsKeepSound → OthersGoOn → (c after : CoreData) (r : Running) (outcome : Outcome)
+    (answer : Answer) → IsSoundJob c → RunsWell c r → SavesWell c r → IsSoundSave c
+    → fits c r outcome ≡ true → Tells (taken_off c r.hand_out.attempt) r outcome answer after
+    → job_runs after ≡ true → IsSoundSave after
+tells_save calls others c after r (outcomes.Map loc) answer job well far save fit tells on =
+    map_saves c after r loc answer job save fit tells
+tells_save calls others c after r outcomes.Result answer job well far save fit tells on =
+    result_saves calls others c after r answer job well far save fit tells on
+tells_save calls others c after r (outcomes.Failed cause) answer job well far save fit tells on =
+    failure_saves c after r cause answer job save tells
 
 -- what a report that fits leaves of what runs
 tells_keep :
@@ -74,15 +98,17 @@ tells_leave :
     → All (λ q. is_of a q ≡ false → q.is_out ≡ false
     → is_shelved c.shelf q.hand_out.attempt ≡ true) c.running
     → All (IsShelvedWell c) c.shelf → AllPairs (λ s t. s.key < t.key) c.shelf
-    → AreLostAsPlanned c → c.told < 2 ^ 64 → IsStaffed c
+    → AreLostAsPlanned c → c.told < 2 ^ 64 → IsStaffed c → IsSoundSave c → SavesWell c r
     → Tells (taken_off c a) r outcome answer after → IsSoundCore after
 tells_leave calls maps results failures others c after a r outcome answer sound job p fit out each
-    rising lost count staffed tells =
+    rising lost count staffed save far tells =
     let left = tells_left (taken_off c a) after r outcome answer tells in
     record {
       job = tells_keep calls maps results failures others c after r outcome answer sound job p.well
           fit (subst (λ b. Tells (taken_off c b) r outcome answer after) (sym p.attempt) tells);
       shelf = told_shelf c after a out each rising left;
+      save = tells_save calls others c after r outcome answer sound p.well far save fit
+          (subst (λ b. Tells (taken_off c b) r outcome answer after) (sym p.attempt) tells);
       lost = planned_still c after lost left.lost left.plan
           (rw left.told (counted_more c.told count));
       told = rw left.told (counted_fits c.told);
@@ -99,6 +125,7 @@ shelved_sound c a r outcome delay sound job e fit =
     record {
       job = shelved_job c a outcome delay sound.job;
       shelf = λ h. shelved_shelf c a r outcome delay sound.job e fit (sound.shelf job);
+      save = λ h. shelved_saves c a outcome delay sound.job (sound.save job);
       lost = sound.lost;
       told = sound.told;
       staffed = sound.staffed;
@@ -151,7 +178,7 @@ steps_keep_by calls maps results failures others c after (Post a outcome) answer
         → is_shelved c.shelf q.hand_out.attempt ≡ true) (λ q h other. h) c.running
         (sound.shelf job).out)
         (sound.shelf job).each (sound.shelf job).rising sound.lost sound.told sound.staffed
-        (rw e at tells)
+        (sound.save job) (posted_far c a r (sound.save job) e) (rw e at tells)
     at_once r e job fit true tells =
         let next = shelved c a outcome 0 in
         let s = shelved_runs c a r outcome 0 sound job e fit in
@@ -161,7 +188,8 @@ steps_keep_by calls maps results failures others c after (Post a outcome) answer
         (All-weaker (λ q. q.is_out ≡ false → is_shelved next.shelf q.hand_out.attempt ≡ true)
         (λ q. is_of a q ≡ false → q.is_out ≡ false
         → is_shelved next.shelf q.hand_out.attempt ≡ true) (λ q h other. h) next.running shelf.out)
-        shelf.each shelf.rising s.sound.lost s.sound.told s.sound.staffed (rw s.found at tells)
+        shelf.each shelf.rising s.sound.lost s.sound.told s.sound.staffed (s.sound.save job)
+        (posted_far next a s.one (s.sound.save job) s.found) (rw s.found at tells)
 
     posts : (r : Running) → running_of c a ≡ Some r → job_runs c ≡ true
         → fits c r outcome ≡ true → (delay : Option ℕ)
@@ -177,6 +205,7 @@ steps_keep_by calls maps results failures others c after (Post a outcome) answer
         (record {
           job = counted_keeps c sound.job;
           shelf = λ h. alike_shelf c (told_once c) refl refl refl refl refl (sound.shelf job);
+          save = λ h. calm_saves c (told_once c) sound.job refl refl refl (sound.save job);
           lost = planned_still c (told_once c) sound.lost (λ x. refl) refl
               (counted_more c.told sound.told);
           told = counted_fits c.told;
@@ -196,6 +225,9 @@ steps_keep_by calls maps results failures others c after (Release key) answer so
     kept : IsSoundJob next
     kept = calm_sound c next sound.job refl refl refl sound.job.goes_on sound.job.done
 
+    saved : job_runs c ≡ true → IsSoundSave next
+    saved job = calm_saves c next sound.job refl refl refl (sound.save job)
+
     told : (s : Shelved) → Unshelved c next s.attempt → job_runs c ≡ true → IsShelvedWell c s
         → (o : Option Running) → running_of c s.attempt ≡ o
         → TellsTo o next s.attempt s.outcome answer after → IsSoundCore after
@@ -204,6 +236,7 @@ steps_keep_by calls maps results failures others c after (Release key) answer so
         (record {
           job = counted_keeps next kept;
           shelf = λ h. unshelved_told c next s.attempt u e;
+          save = λ h. calm_saves c (told_once next) sound.job refl refl refl (sound.save job);
           lost = planned_still c (told_once next) sound.lost (λ x. refl) refl
               (counted_more c.told sound.told);
           told = counted_fits c.told;
@@ -214,7 +247,8 @@ steps_keep_by calls maps results failures others c after (Release key) answer so
         tells_leave calls maps results failures others next after s.attempt r s.outcome answer
         kept job (posted next s.attempt r kept e)
         (fits_still c next r s.outcome refl refl await.fit) u.out u.each u.rising sound.lost
-        sound.told sound.staffed tells
+        sound.told sound.staffed (saved job)
+        (posted_far next s.attempt r (saved job) e) tells
 
     of : (o : Option Shelved) → shelved_of c key ≡ o → job_runs c ≡ true
         → ReleasesOf o c key answer after → IsSoundCore after
@@ -228,7 +262,12 @@ steps_keep_by calls maps results failures others c after (Release key) answer so
     by false e (says, is) = subst IsSoundCore (sym is) sound
     by true e h = of (shelved_of c key) refl e h
 steps_keep_by calls maps results failures others c after (Side event) answer sound step =
-    aside_sound c after (steps_aside c after event answer step) sound
+    let is = steps_aside c after event answer step in
+    aside_sound c after is (may_hold calls others c.dag after.dag is.dag) sound
+    (λ h. saved step (sym (ap is_running_job is.job) ∙ h))
+  where
+    saved : StepsAside c event answer after → job_runs c ≡ true → IsSoundSave after
+    saved (said, told, sides) job = sides_save c after event said sound.job (sound.save job) sides
 steps_keep_by calls maps results failures others c after (TellLost exec) answer sound (may, step) =
     by (are_lost (without_executor c exec).dag.tracker.trust) refl step
   where
@@ -248,6 +287,8 @@ steps_keep_by calls maps results failures others c after (TellLost exec) answer 
         (record {
           job = left.job;
           shelf = λ r. left.shelf;
+          save = λ r. lose_saves c exec sound.job
+              (sound.save (both_left (job_runs c) _ may));
           lost = left.lost;
           told = left.told;
           staffed = λ other. not_all_lost next.dag.tracker e;

@@ -29,6 +29,7 @@ use Rattle.sc_core.proofs.LookupLemmas.{is_itself, same_is, set_of_newest}
 use Rattle.sc_core.proofs.MoveLemmas.{Moves, state_results}
 use Rattle.sc_core.proofs.OfferLemmas.{IsOffered, handed_out_moves, offered, offered_may, offered_new}
 use Rattle.sc_core.proofs.RunningLemmas.{none_passes, same_sym}
+use Rattle.sc_core.proofs.SaveStepLemmas.{task_saves}
 use Rattle.sc_core.proofs.ShelfLemmas.{task_shelf}
 use Rattle.sc_core.proofs.StaffLemmas.{runs_not_aborted}
 use Rattle.sc_core.proofs.TakeCases.{TakesSo, takes_so}
@@ -75,6 +76,7 @@ aborted_sound c why job lost told staffed =
       job = calm_sound c (ended c (jobs.Aborted why)) job refl refl refl
           (λ h. absurd (true≢false (sym h))) (λ h. search (rules, h));
       shelf = λ h. absurd (true≢false (sym h));
+      save = λ h. absurd (true≢false (sym h));
       lost = lost;
       told = told;
       staffed = staffed;
@@ -222,6 +224,8 @@ takes_keep calls others c after exec answer sound step = by (takes_so c after ex
           job = task_sound c exec t.task calls others sound.job t.asking t.out t.below;
           shelf = λ r. task_shelf c exec t.task sound.job t.asking t.out
               (sound.shelf t.asking.runs);
+          save = λ r. task_saves c exec t.task sound.job t.asking t.out
+              (sound.save t.asking.runs);
           lost = sound.lost;
           told = sound.told;
           staffed = sound.staffed;

@@ -1,5 +1,5 @@
 -- The task sets that calls begin are born no earlier than they are made.
-use Rattle.std.proofs.Common.{◌≡◌, ℕ, ◌≤◌, ◌==◌, Bool, true, false, if◌then◌else◌, List, [], ◌∷◌, ◌++◌, All, Option, Some, None, option_map, slice_get, refl, ap, sym, subst, ◌∙◌, append-nil, append_assoc, arith}
+use Rattle.std.proofs.Common.{◌≡◌, inl, inr, ℕ, ◌≤◌, ◌==◌, Bool, true, false, if◌then◌else◌, List, [], ◌∷◌, ◌++◌, All, Option, Some, None, option_map, slice_get, refl, ap, sym, subst, ◌∙◌, append-nil, append_assoc, arith}
 use Rattle.std.proofs.lemmas.Bool.Decides.{nat_tests}
 use Rattle.std.proofs.lemmas.List.Elements.{All-append, All-cons, All-nil, All-weaker}
 use Rattle.std.proofs.lemmas.Option.{slice_get-map}
@@ -22,8 +22,9 @@ use Rattle.sc_dag.specs.DagData.{DagData, StageState, changed_newest, changed_se
 use Rattle.sc_dag.specs.Losses.{after_lost, after_seen, without_executor}
 use Rattle.sc_dag.specs.Offers.{handed_out}
 use Rattle.sc_dag.specs.Outputs.{has_inputs, is_complete}
-use Rattle.sc_dag.specs.Reports.{CompletesMap, FailsStage, after_failed, after_hold, after_map_success, after_result_success, block_by, completed, completed_if, ended_in_own, failed_attempt, forgiven, in_own_set, is_of_newest, is_repeat, registered_by, succeeded_in_both, succeeded_in_own, with_failed, with_output, with_result}
+use Rattle.sc_dag.specs.Reports.{CompletesMap, FailsStage, after_failed, after_hold, after_map_success, after_result_success, block_by, completed, completed_if, ended_in_own, failed_attempt, forgiven, in_own_set, is_of_newest, is_repeat, registered_by, succeeded_in_both, succeeded_in_own, told_held, with_failed, with_output, with_result}
 use Rattle.sc_dag.specs.Submission.{IsSubmitted, as_waiting, moved_if, started, this_stage, waiting_stages}
+use Rattle.sc_core.specs.Sides.{MayHold}
 use Rattle.sc_dag.proofs.Births.{KeepsBirths, births_changed, births_mapped, births_newest, births_own}
 use Rattle.sc_dag.proofs.Items.{by_number_at}
 use Rattle.sc_dag.proofs.SoundSubmissions.{births_started}
@@ -150,7 +151,15 @@ failed_later d a cause =
     own_later d a (λ set. after_failure set a.partition a.nth cause) (λ set. refl)
 
 pub hold_later : (d : DagData) (s p : ℕ) (denied : Bool) → Later d (after_hold d s p denied)
-hold_later d s p denied = newest_later d s (λ set. after_held set p denied) (λ set. refl)
+hold_later d s p denied =
+    later_state d s (told_held p denied) (λ state. refl)
+    (λ state. births_newest (λ set. after_held set p denied) (λ set. refl) state)
+
+-- where a partition may be held back
+pub may_hold_later : (d after : DagData) → MayHold d after → Later d after
+may_hold_later d after (inl is) = later_is d after is
+may_hold_later d after (inr (s, p, denied, is)) =
+    subst (λ x. Later d x) (sym is) (hold_later d s p denied)
 
 ended_later : (d : DagData) (a : AttemptId) → Later d (ended_in_own d a)
 ended_later d a = own_later d a (λ set. after_end set a.partition a.nth) (λ set. refl)

@@ -9,6 +9,7 @@ use Rattle.sc_plan.specs.declared.lines.PlanLine.{PlanLine}
 use Rattle.sc_dag.specs.DagData.{DagData}
 use Rattle.sc_dag.specs.Losses.{after_lost}
 use Rattle.sc_dag.specs.Submission.{IsSubmitted, this_stage}
+use Rattle.sc_core.proofs.SideLemmas.{held_limits}
 use Rattle.sc_core.specs.CoreData.{CoreData, job_runs, result_stage, with_dag}
 use Rattle.sc_core.specs.Journals.{Replays}
 use Rattle.sc_core.specs.Openings.{IsOpening}
@@ -85,9 +86,10 @@ comes_count : (c after : CoreData) (event : Event) (answer : Answer) → Comes c
 comes_count c after event answer (inl q) =
     record {
       handed = (let same = q.handed in omega (arith, same));
-      limits = ap (λ (d : DagData). d.limits) q.dag;
-      within = λ h. rw (q.handed, q.dag) h;
-      spent = λ spent e. rw (q.handed, q.dag) (spent (sym q.job ∙ e));
+      limits = held_limits c.dag after.dag q.dag;
+      within = λ h. rw (q.handed, held_limits c.dag after.dag q.dag) h;
+      spent = λ spent e. rw (q.handed, held_limits c.dag after.dag q.dag)
+          (spent (sym q.job ∙ e));
     }
 comes_count c after event answer (inr h) =
     record {

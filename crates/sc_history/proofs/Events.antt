@@ -27,15 +27,18 @@ use Rattle.sc_core.proofs.ShelfLemmas.{awaits_it, find_in, fits_in}
 use Rattle.sc_core.proofs.StepLemmas.{posted}
 use Rattle.sc_history.specs.Results.{is_finish}
 use Rattle.sc_history.specs.Tellings.{is_heard, telling, tellings_in, told_late}
-use Rattle.sc_core.specs.Sides.{StepsAside}
+use Rattle.sc_core.specs.Sides.{MayHold, StepsAside}
 use Rattle.sc_core.specs.declared.events.SideEvent.{SideEvent}
+use Rattle.sc_core.proofs.SideCases.{ended_aside}
 use Rattle.sc_core.proofs.SideLemmas.{steps_aside}
 
 -- ---- reports
 
--- no report is heard, and nothing changes but which ones are still to be told
+-- No report is heard, and nothing changes but which ones are still to be told, and whether a
+-- partition is held back while the job runs.
 pub record IsQuiet (c after : CoreData) (answer : Answer) : Type 0 where
-  pub dag : after.dag ≡ c.dag
+  pub dag : MayHold c.dag after.dag
+  pub ended : job_runs c ≡ false → after.dag ≡ c.dag
   pub job : after.job ≡ c.job
   pub handed : after.handed ≡ c.handed
   pub unheard : is_heard answer ≡ false
@@ -74,7 +77,8 @@ quiet :
     → after ≡ d → IsQuiet c after answer
 quiet c after d answer said dag job handed unheard unfinished told is =
     record {
-      dag = ap (λ (x : CoreData). x.dag) is ∙ dag;
+      dag = inl (ap (λ (x : CoreData). x.dag) is ∙ dag);
+      ended = λ e. ap (λ (x : CoreData). x.dag) is ∙ dag;
       job = ap (λ (x : CoreData). x.job) is ∙ job;
       handed = ap (λ (x : CoreData). x.handed) is ∙ handed;
       unheard = ap is_heard told ∙ unheard;
@@ -233,6 +237,7 @@ sides_come c after event answer step =
     let is = steps_aside c after event answer step in
     inl (record {
       dag = is.dag;
+      ended = λ e. ap (λ (x : CoreData). x.dag) (ended_aside c after event answer e step);
       job = is.job;
       handed = is.handed;
       unheard = ap is_heard step.1;

@@ -34,7 +34,7 @@ use Rattle.sc_history.specs.StageEvidence.{is_miss_of, number_of}
 use Rattle.sc_history.specs.Tellings.{Telling, is_heard, telling, tellings_in}
 use Rattle.sc_history.proofs.Events.{Comes, posts_come, releases_come, sides_come}
 use Rattle.sc_history.proofs.Growing.{IsCalm, Slot, attempt_among, dag_submitted, numbered_slot}
-use Rattle.sc_history.proofs.GrowingCalls.{Grows, failed_grows, losses_grow, maps_grow, results_grow, takes_grow}
+use Rattle.sc_history.proofs.GrowingCalls.{Grows, failed_grows, losses_grow, maps_grow, may_hold_grows, results_grow, takes_grow}
 use Rattle.sc_history.proofs.Picking.{is_there}
 use Rattle.sc_history.proofs.Keeping.{IsChanged, changed_among}
 
@@ -68,7 +68,7 @@ flags_calm L =
       loses = λ x exec h. h;
       stops = λ x h. h;
       forgives = λ x h. absurd (true≢false (sym h));
-      begins = λ t stage results. refl;
+      begins = λ t stage results held. refl;
       stays = λ x y h new. by y.has_failed (λ e. clash (h e) new);
     }
   where
@@ -280,7 +280,9 @@ tells_flags c after r (outcomes.Failed cause) answer h =
 comes_flag : (c after : CoreData) (event : Event) (answer : Answer) → IsSoundCore c
     → Comes c after event answer → TellsFlags c.dag after.dag (tellings_in c event answer)
 comes_flag c after event answer sound (inl q) s k e =
-    inl (ap (λ (d : DagData). is_flagged d s k) (sym q.dag) ∙ e)
+    inl (flags_fewer c.dag after.dag s k
+    (may_hold_grows FewerFlags NoFlag c.dag.limits (flags_calm c.dag.limits) c.dag after.dag q.dag)
+    e)
 comes_flag c after event answer sound (inr h) s k e =
     by (tells_flags h.mid after h.one h.outcome answer h.tells s k e)
   where

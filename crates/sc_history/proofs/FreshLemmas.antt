@@ -126,7 +126,7 @@ given_calm L =
       loses = λ x exec p. given_lost x.set exec p;
       stops = λ x p. omega arith;
       forgives = λ x p. omega arith;
-      begins = λ t stage results. tt;
+      begins = λ t stage results held. tt;
       stays = λ x y h k. tt;
     }
 

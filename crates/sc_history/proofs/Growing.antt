@@ -31,8 +31,8 @@ pub record IsCalm (A : StageAttempt → StageAttempt → Type 0) (New : StageAtt
   pub loses : (x : StageAttempt) (exec : ℕ) → A x (with_set (λ s. after_loss s exec) x)
   pub stops : (x : StageAttempt) → A x (with_set as_zombie x)
   pub forgives : (x : StageAttempt) → A x (forgiven x)
-  pub begins : (t : TrackerData) (stage : StageData) (results : List Bool)
-      → New (stage_attempt (new_set t L stage results) false)
+  pub begins : (t : TrackerData) (stage : StageData) (results held : List Bool)
+      → New (stage_attempt (new_set t L stage results held) false)
   pub stays : (x y : StageAttempt) → A x y → New x → New y
 
 -- ---- attempts
@@ -213,12 +213,14 @@ dag_submitted A New L calm d after submitted same (looked, are, is) =
           before = refl;
           attempts = grown_more A New state.attempts
               (change_at state.attempts (length state.attempts - 1) (with_set as_zombie))
-              (stage_attempt (new_set d.tracker d.limits (stage_at d s) state.results) false)
+              (stage_attempt (new_set d.tracker d.limits (stage_at d s) state.results state.held)
+              false)
               (grown_change A New L calm state.attempts (length state.attempts - 1)
               (with_set as_zombie) calm.stops)
               (subst
-              (λ l. New (stage_attempt (new_set d.tracker l (stage_at d s) state.results) false))
-              (sym same) (calm.begins d.tracker (stage_at d s) state.results));
+              (λ l. New (stage_attempt (new_set d.tracker l (stage_at d s) state.results state.held)
+              false))
+              (sym same) (calm.begins d.tracker (stage_at d s) state.results state.held));
         }
     moved s state true false =
         record { before = refl; attempts = grown_same A New L calm state.attempts }

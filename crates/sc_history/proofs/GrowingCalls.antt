@@ -21,7 +21,7 @@ use Rattle.sc_dag.specs.Losses.{after_lost, after_seen}
 use Rattle.sc_dag.specs.Losses as losses
 use Rattle.sc_dag.specs.Offers.{handed_out}
 use Rattle.sc_dag.specs.Outputs.{is_complete}
-use Rattle.sc_dag.specs.Reports.{FailsStage, after_failed, after_hold, after_map_success, after_result_success, completed, completed_if, ended_in_own, failed_attempt, forgiven, is_finished_short, is_of_newest, is_repeat, map_success_of, reaches_limit_in, result_success_of, set_of, succeeded_in_both, succeeded_in_own, with_failed, with_output, with_result}
+use Rattle.sc_dag.specs.Reports.{FailsStage, after_failed, after_hold, after_map_success, after_result_success, completed, completed_if, ended_in_own, failed_attempt, forgiven, is_finished_short, is_of_newest, is_repeat, map_success_of, reaches_limit_in, result_success_of, set_of, succeeded_in_both, succeeded_in_own, told_held, with_failed, with_output, with_result}
 use Rattle.sc_dag.specs.Submission.{this_stage, waiting_stages}
 use Rattle.sc_dag.specs.declared.attempts.StageAttempt.{StageAttempt}
 use Rattle.sc_dag.specs.declared.reports.Success.{Success}
@@ -41,6 +41,7 @@ use Rattle.sc_core.proofs.TaskCallLemmas.{map_moves}
 use Rattle.sc_history.proofs.Events.{Comes, losses_come, posts_come, releases_come, sides_come}
 use Rattle.sc_history.proofs.Growing.{GrownDag, GrownIn, IsCalm, dag_is, dag_same, dag_submitted, dag_then, dag_with, grown_map, grown_same, state_with}
 use Rattle.sc_core.proofs.TakeCases.{TakesSo, takes_so}
+use Rattle.sc_core.specs.Sides.{MayHold}
 
 -- the attempts of all stages of a job
 abbrev pub Grows : (StageAttempt → StageAttempt → Type 0) → (StageAttempt → Type 0) → DagData
@@ -98,13 +99,21 @@ both_grows A New L calm d a now = by (is_of_newest d a)
         (with_set (λ s. after_success s a.partition None now))
         (λ x. calm.succeeds x a.partition None now)))
 
-hold_grows : (A : StageAttempt → StageAttempt → Type 0) (New : StageAttempt → Type 0)
+pub hold_grows : (A : StageAttempt → StageAttempt → Type 0) (New : StageAttempt → Type 0)
     (L : Limits) → IsCalm A New L → (d : DagData) (s p : ℕ) (denied : Bool)
     → Grows A New d (after_hold d s p denied)
 hold_grows A New L calm d s p denied =
-    dag_with A New L calm d.states s (changed_newest (λ set. after_held set p denied))
-    (λ state. state_with A New L calm state (length state.attempts - 1)
-    (with_set (λ set. after_held set p denied)) (λ x. calm.holds x p denied))
+    dag_with A New L calm d.states s (told_held p denied)
+    (λ state. (let grown = state_with A New L calm state (length state.attempts - 1)
+    (with_set (λ set. after_held set p denied)) (λ x. calm.holds x p denied) in
+    record { before = grown.before; attempts = grown.attempts }))
+
+-- where a partition may be held back
+pub may_hold_grows : (A : StageAttempt → StageAttempt → Type 0) (New : StageAttempt → Type 0)
+    (L : Limits) → IsCalm A New L → (d after : DagData) → MayHold d after → Grows A New d after
+may_hold_grows A New L calm d after (inl is) = dag_is A New L calm d after is
+may_hold_grows A New L calm d after (inr (s, p, denied, is)) =
+    subst (λ x. Grows A New d x) (sym is) (hold_grows A New L calm d s p denied)
 
 -- ---- stages
 
@@ -447,7 +456,7 @@ comes_grow : (A : StageAttempt → StageAttempt → Type 0) (New : StageAttempt 
     → (c after : CoreData) (event : Event) (answer : Answer) → c.dag.limits ≡ L
     → Comes c after event answer → Grows A New c.dag after.dag
 comes_grow A New L calm marks fails c after event answer same (inl q) =
-    dag_is A New L calm c.dag after.dag q.dag
+    may_hold_grows A New L calm c.dag after.dag q.dag
 comes_grow A New L calm marks fails c after event answer same (inr h) =
     subst (λ d. Grows A New d after.dag) h.dag
     (tells_grow A New L calm marks fails h.mid after h.one h.outcome answer

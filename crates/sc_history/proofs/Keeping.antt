@@ -4,6 +4,7 @@ use Rattle.std.proofs.lemmas.Bool.{cases_eq}
 use Rattle.std.proofs.lemmas.Bool.Decides.{nat_tests}
 use Rattle.std.proofs.lemmas.Option.{slice_get_within}
 use Rattle.std.proofs.lemmas.List.Folds.{list_any-append}
+use Rattle.sc_base.specs.Lists.{at_or}
 use Rattle.sc_ids.specs.Changes.{change_at}
 use Rattle.sc_ids.specs.Failures.{is_counted}
 use Rattle.sc_ids.specs.declared.attempts.AttemptId.{AttemptId}
@@ -49,17 +50,23 @@ SameFailures x y = (p : ℕ) → failures_of y.set p ≡ failures_of x.set p
 pub NoFailures : StageAttempt → Type 0
 NoFailures x = (p : ℕ) → failures_of x.set p ≡ []
 
--- tasks that were never handed out, by a view
+-- a task is held back as the flag of its partition says
+abbrev flagged : List Bool → TaskData → TaskData
+flagged held t = held_task (at_or held t.partition false) t
+
+-- tasks that were never handed out, by a view, whatever is held back of them
 pub fresh_view :
     {B : Type 0} (view : Option TaskData → B) (none : B) → view None ≡ none
-    → ((q : ℕ) → view (Some (fresh_task q)) ≡ none) → (p : ℕ) (partitions : List ℕ)
-    → view (task_at p (map fresh_task partitions)) ≡ none
-fresh_view view none nothing fresh p [] = nothing
-fresh_view view none nothing fresh p (q ∷ qs) =
-    by (q == p) refl (fresh_view view none nothing fresh p qs)
+    → (held : List Bool) → ((q : ℕ) → view (Some (flagged held (fresh_task q))) ≡ none) → (p : ℕ)
+    (partitions : List ℕ)
+    → view (task_at p (map (flagged held) (map fresh_task partitions))) ≡ none
+fresh_view view none nothing held fresh p [] = nothing
+fresh_view view none nothing held fresh p (q ∷ qs) =
+    by (q == p) refl (fresh_view view none nothing held fresh p qs)
   where
-    by : (b : Bool) → (q == p) ≡ b → view (task_at p (map fresh_task qs)) ≡ none
-        → view (task_at p (map fresh_task (q ∷ qs))) ≡ none
+    by : (b : Bool) → (q == p) ≡ b
+        → view (task_at p (map (flagged held) (map fresh_task qs))) ≡ none
+        → view (task_at p (map (flagged held) (map fresh_task (q ∷ qs)))) ≡ none
     by true e h = rw e (fresh q)
     by false e h = rw e h
 
@@ -93,7 +100,7 @@ failures_calm L =
       loses = λ x exec p. lost_failures x.set exec p;
       stops = λ x p. refl;
       forgives = λ x p. refl;
-      begins = λ t stage results p. fresh_view failures_among [] refl (λ q. refl) p _;
+      begins = λ t stage results held p. fresh_view failures_among [] refl held (λ q. refl) p _;
       stays = λ x y h k p. h p ∙ k p;
     }
 

@@ -29,7 +29,7 @@ use Rattle.sc_core.specs.declared.events.Outcome.{Outcome}
 use Rattle.sc_core.specs.declared.events.Outcome.TheVariants as outcomes
 use Rattle.sc_core.specs.declared.running.Running.{Running}
 use Rattle.sc_core.proofs.TakeCases.{TakesSo, takes_so}
-use Rattle.sc_history.proofs.BirthLemmas.{Later, completes_later, failed_later, fails_later, handed_later, hold_later, later_is, later_same, later_then, lost_later, map_later, result_later, seen_later, submitted_later}
+use Rattle.sc_history.proofs.BirthLemmas.{Later, completes_later, failed_later, fails_later, handed_later, hold_later, later_is, later_same, later_then, lost_later, may_hold_later, map_later, result_later, seen_later, submitted_later}
 use Rattle.sc_history.proofs.CauseCases.{CauseIs, cause_is}
 use Rattle.sc_history.proofs.Events.{Comes, losses_come, posts_come, releases_come, sides_come}
 
@@ -172,7 +172,7 @@ tells_later c after r (outcomes.Failed cause) answer h = failures_later c after 
 
 comes_later : (c after : CoreData) (event : Event) (answer : Answer) → Comes c after event answer
     → Later c.dag after.dag
-comes_later c after event answer (inl q) = later_is c.dag after.dag q.dag
+comes_later c after event answer (inl q) = may_hold_later c.dag after.dag q.dag
 comes_later c after event answer (inr h) =
     subst (λ d. Later d after.dag) h.dag
     (tells_later h.mid after h.one h.outcome answer h.tells)

@@ -5,6 +5,8 @@ use Rattle.sc_tracker.specs.Trust.{are_lost}
 use Rattle.sc_dag.specs.DagData.{DagData}
 use Rattle.sc_dag.specs.Losses.{after_lost}
 use Rattle.sc_dag.proofs.Tests.{both_left}
+use Rattle.sc_tracker.specs.TrackerData.{TrackerData}
+use Rattle.sc_core.proofs.SideLemmas.{held_tracker}
 use Rattle.sc_core.specs.CoreData.{CoreData, job_runs, with_dag}
 use Rattle.sc_core.specs.Journals.{Replays}
 use Rattle.sc_core.specs.Losses.{Loses, LosesOrAborts, attempts_on, without_executor}
@@ -48,7 +50,8 @@ takes_lost c after exec answer h lost = by (takes_so c after exec answer h)
 comes_lost : (c after : CoreData) (event : Event) (answer : Answer) → Comes c after event answer
     → HasLost c → HasLost after
 comes_lost c after event answer (inl q) lost =
-    λ e. ap (λ (d : DagData). are_lost d.tracker.trust) q.dag ∙ lost (sym q.job ∙ e)
+    λ e. ap (λ (t : TrackerData). are_lost t.trust) (held_tracker c.dag after.dag q.dag)
+    ∙ lost (sym q.job ∙ e)
 comes_lost c after event answer (inr h) lost =
     by (tells_ends h.mid after h.one h.outcome answer h.tells)
   where

@@ -18,7 +18,7 @@ use Rattle.sc_tracker.specs.Trust.{is_newer}
 use Rattle.sc_dag.specs.DagData.{DagData, StageState, changed_newest, changed_set, newest_at, set_in, with_set, with_state}
 use Rattle.sc_dag.specs.Losses.{after_seen}
 use Rattle.sc_dag.specs.Outputs.{is_complete, results_in}
-use Rattle.sc_dag.specs.Reports.{after_failed, after_hold, after_map_success, after_result_success, completed, completed_if, ended_in_own, is_finished_short, is_of_newest, is_repeat, map_success_of, set_of, succeeded_in_both, succeeded_in_own, wants_in, with_result}
+use Rattle.sc_dag.specs.Reports.{after_failed, after_hold, after_map_success, after_result_success, completed, completed_if, ended_in_own, is_finished_short, is_of_newest, is_repeat, map_success_of, set_of, succeeded_in_both, succeeded_in_own, told_held, wants_in, with_result}
 use Rattle.sc_dag.specs.Submission.{this_stage}
 use Rattle.sc_dag.specs.declared.attempts.StageAttempt.{StageAttempt}
 use Rattle.sc_dag.specs.declared.reports.Success.{Success}
@@ -94,7 +94,7 @@ freed_results c a how = by (holds a (committer_at c.committers a.partition))
   where
     by : (b : Bool) → SameResults c.dag
         (if b then after_hold c.dag a.stage a.partition false else c.dag)
-    by true = hold_results c.dag a.stage a.partition
+    by true = hold_results c.dag a.stage a.partition false
     by false = λ s. refl
 
 misses_none : (c after : CoreData) (a : AttemptId) (answer : Answer) → Misses c a answer after
@@ -263,6 +263,23 @@ newest_after d s g =
         ap set_in (newest_changed state.attempts (length state.attempts - 1) (with_set g) refl)
         ∙ one (slice_get state.attempts (length state.attempts - 1))
 
+-- the newest set, once a partition is held back or not
+held_newest : (d : DagData) (s p : ℕ) (denied : Bool)
+    → newest_at (after_hold d s p denied) s
+    ≡ option_map (λ set. after_held set p denied) (newest_at d s)
+held_newest d s p denied =
+    ap newest_among (slice_get_change_same d.states s (told_held p denied))
+    ∙ same (slice_get d.states s)
+    ∙ ap newest_among
+    (sym (slice_get_change_same d.states s (changed_newest (λ set. after_held set p denied))))
+    ∙ newest_after d s (λ set. after_held set p denied)
+  where
+    same : (o : Option StageState)
+        → newest_among (option_map (told_held p denied) o)
+        ≡ newest_among (option_map (changed_newest (λ set. after_held set p denied)) o)
+    same None = refl
+    same (Some state) = refl
+
 pub freed_repeat : (c : CoreData) (a : AttemptId) (how : Ending)
     → is_repeat (released c a how).dag a ≡ is_repeat c.dag a
 freed_repeat c a how = by (holds a (committer_at c.committers a.partition))
@@ -278,6 +295,6 @@ freed_repeat c a how = by (holds a (committer_at c.committers a.partition))
         ≡ is_repeat c.dag a
     by true =
         ap (λ o. not (wants_in o a.partition))
-        (newest_after c.dag a.stage (λ set. after_held set a.partition false))
+        (held_newest c.dag a.stage a.partition false)
         ∙ ap not (wants (newest_at c.dag a.stage))
     by false = refl

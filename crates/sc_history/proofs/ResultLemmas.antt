@@ -24,6 +24,7 @@ use Rattle.sc_dag.specs.Submission.{is_map, this_stage}
 use Rattle.sc_dag.specs.declared.reports.Success.TheVariants as successes
 use Rattle.sc_dag.proofs.Runners.{within}
 use Rattle.sc_dag.proofs.Tests.{both_left, not_false, not_true}
+use Rattle.sc_core.specs.Sides.{MayHold}
 use Rattle.sc_core.specs.CoreData.{CoreData, result_stage, shelved_of, with_dag}
 use Rattle.sc_core.specs.Openings.{IsOpening}
 use Rattle.sc_core.specs.Posts.{fits}
@@ -44,7 +45,7 @@ use Rattle.sc_core.proofs.LimitLemmas.{done_jobs_are_whole}
 use Rattle.sc_core.proofs.MoveLemmas.{SameResults, results_then, state_results}
 use Rattle.sc_core.proofs.StageCallLemmas.{submitted_results}
 use Rattle.sc_core.proofs.LossLemmas.{lost_results}
-use Rattle.sc_core.proofs.TaskCallLemmas.{ended_results}
+use Rattle.sc_core.proofs.TaskCallLemmas.{ended_results, hold_results}
 use Rattle.sc_history.specs.Results.{ResultsAreOnce, finishes, is_finish, times_finished}
 use Rattle.sc_history.specs.Tellings.{Telling, telling, tellings, tellings_in, told_late}
 use Rattle.sc_history.proofs.Events.{Comes, losses_come, posts_come, releases_come, sides_come}
@@ -281,11 +282,19 @@ unfinished c (Release key) answer quiet s p = by (shelved_of c key)
 unfinished c (Side event) answer quiet s p = refl
 unfinished c (TellLost exec) answer quiet s p = refl
 
+-- no result is won or lost where a partition may be held back
+may_hold_result : (d after : DagData) → MayHold d after → (s p : ℕ)
+    → has_result after s p ≡ has_result d s p
+may_hold_result d after (inl is) s p = ap (λ (x : DagData). has_result x s p) is
+may_hold_result d after (inr (r, q, denied, is)) s p =
+    ap (λ (x : DagData). has_result x s p) is
+    ∙ ap (λ rs. at_or rs p false) (hold_results d r q denied s)
+
 comes_count : (c after : CoreData) (event : Event) (answer : Answer) → IsSoundCore c
     → Comes c after event answer → Counts c.dag after.dag (tellings_in c event answer)
 comes_count c after event answer sound (inl q) s p =
     let same : one_if (has_result after.dag s p) ≡ one_if (has_result c.dag s p) =
-    ap (λ (d : DagData). one_if (has_result d s p)) q.dag in
+    ap one_if (may_hold_result c.dag after.dag q.dag s p) in
     let zero = unfinished c event answer q.unfinished s p in
     omega (arith, same, zero)
 comes_count c after event answer sound (inr h) s p =

@@ -17,6 +17,7 @@ use Rattle.sc_dag.specs.Outputs.{is_complete}
 use Rattle.sc_dag.specs.Reports.{after_failed, after_hold, after_map_success, is_of_newest, map_success_of, reaches_limit_in, result_success_of, set_of}
 use Rattle.sc_dag.specs.declared.reports.Success.{Success}
 use Rattle.sc_dag.specs.declared.reports.Success.TheVariants as successes
+use Rattle.sc_core.proofs.SideLemmas.{held_tracker}
 use Rattle.sc_core.specs.CoreData.{CoreData, with_dag}
 use Rattle.sc_core.specs.Losses.{all_released, attempts_on}
 use Rattle.sc_core.specs.Takes.{Takes}
@@ -192,7 +193,8 @@ takes_room c after exec answer h = by (takes_so c after exec answer h)
 
 comes_room : (c after : CoreData) (event : Event) (answer : Answer) → Comes c after event answer
     → KeepsRoom c after
-comes_room c after event answer (inl q) = at_once c after c refl q.dag
+comes_room c after event answer (inl q) =
+    same_room c.dag.tracker after.dag.tracker (held_tracker c.dag after.dag q.dag)
 comes_room c after event answer (inr h) =
     subst (λ (d : DagData). SameRoom d.tracker after.dag.tracker) h.dag
     (tells_room h.mid after h.one h.outcome answer h.tells)

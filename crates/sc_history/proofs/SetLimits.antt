@@ -37,7 +37,7 @@ limits_calm L =
       loses = λ x exec. refl;
       stops = λ x. refl;
       forgives = λ x. refl;
-      begins = λ t stage results. refl;
+      begins = λ t stage results held. refl;
       stays = λ x y h k. h ∙ k;
     }
 

@@ -12,7 +12,7 @@ use Rattle.sc_dag.specs.DagData.{StageState, attempt_in, set_in}
 use Rattle.sc_dag.specs.Reports.{set_of}
 use Rattle.sc_dag.specs.declared.attempts.StageAttempt.{StageAttempt}
 use Rattle.sc_dag.proofs.Tests.{is_in}
-use Rattle.sc_core.specs.CoreData.{CoreData, job_runs}
+use Rattle.sc_core.specs.CoreData.{CoreData, is_running_job, job_runs}
 use Rattle.sc_core.specs.Laws.{HasFailedOften}
 use Rattle.sc_core.specs.Openings.{IsOpening}
 use Rattle.sc_core.specs.Sound.{IsSoundCore}
@@ -120,8 +120,9 @@ takes_count c after exec answer h counted = by (takes_so c after exec answer h)
 comes_count : (c after : CoreData) (event : Event) (answer : Answer) → IsSoundCore c
     → Steps c event answer after → Comes c after event answer → HasCounted c → HasCounted after
 comes_count c after event answer sound step (inl q) counted =
-    λ s k p e. subst (λ d. HasFailedOften (set_of d (attempt s k p 0)) p) (sym q.dag)
-    (counted s k p (sym q.job ∙ e))
+    λ s k p e. (let was = sym q.job ∙ e in
+    subst (λ d. HasFailedOften (set_of d (attempt s k p 0)) p)
+    (sym (q.ended (ap is_running_job was))) (counted s k p was))
 comes_count c after event answer sound step (inr h) counted =
     by (tells_ends h.mid after h.one h.outcome answer h.tells)
   where

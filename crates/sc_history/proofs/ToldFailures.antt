@@ -25,7 +25,7 @@ use Rattle.sc_core.specs.declared.running.Running.{Running}
 use Rattle.sc_history.specs.Evidence.{is_failure_of, nth_of}
 use Rattle.sc_history.specs.Tellings.{Telling, is_heard, telling, tellings_in}
 use Rattle.sc_history.proofs.Events.{Comes, posts_come, releases_come, sides_come}
-use Rattle.sc_history.proofs.GrowingCalls.{Grows, failures_grow, losses_grow, maps_grow, results_grow, takes_grow}
+use Rattle.sc_history.proofs.GrowingCalls.{Grows, failures_grow, losses_grow, maps_grow, may_hold_grows, results_grow, takes_grow}
 use Rattle.sc_history.proofs.Keeping.{IsNew, NoFailures, SameFailures, failed_in, failures_at, failures_calm, failures_marked, failures_same}
 
 -- ---- reports of failures
@@ -137,7 +137,9 @@ tells_all c after r (outcomes.Failed cause) answer L limits h =
 comes_tell : (c after : CoreData) (event : Event) (answer : Answer) → IsSoundCore c
     → Comes c after event answer → Tells-all c.dag after.dag (tellings_in c event answer)
 comes_tell c after event answer sound (inl q) s k p n e =
-    inl (ap (λ (d : DagData). is_in (failures_at d s k p) n) (sym q.dag) ∙ e)
+    inl (same c.dag after.dag
+    (may_hold_grows SameFailures NoFailures c.dag.limits (failures_calm c.dag.limits) c.dag
+    after.dag q.dag) s k p n e)
 comes_tell c after event answer sound (inr h) s k p n e =
     by (tells_all h.mid after h.one h.outcome answer h.mid.dag.limits refl h.tells s k p n e)
   where

@@ -1,9 +1,10 @@
 -- An executor that is lost in the end was lost where the job began, or an entry tells it.
 use Rattle.std.proofs.Common.{◌≡◌, ◌⊎◌, inl, inr, ℕ, ◌==◌, Bool, true, false, List, [], ◌∷◌, refl, ap, sym, ◌∙◌, arith}
 use Rattle.std.proofs.lemmas.Bool.Decides.{nat_tests}
-use Rattle.sc_tracker.specs.TrackerData.{trust_of}
+use Rattle.sc_tracker.specs.TrackerData.{TrackerData, trust_of}
 use Rattle.sc_dag.specs.DagData.{DagData}
 use Rattle.sc_plan.proofs.MemberLemmas.{contains_first, contains_more}
+use Rattle.sc_core.proofs.SideLemmas.{held_tracker}
 use Rattle.sc_core.specs.CoreData.{CoreData}
 use Rattle.sc_core.specs.Journals.{Replays}
 use Rattle.sc_core.specs.Losses.{Loses}
@@ -39,7 +40,8 @@ comes_lose_none : (c after : CoreData) (event : Event) (answer : Answer) (exec :
     → Comes c after event answer → has_lost after.dag exec ≡ true
     → has_lost c.dag exec ≡ true
 comes_lose_none c after event answer exec (inl q) lost =
-    ap (λ (d : DagData). has_lost d exec) (sym q.dag) ∙ lost
+    ap (λ (t : TrackerData). (trust_of t exec).lost) (sym (held_tracker c.dag after.dag q.dag))
+    ∙ lost
 comes_lose_none c after event answer exec (inr h) lost =
     ap (λ (d : DagData). has_lost d exec) (sym h.dag)
     ∙ sym ((tells_left h.mid after h.one h.outcome answer h.tells).lost exec) ∙ lost

@@ -21,6 +21,7 @@ use Rattle.sc_dag.specs.Submission.{is_map}
 use Rattle.sc_dag.specs.declared.reports.Success.{Success}
 use Rattle.sc_dag.specs.declared.reports.Success.TheVariants as successes
 use Rattle.sc_dag.proofs.Tests.{both_left, both_right}
+use Rattle.sc_core.proofs.SideLemmas.{held_tracker, steps_aside}
 use Rattle.sc_core.specs.CoreData.{CoreData, job_runs, shelved_of, with_dag}
 use Rattle.sc_core.specs.Losses.{Loses, attempts_on}
 use Rattle.sc_core.specs.Posts.{fits}
@@ -38,7 +39,6 @@ use Rattle.sc_core.specs.declared.events.Outcome.TheVariants as outcomes
 use Rattle.sc_core.specs.declared.running.Running.{Running}
 use Rattle.sc_core.specs.declared.running.Shelved.{Shelved}
 use Rattle.sc_core.proofs.LawLemmas.{steps_keep_sound}
-use Rattle.sc_core.proofs.SideLemmas.{steps_aside}
 use Rattle.sc_core.proofs.TakeCases.{TakesSo, takes_so}
 use Rattle.sc_history.specs.Tellings.{is_heard, telling, tellings_in, told_late}
 use Rattle.sc_history.specs.Trackers.{EpochsCount, LosesOne, RegistersOwn, SeesNewer, StepsCountEpochs, StepsTrack, Tracks, finds_newer, forgets, shows_newer, tells_newer, times_forgotten}
@@ -355,7 +355,7 @@ posts_count : (c after : CoreData) (a : AttemptId) (outcome : Outcome) (answer :
     → IsSoundCore c → Comes c after (Post a outcome) answer
     → Counts c after (Post a outcome) answer
 posts_count c after a outcome answer sound (inl q) =
-    stays c after (Post a outcome) answer (ap (λ (d : DagData). d.tracker) q.dag)
+    stays c after (Post a outcome) answer (held_tracker c.dag after.dag q.dag)
     (unheard c a outcome answer q.unheard)
 posts_count c after a outcome answer sound (inr h) =
     heard_counts c after (Post a outcome) answer sound refl h
@@ -363,7 +363,7 @@ posts_count c after a outcome answer sound (inr h) =
 releases_count : (c after : CoreData) (key : ℕ) (answer : Answer)
     → IsSoundCore c → Comes c after (Release key) answer → Counts c after (Release key) answer
 releases_count c after key answer sound (inl q) =
-    stays c after (Release key) answer (ap (λ (d : DagData). d.tracker) q.dag)
+    stays c after (Release key) answer (held_tracker c.dag after.dag q.dag)
     (by (shelved_of c key))
   where
     by : (o : Option Shelved)
@@ -389,7 +389,7 @@ sides_count : (c after : CoreData) (event : SideEvent) (answer : Answer)
     → StepsAside c event answer after → Counts c after (Side event) answer
 sides_count c after event answer step =
     stays c after (Side event) answer
-    (ap (λ (d : DagData). d.tracker) (steps_aside c after event answer step).dag) refl
+    (held_tracker c.dag after.dag (steps_aside c after event answer step).dag) refl
 
 loses_count : (c after : CoreData) (exec : ℕ) (answer : Answer) → Loses c exec answer after
     → CountsLoss c after (TellLost exec) answer

@@ -11,3 +11,5 @@ pub mod Evidence
 pub mod StageEvidence
 pub mod Fresh
 pub mod Results
+pub mod Committing
+pub mod Stands
