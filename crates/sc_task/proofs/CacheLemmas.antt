@@ -4,7 +4,7 @@ use Rattle.std.proofs.lemmas.Bool.{and_parts}
 use Rattle.std.proofs.lemmas.List.{map-append, take_more}
 use Rattle.std.proofs.lemmas.List.Elements.{All-append, All-cons, All-nil}
 use Rattle.std.specs.List.{list_any}
-use Rattle.std.specs.Option.{is_some, option_map}
+use Rattle.std.specs.Option.{IfSome, is_some}
 use Rattle.sc_value.specs.Datum.{Datum}
 use Rattle.sc_lineage.specs.Dependencies.{PlaceData}
 use Rattle.sc_lineage.specs.NodeData.{NodeData, cache_node}
@@ -14,8 +14,9 @@ use Rattle.sc_lineage.specs.Views.{place_data_of}
 use Rattle.sc_lineage.specs.declared.dependencies.Place.{Place}
 use Rattle.sc_base.specs.Lists.{at_or}
 use Rattle.sc_cache.specs.Caches.{CacheData, with_kept, with_used}
+use Rattle.sc_cache.specs.declared.names.CachedId.{CachedId}
 use Rattle.sc_compute.specs.Asking.{AreAllGiven, AreOfCaches, AsksFor, AsksNext, AsksPast, IsTakenFor, place_taken}
-use Rattle.sc_compute.specs.Caching.{is_cache}
+use Rattle.sc_compute.specs.Caching.{IsOwnPart, is_cache}
 use Rattle.sc_compute.specs.Needs.{is_among, places_in}
 use Rattle.sc_compute.specs.Stages.{local_count, node_at}
 use Rattle.sc_compute.specs.Tasks.{IsTargetOf}
@@ -57,6 +58,23 @@ isnt_had work store at none =
 places_push : (known : List CachedPart) (part : CachedPart)
     → places_in (known ++ part ∷ []) ≡ places_in known ++ place_data_of part.at ∷ []
 places_push known part = map-append (λ (p : CachedPart). place_data_of p.at) known (part ∷ [])
+
+-- what holds of something that is there
+pub some_holds : {A : Type 0} (P : A → Type 0) (o : Option A) (x : A) → o ≡ Some x → IfSome o P
+    → P x
+some_holds P o x is holds = subst (λ q. IfSome q P) is holds
+
+-- one more partition with its own rows
+pub own_more : (work other : WorkData) (known after : List CachedPart) (part : CachedPart)
+    (o : Option CachedPart) → work ≡ other → All (IsOwnPart work) known
+    → IfSome o (IsOwnPart other) → o ≡ Some part → after ≡ known ++ part ∷ []
+    → All (IsOwnPart work) after
+own_more work other known after part o same own found is more =
+    let one : IsOwnPart work part =
+    subst (λ w. IsOwnPart w part) (sym same) (some_holds (IsOwnPart other) o part is found) in
+    subst (All (IsOwnPart work)) (sym more)
+    (All-append (IsOwnPart work) known (part ∷ []) own
+    (All-cons (IsOwnPart work) part [] one (All-nil (IsOwnPart work))))
 
 -- What is taken for a target, one partition after another.
 pub record TakesSoFar (work : WorkData) (from : PlaceData) (store : StoreData)
@@ -203,6 +221,29 @@ pub used_more : (c : CacheData (List Datum)) (parts : List CachedPart) (i : ℕ)
 used_more c parts i d within =
     sym (used_push c (take i parts) (get_or parts i d))
     ∙ ap (with_each_used c) (sym (take_more parts i d within))
+
+-- The same of a store.
+module _ (first before after : StoreData) (parts : List CachedPart) (i : ℕ) (part d : CachedPart)
+    (within : i < length parts) (is : part ≡ get_or parts i d) where
+  pub keep_step : before ≡ with_cache first (with_each_kept first.cache (take i parts))
+      → after ≡ with_cache before (kept_one before.cache part)
+      → after ≡ with_cache first (with_each_kept first.cache (take (i + 1) parts))
+  keep_step far keeps =
+      let c = with_each_kept first.cache (take i parts) in
+      keeps ∙ ap (λ (s : StoreData). with_cache s (kept_one s.cache part)) far
+      ∙ ap (λ p. with_cache first (kept_one c p)) is
+      ∙ ap (with_cache first) (kept_more first.cache parts i d within)
+
+  pub use_step : (id : CachedId) → id ≡ cached_id (place_data_of part.at)
+      → before ≡ with_cache first (with_each_used first.cache (take i parts))
+      → after ≡ with_cache before (with_used before.cache id)
+      → after ≡ with_cache first (with_each_used first.cache (take (i + 1) parts))
+  use_step id name far uses =
+      let c = with_each_used first.cache (take i parts) in
+      uses ∙ ap (λ n. with_cache before (with_used before.cache n)) name
+      ∙ ap (λ (s : StoreData). with_cache s (used_one s.cache part)) far
+      ∙ ap (λ p. with_cache first (used_one c p)) is
+      ∙ ap (with_cache first) (used_more first.cache parts i d within)
 
 -- a cache takes as many blocks as before
 kept_limit : (c : CacheData (List Datum)) (parts : List CachedPart)

@@ -6,6 +6,7 @@ use Rattle.sc_jobs.specs.JobData.{JobData, blocks_left, stage_in}
 use Rattle.sc_jobs.specs.Plans.{IsJobFor}
 use Rattle.sc_task.specs.Handing.{IsHandedBy}
 use Rattle.sc_task.specs.States.{AreOf}
+use Rattle.sc_task.proofs.FetchLemmas.{read_handed}
 use Rattle.sc_task.proofs.HandingLemmas.{found_of_work, next_cut, next_none}
 use Rattle.sc_task.proofs.InputLemmas.{handed_found, handed_more, handed_none, none_if}
 use Rattle.sc_task.proofs.computing.handed.Goals as goal
@@ -107,3 +108,17 @@ loop-parent-preserved-in_default g c =
       left = next_none c.args.work.now graph items i c.loop-parent.rest.now 0
           c.loop-parent-test.true none c.loop-parent.invariant.left;
     }
+
+pub returns-clause-got : goal.returns-clause-got
+returns-clause-got g c =
+    let work = c.args.work.now in
+    let t = c.args.task.now in
+    let stages = c.loop-parent.stages in
+    let items = c.parents_of-parent-items.result.now in
+    let is = subst (IsJobFor work) c.job.ensures
+    (subst (λ w. IsJobFor w c.job.result.now) (sym c.requires.named) c.is_job.ensures) in
+    let handed = IsHandedBy t.job.graph stages in
+    read_handed work stages c.loop-parent.invariant.right t c.args.got.now is
+    (subst (All handed) (take_all c.loop-parent.parent-index items (omega arith)
+    ∙ c.parents_of-parent-items.ensures) c.loop-parent.invariant.handed)
+    c.requires.all

@@ -1,8 +1,10 @@
 use Rattle.std.proofs.Common.{◌∙◌, ap, subst, sym}
+use Rattle.std.proofs.lemmas.Result.{IfOk-weaker}
 use Rattle.sc_compute.specs.Asking.{node_taken}
 use Rattle.sc_compute.specs.Inputs.{HasInputs}
 use Rattle.sc_compute.specs.Tasks.{target_data_of}
 use Rattle.sc_jobs.specs.Plans.{IsJobFor}
+use Rattle.sc_task.proofs.FetchLemmas.{handed_stay}
 use Rattle.sc_task.proofs.HandingLemmas.{maps_into}
 use Rattle.sc_task.proofs.InputLemmas.{task_inputs}
 use Rattle.sc_task.proofs.computing.made_for.Goals as goal
@@ -34,3 +36,16 @@ prepare-requires-clause-inputs g c =
     (ap (node_taken work) (sym c.requires.target ∙ ap target_data_of c.in-Result.is)
     ∙ sym c.node_of.ensures)
     (task_inputs work t c.in_ok-stages.stages is c.is_task.ensures c.in_ok-stages.ensures.handed)
+
+pub returns-in-Map-clause-handed : goal.returns-in-Map-clause-handed
+returns-in-Map-clause-handed g c =
+    IfOk-weaker c.made_to_map.result _ _
+    (λ s same. handed_stay c.args.task.now c.args.got.now c.in_ok-stages.stages s same
+    c.in_ok-stages.ensures.got)
+    c.made_to_map.ensures.handed
+
+pub returns-in_ok-prepare-in-Result-clause-handed :
+    goal.returns-in_ok-prepare-in-Result-clause-handed
+returns-in_ok-prepare-in-Result-clause-handed g c =
+    handed_stay c.args.task.now c.args.got.now c.in_ok-stages.stages c.prepare.new.self
+    c.prepare.ensures.grows.handed c.in_ok-stages.ensures.got
