@@ -14,6 +14,8 @@
 
 mod limits;
 mod refusals;
+mod steps;
 
 pub use limits::COUNT_LIMIT;
 pub use refusals::OrMemory;
+pub use steps::Steps;

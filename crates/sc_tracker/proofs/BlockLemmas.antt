@@ -280,7 +280,8 @@ under_mapped (x ∷ xs) shuffle f = by (is_of shuffle x) refl (under_mapped xs s
         under_behind (with_f x) (map with_f xs) shuffle e
         ∙ more ∙ ap (map f) (sym (under_behind x xs shuffle e))
 
-at_or-map : {A : Type 0} (f : A → A) (xs : List A) (i : ℕ) (d : A)
+-- an item of a list, where all were changed alike
+pub at_or-map : {A : Type 0} (f : A → A) (xs : List A) (i : ℕ) (d : A)
     → f d ≡ d → at_or (map f xs) i d ≡ f (at_or xs i d)
 at_or-map f [] i d h = sym h
 at_or-map f (x ∷ xs) zero d h = refl

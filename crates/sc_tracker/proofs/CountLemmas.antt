@@ -1,5 +1,5 @@
 -- Lemmas on counts of the items that pass a test.
-use Rattle.std.proofs.Common.{◌≡◌, ℕ, ◌+◌, ◌<◌, ◌≤◌, zero, suc, Bool, true, false, cond, ◌&&◌, List, [], ◌∷◌, length, map, replicate, refl, ap, sym, ◌∙◌, arith}
+use Rattle.std.proofs.Common.{◌≡◌, ℕ, ◌+◌, ◌-◌, ◌<◌, ◌≤◌, zero, suc, Bool, true, false, cond, ◌&&◌, List, [], ◌∷◌, length, map, replicate, refl, ap, sym, ◌∙◌, arith, true≢false}
 use Rattle.std.proofs.lemmas.List.Sums.{count_by-le-length, sum_by-cons}
 use Rattle.std.specs.List.{count_by, list_all, range_with_len}
 use Rattle.sc_base.specs.Lists.{at_or, numbers_below, numbers_from}
@@ -103,4 +103,41 @@ placed_again (x ∷ xs) zero loc epoch e =
 placed_again (x ∷ xs) (suc i) loc epoch e =
     count_cons is_here x (change_at xs i (placed loc epoch))
     ∙ ap (λ n. cond (is_here x) 1 0 + n) (placed_again xs i loc epoch e)
+    ∙ sym (count_cons is_here x xs)
+
+-- ---- one output less
+
+-- an item that passes is there
+pub passes_within : {A : Type 0} (test : A → Bool) (xs : List A) (i : ℕ) (d : A) → test d ≡ false
+    → test (at_or xs i d) ≡ true → i < length xs
+passes_within test [] i d none e = absurd (true≢false (sym e ∙ none))
+passes_within test (x ∷ xs) zero d none e = omega arith
+passes_within test (x ∷ xs) (suc i) d none e =
+    let more = passes_within test xs i d none e in omega (arith, more)
+
+-- so some pass
+pub some_here : (xs : List Output) (i : ℕ) → is_here (output_in xs i) ≡ true
+    → 0 < count_by is_here xs
+some_here xs i e =
+    let within = passes_within is_here xs i never refl e in
+    let less = count_change is_here forgotten xs i never within false (λ x. refl) in
+    omega (arith, rw e at less)
+
+-- an output that is registered and is forgotten is one less
+pub forgotten_anew : (xs : List Output) (i : ℕ) → is_here (output_in xs i) ≡ true
+    → count_by is_here (change_at xs i forgotten) ≡ count_by is_here xs - 1
+forgotten_anew xs i e =
+    let within = passes_within is_here xs i never refl e in
+    let less = count_change is_here forgotten xs i never within false (λ x. refl) in
+    omega (arith, rw e at less)
+
+-- one that isn't registered isn't
+pub forgotten_again : (xs : List Output) (i : ℕ) → is_here (output_in xs i) ≡ false
+    → count_by is_here (change_at xs i forgotten) ≡ count_by is_here xs
+forgotten_again [] i e = refl
+forgotten_again (x ∷ xs) zero e =
+    count_cons is_here (forgotten x) xs ∙ sym (count_cons is_here x xs ∙ rw e refl)
+forgotten_again (x ∷ xs) (suc i) e =
+    count_cons is_here x (change_at xs i forgotten)
+    ∙ ap (λ n. cond (is_here x) 1 0 + n) (forgotten_again xs i e)
     ∙ sym (count_cons is_here x xs)

@@ -1,5 +1,11 @@
 pub mod BlockLemmas
 pub mod CountLemmas
+pub mod Forgetting
+pub mod ItemLemmas
+pub mod LinkLemmas
+pub mod ListedLemmas
 pub mod PlaceLemmas
+pub mod Relisting
 pub mod TrackerLemmas
 pub mod TrustLemmas
+pub mod WholeLists

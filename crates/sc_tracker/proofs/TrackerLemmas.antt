@@ -1,7 +1,7 @@
 -- Lemmas on what every tracker keeps.
-use Rattle.std.proofs.Common.{◌≡◌, ℕ, ◌+◌, ◌^◌, ◌<◌, ◌≤◌, zero, suc, List, [], ◌∷◌, Bool, true, false, Option, Some, None, IfSome, length, map, slice_get, refl, arith, rules, if◌then◌else◌, ◌==◌, ◌||◌, nat_lt, not}
+use Rattle.std.proofs.Common.{◌≡◌, ℕ, ◌+◌, ◌^◌, ◌<◌, ◌≤◌, zero, suc, List, [], ◌∷◌, ◌++◌, Bool, true, false, Option, Some, None, IfSome, length, map, replicate, slice_get, refl, sym, subst, arith, true≢false, rules, if◌then◌else◌, ◌==◌, ◌||◌, nat_lt, not}
 use Rattle.std.proofs.lemmas.Bool.Decides.{nat_tests}
-use Rattle.std.proofs.lemmas.List.Elements.{All-map, All-weaker}
+use Rattle.std.proofs.lemmas.List.Elements.{All-cons, All-map, All-nil, All-push, All-weaker}
 use Rattle.std.proofs.lemmas.List.Sums.{sum_by-cons, sum_by-le}
 use Rattle.std.specs.List.{All, sum_by}
 use Rattle.sc_ids.specs.declared.blocks.BlockId.{BlockId}
@@ -9,7 +9,7 @@ use Rattle.sc_ids.specs.declared.blocks.Loc.{Loc}
 use Rattle.sc_ids.specs.Changes.{change_at}
 use Rattle.sc_ids.proofs.ChangeLemmas.{All_change_at, at_or_change_other}
 use Rattle.sc_tracker.specs.declared.trust.Trust.{Trust}
-use Rattle.sc_tracker.specs.Outputs.{forgotten, forgotten_on, placed}
+use Rattle.sc_tracker.specs.Outputs.{forgotten, forgotten_on, never, placed}
 use Rattle.sc_tracker.specs.TrackerData.{ShuffleData, TrackerData, place_of, tracker_data}
 use Rattle.sc_tracker.specs.TrackerFacts.{HasMarkBelow, IsSoundOutput, IsSoundTracker, SeenFits, events_of}
 use Rattle.sc_tracker.specs.Tracking.{emptied, is_bogus, registered, with_forgotten, with_forgotten_on, with_placed}
@@ -191,3 +191,34 @@ emptied_sound t s =
         (All-weaker (IsSoundOutput t.trust t.epoch)
         (λ o. IsSoundOutput t.trust t.epoch (forgotten o))
         (λ o p. record { fresh = tt; is_last = tt; before = p.before }) y.outputs a)
+
+-- room for one more shuffle keeps the facts
+pub sized_sound : (t : TrackerData) (s : ShuffleData) (n : ℕ) → s.outputs ≡ replicate n never
+    → IsSoundTracker t → IsSoundTracker (tracker_data (t.shuffles ++ s ∷ []) t.trust t.epoch)
+sized_sound t s n is sound =
+    record {
+      outputs = All-push (SoundShuffle t.trust t.epoch) t.shuffles s sound.outputs
+          (subst (All (IsSoundOutput t.trust t.epoch)) (sym is) (blank n));
+      marks = sound.marks;
+      events = sound.events;
+    }
+  where
+    blank : (k : ℕ) → All (IsSoundOutput t.trust t.epoch) (replicate k never)
+    blank zero = All-nil (IsSoundOutput t.trust t.epoch)
+    blank (suc k) =
+        All-cons (IsSoundOutput t.trust t.epoch) never (replicate k never)
+        (record { fresh = tt; is_last = tt; before = omega arith }) (blank k)
+
+-- an executor of which something is heard is there
+pub newer_within : (trust : List Trust) (exec found : ℕ)
+    → is_newer (slice_get trust exec) found ≡ true → exec < length trust
+newer_within [] exec found e = absurd (true≢false (sym e))
+newer_within (x ∷ trust) zero found e = omega arith
+newer_within (x ∷ trust) (suc exec) found e =
+    let more = newer_within trust exec found e in omega (arith, more)
+
+pub live_within : (trust : List Trust) (exec : ℕ)
+    → is_live (slice_get trust exec) ≡ true → exec < length trust
+live_within [] exec e = absurd (true≢false (sym e))
+live_within (x ∷ trust) zero e = omega arith
+live_within (x ∷ trust) (suc exec) e = let more = live_within trust exec e in omega (arith, more)

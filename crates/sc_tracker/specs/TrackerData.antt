@@ -1,11 +1,11 @@
 -- What a tracker knows, as plain data.
 use Rattle.std.specs.Prelude.{ℕ, List, [], Bool, Option, Some, None, slice_get, ◌==◌, ◌&&◌}
-use Rattle.std.specs.List.{position_or_len}
+use Rattle.std.specs.List.{count_by, position_or_len, sum_by}
 use Rattle.sc_ids.specs.declared.blocks.ShuffleId.{ShuffleId}
 use Rattle.sc_ids.specs.declared.blocks.BlockId.{BlockId}
 use Rattle.sc_tracker.specs.declared.outputs.Output.{Output}
 use Rattle.sc_tracker.specs.declared.trust.Trust.{Trust}
-use Rattle.sc_tracker.specs.Outputs.{are_here, output_in}
+use Rattle.sc_tracker.specs.Outputs.{are_here, is_on, output_in}
 use Rattle.sc_tracker.specs.Trust.{trust_at}
 
 -- the outputs of a shuffle, in the order of its map partitions
@@ -63,3 +63,8 @@ has_all t shuffle maps = are_here (outputs_of t shuffle) maps
 -- what was heard of an executor: nothing of one that isn't there
 abbrev pub trust_of : TrackerData → ℕ → Trust
 trust_of t exec = trust_at t.trust exec
+
+-- how many outputs are registered on an executor
+abbrev pub registered_on : List ShuffleData → ℕ → ℕ
+registered_on shuffles exec =
+    sum_by (λ s. count_by (λ output. is_on exec output.here) s.outputs) shuffles

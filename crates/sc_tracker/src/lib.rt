@@ -14,6 +14,8 @@
 #![tactic(auto)]
 
 mod laws;
+mod listed;
+mod lists;
 mod outputs;
 mod shuffles;
 mod tracker;

@@ -2,9 +2,9 @@
 #![tactic(auto)]
 
 ghost use Rattle.std.specs.Prelude.{◌≡◌};
-ghost use Rattle.sc_tracker.specs.Outputs.{forgotten, forgotten_on, is_here, location_in, placed};
+ghost use Rattle.sc_tracker.specs.Outputs.{forgotten, is_here, location_in, placed};
 
-use sc_ids::{Epoch, ExecId, Loc};
+use sc_ids::{Epoch, Loc};
 
 /// What is known of one map output.
 #[derive(Clone, Copy, Debug, PartialEq, Eq)]
@@ -68,16 +68,5 @@ impl Output {
         ensures { self.new ≡ forgotten self.old }
     {
         self.here = None;
-    }
-
-    /// Forgets it if it is registered on that executor.
-    pub(crate) fn forget_on(&mut self, exec: ExecId)
-        ensures { self.new ≡ forgotten_on exec self.old }
-    {
-        if let Some(loc) = self.here {
-            if loc.exec == exec {
-                self.forget();
-            }
-        }
     }
 }

@@ -1,16 +1,17 @@
 //! The outputs of the shuffles that there is room for.
 #![tactic(auto)]
 
-ghost use Rattle.std.specs.Prelude.{◌≡◌, IfOk, length, map, replicate};
+ghost use Rattle.std.specs.Prelude.{◌≡◌, IfOk, length, map, nat_lt, replicate};
 ghost use Rattle.std.specs.List.{list_any};
 ghost use Rattle.sc_ids.specs.Changes.{change_at};
-ghost use Rattle.std.specs.Prelude.{count_by};
-ghost use Rattle.sc_tracker.specs.Outputs.{are_here, forgotten, forgotten_on, is_here, never, output_in, placed};
+ghost use Rattle.sc_tracker.specs.Lists.{has_room_at, output_at, place_for, with_one_forgotten, with_output};
+ghost use Rattle.sc_tracker.specs.Outputs.{are_here, forgotten, never, output_in, placed};
 ghost use Rattle.sc_tracker.specs.TrackerData.{is_of, output_under, outputs_under, place_of, shuffle_data};
-ghost use Rattle.sc_tracker.specs.Tracking.{with_forgotten, with_forgotten_on, with_placed};
+ghost use Rattle.sc_tracker.specs.Tracking.{with_forgotten, with_placed};
 
+use crate::lists::Place;
 use crate::outputs::Output;
-use sc_ids::{BlockId, Epoch, ExecId, Loc, ShuffleId};
+use sc_ids::{BlockId, Epoch, Loc, ShuffleId};
 use std::alloc::{AllocError, Global};
 use std::marker::Model;
 
@@ -113,20 +114,22 @@ impl ShuffleOutputs {
         self.registered = 0;
     }
 
-    /// Forgets the outputs that are registered on an executor.
-    fn forget_on(&mut self, exec: ExecId)
-        ensures { self.new ≡ with_forgotten_on exec self.old }
+    /// Forgets one output.
+    fn forget_one(&mut self, map: u32)
+        ensures { self.new ≡ with_one_forgotten map self.old }
     {
-        forget_in(self.outputs.as_mut_slice(), exec);
-        self.registered = count_here(&self.outputs);
+        if self.output(map).is_here() {
+            self.registered -= 1;
+        }
+        forget_in(&mut self.outputs, map);
     }
-}
 
-/// How many outputs are registered.
-fn count_here(outputs: &[Output]) -> usize
-    ensures { result ≡ count_by is_here outputs.now }
-{
-    outputs.iter().filter(|output| output.is_here()).count()
+    /// Whether there is room for an output.
+    fn has(&self, map: u32) -> bool
+        ensures { result ≡ nat_lt map (length self.now.outputs) }
+    {
+        (map as usize) < self.outputs.len()
+    }
 }
 
 /// Copies of the outputs of several shuffles.
@@ -195,29 +198,51 @@ pub(crate) fn has_all(shuffles: &[ShuffleOutputs], shuffle: ShuffleId, maps: u32
     }
 }
 
-/// Registers an output where there is room for it.
-pub(crate) fn place_at(shuffles: &mut Vec<ShuffleOutputs>, block: BlockId, loc: Loc, epoch: Epoch)
-    ensures { shuffles.new.items ≡ change_at shuffles.old.items
-        (place_of shuffles.old.items block.shuffle) (with_placed block.map loc epoch) }
+/// Where a block's output stands.
+pub(crate) fn place_for(shuffles: &[ShuffleOutputs], block: BlockId) -> Place
+    ensures { result ≡ place_for shuffles.now block }
 {
-    let place = place_of(shuffles.as_slice(), block.shuffle);
-    if place < shuffles.len() {
-        shuffles[place].place(block.map, loc, epoch);
+    Place {
+        at: place_of(shuffles, block.shuffle),
+        map: block.map,
     }
 }
 
-/// Forgets the outputs that are registered on an executor.
-pub(crate) fn forget_all_on(shuffles: &mut Vec<ShuffleOutputs>, exec: ExecId)
-    ensures { shuffles.new.items ≡ map (with_forgotten_on exec) shuffles.old.items }
+/// Whether there is room for an output at a place.
+pub(crate) fn has_room_at(shuffles: &[ShuffleOutputs], place: Place) -> bool
+    ensures { result ≡ has_room_at shuffles.now place }
 {
-    forget_among(shuffles.as_mut_slice(), exec);
+    match shuffles.get(place.at) {
+        Some(outputs) => outputs.has(place.map),
+        None => false,
+    }
 }
 
-fn forget_among(shuffles: &mut [ShuffleOutputs], exec: ExecId)
-    ensures { shuffles.new ≡ map (with_forgotten_on exec) shuffles.old }
+/// What is known of the output at a place.
+pub(crate) fn output_in(shuffles: &[ShuffleOutputs], place: Place) -> Output
+    ensures { result ≡ output_at shuffles.now place }
 {
-    for outputs in shuffles.iter_mut() {
-        outputs.forget_on(exec);
+    match shuffles.get(place.at) {
+        Some(outputs) => outputs.output(place.map),
+        None => Output::NEVER,
+    }
+}
+
+/// Registers the output at a place, where there is one.
+pub(crate) fn place_at(shuffles: &mut Vec<ShuffleOutputs>, place: Place, loc: Loc, epoch: Epoch)
+    ensures { shuffles.new.items ≡ with_output shuffles.old.items place (placed loc epoch) }
+{
+    if place.at < shuffles.len() {
+        shuffles[place.at].place(place.map, loc, epoch);
+    }
+}
+
+/// Forgets the output at a place, where there is one.
+pub(crate) fn forget_at(shuffles: &mut Vec<ShuffleOutputs>, place: Place)
+    ensures { shuffles.new.items ≡ with_output shuffles.old.items place forgotten }
+{
+    if place.at < shuffles.len() {
+        shuffles[place.at].forget_one(place.map);
     }
 }
 
@@ -229,11 +254,11 @@ fn place_in(outputs: &mut Vec<Output>, map: u32, loc: Loc, epoch: Epoch)
     }
 }
 
-fn forget_in(outputs: &mut [Output], exec: ExecId)
-    ensures { outputs.new ≡ map (forgotten_on exec) outputs.old }
+fn forget_in(outputs: &mut Vec<Output>, map: u32)
+    ensures { outputs.new.items ≡ change_at outputs.old.items map forgotten }
 {
-    for output in outputs.iter_mut() {
-        output.forget_on(exec);
+    if (map as usize) < outputs.len() {
+        outputs[map as usize].forget();
     }
 }
 

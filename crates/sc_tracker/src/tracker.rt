@@ -1,21 +1,25 @@
 //! The tracker.
 #![tactic(auto)]
 
-ghost use Rattle.std.specs.Prelude.{◌≡◌, [], IfOk, OnErr, OnOk, if◌then◌else◌, is_ok, replicate, slice_get};
+ghost use Rattle.std.specs.Prelude.{◌≡◌, ◌≤◌, ◌+◌, [], IfOk, OnErr, OnOk, if◌then◌else◌, is_ok, replicate, slice_get};
 ghost use Rattle.sc_tracker.specs.Outputs.{location_in};
-ghost use Rattle.sc_tracker.specs.TrackerData.{has_all, output_of, tracker_data, trust_of};
+ghost use Rattle.sc_tracker.specs.TrackerData.{has_all, output_of, registered_on, tracker_data, trust_of};
 ghost use Rattle.sc_tracker.specs.TrackerFacts.{IsSoundTracker};
 ghost use Rattle.sc_tracker.specs.Tracking.{after_executor_lost, after_gone, emptied, is_bogus, registered, sized};
 ghost use Rattle.sc_tracker.specs.Trust.{are_lost, is_live, is_newer, untold};
 
+use crate::listed::{forget_on, forget_on_in, register_at};
+use crate::lists::Lists;
 use crate::outputs::{Location, Output};
 use crate::shuffles::{
-    ShuffleOutputs, copies, forget_all, forget_all_on, has_all, has_room, output_at, place_at,
+    ShuffleOutputs, copies, forget_all, has_all, has_room, output_at, place_for,
 };
 use crate::trust::{Trust, is_bogus, is_live, is_newer, note_lost, note_seen, trust_at};
+use sc_base::Steps;
 use sc_ids::{BlockId, Epoch, ExecId, Generation, Loc, ShuffleId};
 use std::alloc::{AllocError, Global};
-use std::marker::Model;
+use std::marker::{Brand, Model};
+use std::sync::ledger::{Blank, Ledger};
 
 /// What becomes of an output that is to be registered.
 #[derive(Clone, Copy, Debug, PartialEq, Eq)]
@@ -31,12 +35,15 @@ pub enum Registration {
 pub struct Tracker {
     alloc: Global,
     shuffles: Vec<ShuffleOutputs>,
+    /// The outputs that are registered on each executor.
+    lists: Lists,
     trust: Vec<Trust>,
     epoch: Epoch,
 }
 
 impl Model for Tracker {
-    ghost use Rattle.std.specs.Prelude.{◌<◌, ◌^◌, length};
+    ghost use Rattle.std.specs.Prelude.{◌<◌, ◌≡◌, ◌^◌, length};
+    ghost use Rattle.sc_tracker.specs.Lists.{AreListed};
     ghost use Rattle.sc_tracker.specs.TrackerData.{TrackerData, tracker_data};
     ghost use Rattle.sc_tracker.specs.TrackerFacts.{IsSoundTracker, SeenFits};
 
@@ -45,7 +52,9 @@ impl Model for Tracker {
     ghost view = { λ t. tracker_data t.shuffles.items t.trust.items t.epoch };
 
     ghost invariant = { λ t. IsSoundTracker (tracker_data t.shuffles.items t.trust.items t.epoch)
-        × SeenFits t.trust.items × (length t.trust.items < 2 ^ 32) };
+        × SeenFits t.trust.items × (length t.trust.items < 2 ^ 32)
+        × AreListed t.shuffles.items t.lists
+        × (length t.lists.firsts ≡ length t.trust.items) };
 }
 
 impl Tracker {
@@ -54,9 +63,11 @@ impl Tracker {
         ensures { IfOk result (λ t. t ≡ tracker_data [] (replicate executors untold) 0) }
     {
         let trust = vec![in alloc; Trust::NEW; executors as usize]?;
+        let lists = Lists::new(alloc, executors)?;
         Ok(Tracker {
             alloc,
             shuffles: Vec::new(alloc),
+            lists,
             trust,
             epoch: 0,
         })
@@ -67,10 +78,12 @@ impl Tracker {
         ensures { IfOk result (λ t. t ≡ self.now) }
     {
         let shuffles = copies(self.alloc, self.shuffles.as_slice())?;
+        let lists = self.lists.copied(self.alloc)?;
         let trust = self.trust.as_slice().to_vec(self.alloc)?;
         Ok(Tracker {
             alloc: self.alloc,
             shuffles,
+            lists,
             trust,
             epoch: self.epoch,
         })
@@ -84,7 +97,9 @@ impl Tracker {
     {
         if !has_room(self.shuffles.as_slice(), shuffle) {
             let outputs = ShuffleOutputs::new(self.alloc, shuffle, maps)?;
-            self.shuffles.push(outputs)?;
+            self.shuffles.reserve(1)?;
+            self.lists.add(self.alloc, maps)?;
+            self.shuffles.push_reserved(outputs);
         }
         Ok(())
     }
@@ -101,7 +116,8 @@ impl Tracker {
         if is_bogus(self.trust.as_slice(), loc, epoch) {
             return Registration::Bogus;
         }
-        place_at(&mut self.shuffles, block, loc, self.epoch);
+        let place = place_for(self.shuffles.as_slice(), block);
+        register_at(&mut self.shuffles, &mut self.lists, place, loc, self.epoch);
         Registration::Registered
     }
 
@@ -126,12 +142,14 @@ impl Tracker {
         has_all(self.shuffles.as_slice(), shuffle, maps)
     }
 
-    /// An executor was told lost: its outputs are forgotten. A second telling changes nothing.
-    pub fn unregister_exec(&mut self, exec: ExecId)
-        ensures { self.new ≡ after_executor_lost self.old exec }
+    /// An executor was told lost: its outputs are forgotten. A second telling changes nothing. A
+    /// step is an output that is looked at.
+    pub fn unregister_exec<L: Ledger>(&mut self, exec: ExecId, steps: &mut Steps<L>)
+        ensures state { self.new ≡ after_executor_lost self.old exec }
+        ensures looked { steps.new ≤ steps.old + registered_on self.old.shuffles exec }
     {
         if is_live(self.trust.as_slice(), exec) {
-            forget_all_on(&mut self.shuffles, exec);
+            forget_on(&mut self.shuffles, &mut self.lists, exec, steps);
             note_lost(&mut self.trust, exec, self.epoch);
             self.epoch += 1;
         }
@@ -143,7 +161,7 @@ impl Tracker {
         ensures { self.new ≡ after_gone self.old exec found }
     {
         if is_newer(self.trust.as_slice(), exec, found) {
-            forget_all_on(&mut self.shuffles, exec);
+            forget_on_in::<Brand>(&mut self.shuffles, &mut self.lists, exec, Blank::new(1));
             note_seen(&mut self.trust, exec, found, self.epoch);
             self.epoch += 1;
         }
@@ -155,6 +173,7 @@ impl Tracker {
         ensures { self.new ≡ emptied self.old }
     {
         forget_all(&mut self.shuffles);
+        self.lists.clear();
     }
 
     /// How often outputs of an executor were forgotten.

@@ -1,8 +1,8 @@
-use Rattle.std.proofs.Common.{◌≡◌, ◌∙◌, ap, sym, slice_get, true, arith}
+use Rattle.std.proofs.Common.{◌≡◌, ◌∙◌, ◌<◌, ap, subst, sym, slice_get, true, arith, length}
 use Rattle.sc_ids.proofs.ChangeLemmas.{length_change_at}
 use Rattle.sc_tracker.specs.TrackerData.{tracker_data}
 use Rattle.sc_tracker.specs.Trust.{is_newer, seen_at}
-use Rattle.sc_tracker.proofs.TrackerLemmas.{epoch_fits, gone_sound, seen_fits}
+use Rattle.sc_tracker.proofs.TrackerLemmas.{epoch_fits, gone_sound, newer_within, seen_fits}
 use Rattle.sc_tracker.proofs.tracker.Tracker.raise_seen.Goals as goal
 
 pub overflow_add-self : goal.overflow_add-self
@@ -12,6 +12,16 @@ overflow_add-self c =
     c.self.invariant.2 in
     omega (arith, small)
 
+pub forget_on_in-requires-clause-there : goal.forget_on_in-requires-clause-there
+forget_on_in-requires-clause-there c =
+    let f = c.self.inside in
+    let new : is_newer (slice_get f.trust.items c.args.exec) c.args.found ≡ true =
+    sym (c.is_newer.ensures
+    ∙ ap (λ xs. is_newer (slice_get xs c.args.exec) c.args.found) c.as_slice.ensures.value)
+    ∙ c.if-is_newer.true in
+    subst (λ n. c.args.exec < n) (sym c.self.invariant.4)
+    (newer_within f.trust.items c.args.exec c.args.found new)
+
 pub invariant_of-self : goal.invariant_of-self
 invariant_of-self c =
     let f = c.self.inside in
@@ -20,9 +30,13 @@ invariant_of-self c =
     sym (c.is_newer.ensures
     ∙ ap (λ xs. is_newer (slice_get xs c.args.exec) c.args.found) c.as_slice.ensures.value)
     ∙ c.if-is_newer.true in
-    rw (c.forget_all_on.ensures, c.note_seen.ensures) (
-      gone_sound (tracker_data f.shuffles.items f.trust.items f.epoch)
-          c.args.exec c.args.found new c.self.invariant.0,
+    let many = length_change_at f.trust.items c.args.exec at in
+    rw c.note_seen.ensures (
+      rw c.forget_on_in.ensures.outputs
+          (gone_sound (tracker_data f.shuffles.items f.trust.items f.epoch)
+          c.args.exec c.args.found new c.self.invariant.0),
       seen_fits f.trust.items c.args.exec at (λ x p. c.ranges.found.fits) c.self.invariant.1,
-      rw (length_change_at f.trust.items c.args.exec at) c.self.invariant.2,
+      rw many c.self.invariant.2,
+      c.forget_on_in.ensures.listed,
+      c.forget_on_in.ensures.many ∙ c.self.invariant.4 ∙ sym many,
     )

@@ -1,0 +1,19 @@
+use Rattle.std.proofs.Common.{ap, length, ◌∙◌}
+use Rattle.sc_tracker.specs.TrackerData.{tracker_data}
+use Rattle.sc_tracker.proofs.TrackerLemmas.{sized_sound}
+use Rattle.sc_tracker.proofs.WholeLists.{more_listed}
+use Rattle.sc_tracker.proofs.tracker.Tracker.size_for.Goals as goal
+
+pub invariant_of-self-then-not-has_room : goal.invariant_of-self-then-not-has_room
+invariant_of-self-then-not-has_room c =
+    let f = c.self.inside in
+    let s = c.in_ok-outputs.outputs in
+    let is = ap (λ x. x.outputs) c.in_ok-outputs.ensures in
+    rw (c.push_reserved.ensures.items, c.reserve.ensures.items, c.in_ok-add.ensures.ok) (
+      sized_sound (tracker_data f.shuffles.items f.trust.items f.epoch) s c.args.maps is
+          c.self.invariant.0,
+      c.self.invariant.1,
+      c.self.invariant.2,
+      more_listed f.shuffles.items f.lists s c.args.maps is c.self.invariant.3,
+      c.self.invariant.4,
+    )
