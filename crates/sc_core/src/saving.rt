@@ -79,7 +79,7 @@ impl State {
 
     /// How far an attempt has come that may save: one of the result stage of a running save that
     /// runs and is out.
-    fn saver_phase(&self, attempt: AttemptId) -> Option<Phase>
+    pub fn saver_phase(&self, attempt: AttemptId) -> Option<Phase>
         ensures { result ≡ saver_phase self.now.0 attempt }
     {
         if self.may_save(attempt) {
@@ -133,7 +133,7 @@ fn is_out_of(running: &Running, attempt: AttemptId) -> bool
 }
 
 /// Whether an attempt that may save was handed out, and no more.
-fn is_given(phase: Option<Phase>) -> bool
+pub(crate) fn is_given(phase: Option<Phase>) -> bool
     ensures { result ≡ is_given phase }
 {
     match phase {
@@ -155,7 +155,7 @@ fn is_staged(phase: Option<Phase>) -> bool
 }
 
 /// Whether it may commit, and hasn't moved its output yet.
-fn is_granted(phase: Option<Phase>) -> bool
+pub(crate) fn is_granted(phase: Option<Phase>) -> bool
     ensures { result ≡ is_granted phase }
 {
     match phase {

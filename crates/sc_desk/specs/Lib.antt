@@ -1,5 +1,6 @@
 pub mod Orders
 pub mod DeskData
+pub mod Saving
 pub mod Shelves
 pub mod Dues
 pub mod Sound

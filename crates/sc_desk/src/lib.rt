@@ -32,6 +32,7 @@ mod orders;
 mod passes;
 mod posts;
 mod receipts;
+mod saving;
 mod shelves;
 mod takes;
 mod tellings;
