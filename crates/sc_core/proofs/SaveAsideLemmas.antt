@@ -238,7 +238,7 @@ asked_holds a x (Holder h d) e = by (is_same h a)
     by true = refl
     by false = refl
 
-asked_winner : (a : AttemptId) (k : Committer) → winner_in (asked a k) ≡ winner_in k
+pub asked_winner : (a : AttemptId) (k : Committer) → winner_in (asked a k) ≡ winner_in k
 asked_winner a Nobody = refl
 asked_winner a (Winner w) = refl
 asked_winner a (Holder h d) = by (is_same h a)

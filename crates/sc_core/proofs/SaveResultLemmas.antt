@@ -127,7 +127,7 @@ newest_there d a exec runs = by (slice_get d.states a.stage) runs
     by (Some state) e = first state.attempts _ e
 
 -- a holder is one of a save, in whose place it stands
-holder_within : (ks : List Committer) (p : ℕ) (h : AttemptId) → holder_of ks p ≡ Some h
+pub holder_within : (ks : List Committer) (p : ℕ) (h : AttemptId) → holder_of ks p ≡ Some h
     → (is_save ks ≡ true) × (p < length ks)
 holder_within [] p h e = absurd (search (rules, e))
 holder_within (k ∷ ks) zero h e = (refl, omega arith)

@@ -224,7 +224,7 @@ misses_stay c after a answer miss =
     by true (verdict, d, f, or) = of verdict d f or
     by false (says, is) = subst (λ x. Stays c x) (sym is) (stays_same c c refl refl)
 
-causes_stay :
+pub causes_stay :
     (c after : CoreData) (a : AttemptId) (cause : FailureCause) (zombie : Bool) (answer : Answer)
     → FailsBy cause zombie c a answer after → Stays c after
 causes_stay c after a (causes.Gone exec wanted found) zombie answer h =

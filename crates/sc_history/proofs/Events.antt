@@ -1,5 +1,5 @@
 -- What events come to, as far as journals tell: a report that is heard, one that isn't, or a loss.
-use Rattle.std.proofs.Common.{◌≡◌, ◌⊎◌, inl, inr, ℕ, Bool, true, false, if◌then◌else◌, List, [], ◌∷◌, Option, Some, None, option_map, refl, ap, sym, subst, ◌∙◌}
+use Rattle.std.proofs.Common.{◌≡◌, ◌⊎◌, inl, inr, ℕ, Bool, true, false, if◌then◌else◌, List, [], ◌∷◌, Option, Some, None, option_map, refl, ap, sym, subst, ◌∙◌, true≢false}
 use Rattle.sc_ids.specs.declared.attempts.AttemptId.{AttemptId}
 use Rattle.sc_taskset.proofs.FindLemmas.{found_is}
 use Rattle.sc_tracker.specs.Trust.{are_lost}
@@ -34,13 +34,20 @@ use Rattle.sc_core.proofs.SideLemmas.{steps_aside}
 
 -- ---- reports
 
+-- an event beside the reports
+abbrev pub is_aside : Event → Bool
+is_aside (Side event) = true
+is_aside event = false
+
 -- No report is heard, and nothing changes but which ones are still to be told, and whether a
 -- partition is held back while the job runs.
-pub record IsQuiet (c after : CoreData) (answer : Answer) : Type 0 where
+pub record IsQuiet (c after : CoreData) (event : Event) (answer : Answer) : Type 0 where
   pub dag : MayHold c.dag after.dag
   pub ended : job_runs c ≡ false → after.dag ≡ c.dag
   pub job : after.job ≡ c.job
   pub handed : after.handed ≡ c.handed
+  -- who may commit is asked beside the reports alone
+  pub committers : is_aside event ≡ false → after.committers ≡ c.committers
   pub unheard : is_heard answer ≡ false
   pub unfinished : is_finish answer ≡ false
 
@@ -54,6 +61,7 @@ pub record IsKnown (c : CoreData) (event : Event) (answer : Answer) (r : Running
   pub ran : Running
   pub found : running_of c ran.hand_out.attempt ≡ Some ran
   pub hand : ran.hand_out ≡ r.hand_out
+  pub phase : r.phase ≡ ran.phase
   pub exec : r.exec ≡ ran.exec
 
 -- a report is told to its attempt
@@ -63,24 +71,26 @@ pub record IsHeard (c after : CoreData) (event : Event) (answer : Answer) : Type
   pub dag : mid.dag ≡ c.dag
   pub job : mid.job ≡ c.job
   pub handed : mid.handed ≡ c.handed
+  pub committers : mid.committers ≡ c.committers
   pub one : Running
   pub outcome : Outcome
   pub tells : Tells mid one outcome answer after
   pub known : IsSoundCore c → IsKnown c event answer one outcome
 
 abbrev pub Comes : CoreData → CoreData → Event → Answer → Type 0
-Comes c after event answer = IsQuiet c after answer ⊎ IsHeard c after event answer
+Comes c after event answer = IsQuiet c after event answer ⊎ IsHeard c after event answer
 
 quiet :
-    (c after d : CoreData) (answer said : Answer) → d.dag ≡ c.dag → d.job ≡ c.job
-    → d.handed ≡ c.handed → is_heard said ≡ false → is_finish said ≡ false → answer ≡ said
-    → after ≡ d → IsQuiet c after answer
-quiet c after d answer said dag job handed unheard unfinished told is =
+    (c after d : CoreData) (event : Event) (answer said : Answer) → d.dag ≡ c.dag → d.job ≡ c.job
+    → d.handed ≡ c.handed → d.committers ≡ c.committers → is_heard said ≡ false
+    → is_finish said ≡ false → answer ≡ said → after ≡ d → IsQuiet c after event answer
+quiet c after d event answer said dag job handed committers unheard unfinished told is =
     record {
       dag = inl (ap (λ (x : CoreData). x.dag) is ∙ dag);
       ended = λ e. ap (λ (x : CoreData). x.dag) is ∙ dag;
       job = ap (λ (x : CoreData). x.job) is ∙ job;
       handed = ap (λ (x : CoreData). x.handed) is ∙ handed;
+      committers = λ e. ap (λ (x : CoreData). x.committers) is ∙ committers;
       unheard = ap is_heard told ∙ unheard;
       unfinished = ap is_finish told ∙ unfinished;
     }
@@ -100,6 +110,13 @@ in_exec a r = by (is_of a r)
     by true = refl
     by false = refl
 
+pub in_phase : (a : AttemptId) (r : Running) → (as_in a r).phase ≡ r.phase
+in_phase a r = by (is_of a r)
+  where
+    by : (b : Bool) → (if b then record r { is_out = false } else r).phase ≡ r.phase
+    by true = refl
+    by false = refl
+
 pub posts_come : (c after : CoreData) (a : AttemptId) (outcome : Outcome) (answer : Answer)
     → PostsIf (job_runs c) c a outcome answer after → Comes c after (Post a outcome) answer
 posts_come c after a outcome answer step = by (job_runs c) refl step
@@ -108,9 +125,10 @@ posts_come c after a outcome answer step = by (job_runs c) refl step
     Goal = Comes c after (Post a outcome) answer
 
     known : (r one : Running) → running_of c a ≡ Some r → fits c r outcome ≡ true
-        → one.hand_out ≡ r.hand_out → one.exec ≡ r.exec → fits c one outcome ≡ fits c r outcome
+        → one.hand_out ≡ r.hand_out → one.exec ≡ r.exec → one.phase ≡ r.phase
+        → fits c one outcome ≡ fits c r outcome
         → IsSoundCore c → IsKnown c (Post a outcome) answer one outcome
-    known r one e fit hand exec same sound =
+    known r one e fit hand exec phase same sound =
         let p = posted c a r sound.job e in
         let at = ap (λ (h : HandOutData). h.attempt) hand in
         record {
@@ -120,6 +138,7 @@ posts_come c after a outcome answer step = by (job_runs c) refl step
           ran = r;
           found = subst (λ b. running_of c b ≡ Some r) (sym p.attempt) e;
           hand = sym hand;
+          phase = phase;
           exec = exec;
         }
 
@@ -135,10 +154,11 @@ posts_come c after a outcome answer step = by (job_runs c) refl step
           dag = refl;
           job = refl;
           handed = refl;
+          committers = refl;
           one = r;
           outcome = outcome;
           tells = tells;
-          known = known r r e fit refl refl refl;
+          known = known r r e fit refl refl refl refl;
         })
     now r e fit runs true h =
         let next = shelved c a outcome 0 in
@@ -151,17 +171,19 @@ posts_come c after a outcome answer step = by (job_runs c) refl step
           dag = refl;
           job = refl;
           handed = refl;
+          committers = refl;
           one = as_in a r;
           outcome = outcome;
           tells = tells;
-          known = known r (as_in a r) e fit (in_hand a r) (in_exec a r) (fits_in c a r outcome);
+          known = known r (as_in a r) e fit (in_hand a r) (in_exec a r) (in_phase a r)
+              (fits_in c a r outcome);
         })
 
     late : (delay : ℕ) (twice : Bool) → answer ≡ says.Shelved
         → after ≡ shelved_if twice (shelved c a outcome delay) a outcome delay
         → Comes c after (Post a outcome) answer
-    late delay false told is = inl (quiet c after _ answer _ refl refl refl refl refl told is)
-    late delay true told is = inl (quiet c after _ answer _ refl refl refl refl refl told is)
+    late delay false told is = inl (quiet c after _ _ answer _ refl refl refl refl refl refl told is)
+    late delay true told is = inl (quiet c after _ _ answer _ refl refl refl refl refl refl told is)
 
     posts : (r : Running) → running_of c a ≡ Some r → fits c r outcome ≡ true
         → job_runs c ≡ true → (delay : Option ℕ) → PostsBy delay c a outcome answer after
@@ -172,11 +194,11 @@ posts_come c after a outcome answer step = by (job_runs c) refl step
     of : (o : Option Running) → running_of c a ≡ o → job_runs c ≡ true
         → PostsOf o c a outcome answer after → Comes c after (Post a outcome) answer
     of None e runs (told, is) =
-        inl (quiet c after (told_once c) answer _ refl refl refl refl refl told is)
+        inl (quiet c after (told_once c) _ answer _ refl refl refl refl refl refl told is)
     of (Some r) e runs (fit, h) = posts r e fit runs (delay_for c a) h
 
     by : (b : Bool) → job_runs c ≡ b → PostsIf b c a outcome answer after → Goal
-    by false runs (told, is) = inl (quiet c after c answer _ refl refl refl refl refl told is)
+    by false runs (told, is) = inl (quiet c after c _ answer _ refl refl refl refl refl refl told is)
     by true runs h = of (running_of c a) refl runs h
 
 pub releases_come : (c after : CoreData) (key : ℕ) (answer : Answer)
@@ -190,7 +212,7 @@ releases_come c after key answer step = by (job_runs c) refl step
         → (o : Option Running) → running_of c s.attempt ≡ o
         → TellsTo o next s.attempt s.outcome answer after → Comes c after (Release key) answer
     late s e runs None f (told, is) =
-        inl (quiet c after (told_once next) answer _ refl refl refl refl refl told is)
+        inl (quiet c after (told_once next) _ answer _ refl refl refl refl refl refl told is)
     late s e runs (Some r) f tells =
         inr (record {
           runs = runs;
@@ -198,6 +220,7 @@ releases_come c after key answer step = by (job_runs c) refl step
           dag = refl;
           job = refl;
           handed = refl;
+          committers = refl;
           one = r;
           outcome = s.outcome;
           tells = tells;
@@ -217,6 +240,7 @@ releases_come c after key answer step = by (job_runs c) refl step
               ran = r;
               found = subst (λ b. running_of c b ≡ Some r) (sym p.attempt) f;
               hand = refl;
+              phase = refl;
               exec = refl;
             }
 
@@ -227,7 +251,7 @@ releases_come c after key answer step = by (job_runs c) refl step
 
     by : (b : Bool) → job_runs c ≡ b → ReleasesIf b c key answer after
         → Comes c after (Release key) answer
-    by false runs (told, is) = inl (quiet c after c answer _ refl refl refl refl refl told is)
+    by false runs (told, is) = inl (quiet c after c _ answer _ refl refl refl refl refl refl told is)
     by true runs h = of (shelved_of c key) refl runs h
 
 -- what happens beside the reports is no report that is heard
@@ -240,6 +264,7 @@ sides_come c after event answer step =
       ended = λ e. ap (λ (x : CoreData). x.dag) (ended_aside c after event answer e step);
       job = is.job;
       handed = is.handed;
+      committers = λ e. absurd (true≢false e);
       unheard = ap is_heard step.1;
       unfinished = ap is_finish step.1;
     })

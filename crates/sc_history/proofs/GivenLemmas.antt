@@ -13,6 +13,7 @@ use Rattle.sc_core.specs.Losses.{LosesOrAborts, runs_on, without_executor}
 use Rattle.sc_core.specs.Posts.{PostsBy, PostsIf, PostsOf, comes_twice, delay_for}
 use Rattle.sc_core.specs.Releases.{ReleasesIf, ReleasesOf}
 use Rattle.sc_core.specs.Sound.{IsSoundCore}
+use Rattle.sc_core.specs.Sides.{IsAside, StepsAside}
 use Rattle.sc_core.specs.Steps.{Steps}
 use Rattle.sc_core.specs.Takes.{Takes, running_on}
 use Rattle.sc_core.specs.Tells.{TellsTo}
@@ -22,6 +23,7 @@ use Rattle.sc_core.specs.declared.entries.Entry.{Entry}
 use Rattle.sc_core.specs.declared.events.Event.{Event}
 use Rattle.sc_core.specs.declared.events.Event.TheVariants.{Post, Release, Side, Take, TellLost}
 use Rattle.sc_core.specs.declared.events.Outcome.{Outcome}
+use Rattle.sc_core.specs.declared.events.SideEvent.{SideEvent}
 use Rattle.sc_core.specs.declared.running.Running.{Running}
 use Rattle.sc_core.specs.declared.running.Shelved.{Shelved}
 use Rattle.sc_core.proofs.LawLemmas.{steps_keep_sound}
@@ -30,12 +32,13 @@ use Rattle.sc_core.proofs.SideLemmas.{steps_aside}
 use Rattle.sc_core.proofs.TakeCases.{TakesSo, takes_so}
 use Rattle.sc_history.specs.Given.{HeardAreGiven, IsGiven, IsOfGiven, RunningAreGiven}
 use Rattle.sc_history.specs.Tellings.{Telling, is_heard, telling, tellings, tellings_in, told_late}
-use Rattle.sc_history.proofs.Events.{Comes, in_exec, in_hand, posts_come, releases_come}
+use Rattle.sc_history.proofs.Events.{Comes, in_exec, in_hand, in_phase, posts_come, releases_come}
 
--- ---- what holds of all that run, by their tasks and executors
+-- ---- what holds of all that run, by their tasks, executors and how far they have come
 
 module _ (P : Running → Type 0)
-    (same : (q r : Running) → r.hand_out ≡ q.hand_out → r.exec ≡ q.exec → P q → P r) where
+    (same : (q r : Running) → r.hand_out ≡ q.hand_out → r.exec ≡ q.exec → r.phase ≡ q.phase → P q
+    → P r) where
   tells_running :
       (o : Option Running) (m after : CoreData) (a : AttemptId) (outcome : Outcome)
       (answer : Answer) → All P m.running → TellsTo o m a outcome answer after
@@ -56,7 +59,7 @@ module _ (P : Running → Type 0)
       one m delay h =
           All-map P (as_in a) m.running
           (All-weaker P (λ r. P (as_in a r))
-          (λ r p. same r (as_in a r) (in_hand a r) (in_exec a r) p) m.running h)
+          (λ r p. same r (as_in a r) (in_hand a r) (in_exec a r) (in_phase a r) p) m.running h)
 
       more : (twice : Bool) (m : CoreData) (delay : ℕ) → All P m.running
           → All P (shelved_if twice m a outcome delay).running
@@ -109,25 +112,23 @@ module _ (P : Running → Type 0)
       by (inr (inl b)) = subst (λ (x : CoreData). All P x.running) (sym b.is) all
       by (inr (inr held)) = subst (λ (x : CoreData). All P x.running) (sym held.is) all
 
-  steps_running :
+  -- a task is new, and what happens beside the reports brings attempts further
+  pub steps_running :
       (c after : CoreData) (event : Event) (answer : Answer) → Steps c event answer after
       → All P c.running
       → ((exec : ℕ) (h : HandOutData) → event ≡ Take exec → answer ≡ says.Task h
       → P (running_on h exec))
+      → ((side : SideEvent) → event ≡ Side side → StepsAside c side answer after
+      → All P after.running)
       → All P after.running
-  steps_running c after (Take exec) answer step all new =
+  steps_running c after (Take exec) answer step all new aside =
       takes_running c after exec answer step all (λ h told. new exec h refl told)
-  steps_running c after (Post a outcome) answer step all new =
+  steps_running c after (Post a outcome) answer step all new aside =
       posts_running c after a outcome answer step all
-  steps_running c after (Release key) answer step all new =
+  steps_running c after (Release key) answer step all new aside =
       releases_running c after key answer step all
-  steps_running c after (Side event) answer step all new =
-      let is = steps_aside c after event answer step in
-      subst (λ rs. All P rs) (sym is.running)
-      (All-map P is.further c.running
-      (All-weaker P (λ r. P (is.further r))
-      (λ r p. same r (is.further r) (is.each r).hand_out (is.each r).exec p) c.running all))
-  steps_running c after (TellLost exec) answer (may, step) all new =
+  steps_running c after (Side event) answer step all new aside = aside event refl step
+  steps_running c after (TellLost exec) answer (may, step) all new aside =
       by (are_lost (without_executor c exec).dag.tracker.trust) step
     where
       left : All P (filter (λ r. not (runs_on exec r)) c.running)
@@ -165,16 +166,30 @@ given_next : (before : List Entry) (e : Entry) (c after : CoreData)
     → All (IsGiven before) c.running → Steps c e.event e.answer after
     → All (IsGiven (before ++ e ∷ [])) after.running
 given_next before e c after all step =
-    steps_running (IsGiven (before ++ e ∷ [])) (given_same (before ++ e ∷ [])) c after e.event
-    e.answer step
-    (All-weaker (IsGiven before) (IsGiven (before ++ e ∷ [])) (given_more before (e ∷ []))
-    c.running all)
+    steps_running (IsGiven now)
+    (λ q r hand exec phase g. given_same now q r hand exec g) c after e.event e.answer step were
     (λ exec h asked told. record {
       entry = e;
       among = Contains-push before e;
       asked = asked;
       task = told;
     })
+    (λ side is aside. further (steps_aside c after side e.answer aside))
+  where
+    now : List Entry
+    now = before ++ e ∷ []
+
+    were : All (IsGiven (before ++ e ∷ [])) c.running
+    were =
+        All-weaker (IsGiven before) (IsGiven now) (given_more before (e ∷ [])) c.running all
+
+    further : IsAside c after → All (IsGiven (before ++ e ∷ [])) after.running
+    further is =
+        subst (λ rs. All (IsGiven now) rs) (sym is.running)
+        (All-map (IsGiven now) is.further c.running
+        (All-weaker (IsGiven now) (λ r. IsGiven now (is.further r))
+        (λ r p. given_same now r (is.further r) (is.each r).hand_out (is.each r).exec p) c.running
+        were))
 
 given_along : (before : List Entry) (c : CoreData) → All (IsGiven before) c.running
     → (entries : List Entry) (end : CoreData) → Replays c entries end

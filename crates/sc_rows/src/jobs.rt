@@ -21,7 +21,7 @@ pub fn counting_under<R: Abort + AllocGlobal>(rt: &R, limits: Limits, plan: &str
 {
     let graph = word_count(rt, 1);
     let plan = plan_of(rt, plan);
-    begun(rt, &graph, limits, &plan, None)
+    begun(rt, &graph, limits, false, &plan, None)
 }
 
 /// That of a job behind it whose stage 2 reads the outputs of the same shuffle.
@@ -29,7 +29,7 @@ pub fn counting_again<R: Abort + AllocGlobal>(rt: &R, limits: Limits, last: &Cor
     requires { room_of last.now ≡ 2 }
 {
     let graph = word_count(rt, 2);
-    begun(rt, &graph, limits, &plan_of(rt, ""), Some(last))
+    begun(rt, &graph, limits, false, &plan_of(rt, ""), Some(last))
 }
 
 /// That of a job without a shuffle, of so many results.
@@ -37,7 +37,20 @@ pub fn results<R: Abort + AllocGlobal>(rt: &R, limits: Limits, tasks: u32) -> Jo
     requires { 0 < tasks }
 {
     let graph = results_alone(rt, tasks);
-    begun(rt, &graph, limits, &plan_of(rt, ""), None)
+    begun(rt, &graph, limits, false, &plan_of(rt, ""), None)
+}
+
+/// That of a job without a shuffle that saves so many results, under a fault plan.
+pub fn saving_under<R: Abort + AllocGlobal>(
+    rt: &R,
+    limits: Limits,
+    tasks: u32,
+    plan: &str,
+) -> Journal
+    requires { 0 < tasks }
+{
+    let graph = results_alone(rt, tasks);
+    begun(rt, &graph, limits, true, &plan_of(rt, plan), None)
 }
 
 /// A plan for two executors.
@@ -49,23 +62,24 @@ fn plan_of<R: Abort + AllocGlobal>(rt: &R, text: &str) -> Plan {
     }
 }
 
-/// The journal of a job with these stages, which saves nothing.
+/// The journal of a job with these stages, which saves its results or doesn't.
 fn begun<R: Abort + AllocGlobal>(
     rt: &R,
     graph: &StageGraph,
     limits: Limits,
+    saves: bool,
     plan: &Plan,
     last: Option<&Core>,
 ) -> Journal
     requires job { IsJob graph.now }
     requires fits { FitsJob (tracker_behind (option_map (λ l. l.now) last) limits) graph.now }
-    ensures { IsOpening graph.now limits false plan.now (option_map (λ l. l.now) last.entry)
+    ensures { IsOpening graph.now limits saves plan.now (option_map (λ l. l.now) last.entry)
         result.0.core }
 {
     is_sound_behind(last);
     is_live_behind(rt, limits, last);
-    let opening = Core::open(rt.alloc(), graph, limits, false, plan, last).expect(rt, "memory");
-    let core = Core::open(rt.alloc(), graph, limits, false, plan, last).expect(rt, "memory");
+    let opening = Core::open(rt.alloc(), graph, limits, saves, plan, last).expect(rt, "memory");
+    let core = Core::open(rt.alloc(), graph, limits, saves, plan, last).expect(rt, "memory");
     Journal::begin(rt.alloc(), opening, core)
 }
 

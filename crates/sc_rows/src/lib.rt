@@ -38,6 +38,8 @@ mod job_reports;
 #[cfg(test)]
 mod job_runs;
 #[cfg(test)]
+mod job_saves;
+#[cfg(test)]
 mod jobs;
 #[cfg(test)]
 mod keys;

@@ -10,10 +10,10 @@
 ghost use Rattle.std.specs.Prelude.{◌≡◌};
 ghost use Rattle.sc_rows.specs.Jobs.{room_of};
 
-use crate::jobs::{counting_under, results};
+use crate::jobs::{counting_under, results, saving_under};
 use crate::works::halves;
 use sc_base::OrMemory;
-use sc_core::{Event, Journal, NotEnabled, Outcome, SideEvent};
+use sc_core::{Event, FileOutcome, Journal, NotEnabled, Outcome, SideEvent};
 use sc_expr::Raise;
 use sc_ids::{AttemptId, Counts, ExecId, FailureCause, Fault, Limits, Loc, Mark};
 use std::process::Abort;
@@ -35,6 +35,10 @@ fn assert_job<R: Abort + AllocGlobal>(rt: &R, case: &str) {
     let limits = limits_of(rt, head);
     let mut journal = if head.starts_with("counts") {
         counting_under(rt, limits, plan)
+    } else if head.starts_with("one saved result") {
+        saving_under(rt, limits, 1, plan)
+    } else if head.starts_with("four saved results") {
+        saving_under(rt, limits, 4, plan)
     } else if head.starts_with("four results") {
         results(rt, limits, 4)
     } else {
@@ -161,8 +165,38 @@ fn event_of(line: &str, numbers: &[u32]) -> Event {
         partition: at(numbers, 3),
         nth: at(numbers, 4),
     };
-    let outcome = outcome_of(line, numbers);
-    Event::Post { attempt, outcome }
+    if line.contains(" post ") {
+        let outcome = outcome_of(line, numbers);
+        return Event::Post { attempt, outcome };
+    }
+    Event::Side(step_of(line, numbers, attempt))
+}
+
+/// The step of an attempt of a save.
+fn step_of(line: &str, numbers: &[u32], attempt: AttemptId) -> SideEvent {
+    let done = file_outcome_of(line, numbers);
+    if line.contains(" stage ") {
+        SideEvent::Stage {
+            attempt,
+            wrote: done,
+        }
+    } else if line.contains(" move ") {
+        SideEvent::Move {
+            attempt,
+            renamed: done,
+        }
+    } else {
+        SideEvent::Ask { attempt }
+    }
+}
+
+/// What its call on the files came to, as the answer shows.
+fn file_outcome_of(line: &str, numbers: &[u32]) -> FileOutcome {
+    if line.contains(": device, ") {
+        FileOutcome::Failed(fault_of(numbers))
+    } else {
+        FileOutcome::Done
+    }
 }
 
 fn outcome_of(line: &str, numbers: &[u32]) -> Outcome {
@@ -198,10 +232,7 @@ fn cause_of(line: &str, numbers: &[u32]) -> FailureCause {
             last: loc_of(numbers),
         }
     } else if line.contains(" device, ") {
-        FailureCause::Device(Fault {
-            before: counts_of(at(numbers, 5), at(numbers, 7)),
-            after: counts_of(at(numbers, 6), at(numbers, 8)),
-        })
+        FailureCause::Device(fault_of(numbers))
     } else {
         FailureCause::Denied
     }
@@ -214,6 +245,14 @@ fn raise_of(line: &str) -> Raise {
         Raise::NotANumber
     } else {
         Raise::OutOfRange
+    }
+}
+
+/// The fault that stands behind the attempt.
+fn fault_of(numbers: &[u32]) -> Fault {
+    Fault {
+        before: counts_of(at(numbers, 5), at(numbers, 7)),
+        after: counts_of(at(numbers, 6), at(numbers, 8)),
     }
 }
 
