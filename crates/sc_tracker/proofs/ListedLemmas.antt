@@ -1,21 +1,19 @@
 -- Lists of outputs, where an output is registered or forgotten.
-use Rattle.std.proofs.Common.{◌≡◌, ◌⊎◌, inl, inr, ℕ, zero, suc, ◌<◌, ◌≤◌, ◌==◌, Bool, true, false, if◌then◌else◌, List, [], ◌∷◌, ◌++◌, Option, Some, None, is_none, length, map, nat_lt, replicate, refl, ap, sym, subst, ◌∙◌, arith, rules, true≢false}
-use Rattle.std.proofs.lemmas.Bool.{cases_eq, cases_lt}
+use Rattle.std.proofs.Common.{◌≡◌, ◌⊎◌, inl, inr, ℕ, zero, suc, ◌<◌, ◌≤◌, ◌==◌, Bool, true, false, if◌then◌else◌, List, [], ◌∷◌, Option, Some, None, is_none, length, map, nat_lt, refl, ap, sym, subst, ◌∙◌, arith, rules}
+use Rattle.std.proofs.lemmas.Bool.{cases_eq}
 use Rattle.std.proofs.lemmas.Bool.Decides.{nat_tests}
-use Rattle.std.proofs.lemmas.List.{length-map, map-append}
 use Rattle.sc_base.specs.Lists.{at_or}
 use Rattle.sc_ids.specs.Changes.{change_at}
 use Rattle.sc_ids.specs.declared.blocks.Loc.{Loc}
 use Rattle.sc_ids.proofs.ChangeLemmas.{at_or_change_other, at_or_change_same, length_change_at}
-use Rattle.sc_tracker.specs.Lists.{AreLinked, AreListed, AreOnce, IsList, ListsData, back_at, emptied_lists, has_place, has_room_at, is_same, link_at, lists_data, next_at, output_at, pushed, removed, unchained, unlinked, with_back, with_first, with_item, with_next, with_output}
-use Rattle.sc_tracker.specs.Outputs.{forgotten, is_on, never, placed}
+use Rattle.sc_tracker.specs.Lists.{AreListed, IsList, ListsData, back_at, has_place, has_room_at, is_same, link_at, lists_data, next_at, output_at, removed, unchained, unlinked, with_back, with_first, with_item, with_next, with_output}
+use Rattle.sc_tracker.specs.Outputs.{forgotten, is_on}
 use Rattle.sc_tracker.specs.TrackerData.{ShuffleData, shuffle_data}
-use Rattle.sc_tracker.specs.Tracking.{with_forgotten}
 use Rattle.sc_tracker.specs.declared.lists.Link.{Link}
 use Rattle.sc_tracker.specs.declared.lists.Place.{Place}
 use Rattle.sc_tracker.specs.declared.outputs.Output.{Output}
-use Rattle.sc_tracker.proofs.ItemLemmas.{at_or_past, has_room_on, item_more, item_other, item_same, map_change_kept, on_one, output_mapped, output_more, output_other, output_same, room_within}
-use Rattle.sc_tracker.proofs.LinkLemmas.{Unlinks, back_in, before_in, clash, has_gone, has_without, head_back, head_in, links_pushed, links_removed, links_same, next_in, once_without, same_itself, same_place, some_one, without_place}
+use Rattle.sc_tracker.proofs.ItemLemmas.{has_room_on, item_other, item_same, map_change_kept, on_one, output_other, output_same, room_within}
+use Rattle.sc_tracker.proofs.LinkLemmas.{Unlinks, back_in, before_in, clash, has_gone, has_without, head_back, links_removed, links_same, next_in, once_without, same_itself, same_place, some_one, without_place}
 
 -- ---- links are there
 
