@@ -64,6 +64,8 @@ mod slow_attempts;
 #[cfg(test)]
 mod streams;
 #[cfg(test)]
+mod trackers;
+#[cfg(test)]
 mod transcripts;
 #[cfg(test)]
 mod veiled;
