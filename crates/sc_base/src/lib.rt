@@ -7,6 +7,7 @@
 //! that a sink took, and how often each of them failed. `specs/Counts.antt` says when such a count
 //! rose, and `specs/Lists.antt` has the words on lists that the definitions above share.
 //! `proofs/Gathering.antt` carries every loop that gathers results up to the first that stops it.
+//! [`Steps`] counts what a call looks at, so that a contract can bound it; it takes no bytes.
 //!
 //! It stands below every other crate, and knows nothing of values, scripts or runs.
 #![tactic(auto)]

@@ -8,8 +8,8 @@ use Rattle.sc_tracker.specs.Lists.{AreLinked, AreOnce, IsList, back_at, has_plac
 use Rattle.sc_tracker.specs.Outputs.{forgotten, forgotten_on, is_on, never}
 use Rattle.sc_tracker.specs.TrackerData.{ShuffleData, registered_on, shuffle_data}
 use Rattle.sc_tracker.specs.Tracking.{with_forgotten_on}
-use Rattle.sc_tracker.specs.declared.lists.Link.{Link}
-use Rattle.sc_tracker.specs.declared.lists.Place.{Place}
+use Rattle.sc_tracker.specs.declared.links.Link.{Link}
+use Rattle.sc_tracker.specs.declared.links.Place.{Place}
 use Rattle.sc_tracker.specs.declared.outputs.Output.{Output}
 use Rattle.sc_tracker.proofs.CountLemmas.{count_change, count_cons, passes_within}
 use Rattle.sc_tracker.proofs.ItemLemmas.{has_room_on, output_other, output_same}

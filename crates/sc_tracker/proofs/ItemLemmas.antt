@@ -10,7 +10,7 @@ use Rattle.sc_ids.specs.declared.blocks.Loc.{Loc}
 use Rattle.sc_tracker.specs.Lists.{has_room_at, is_same, item_at, output_at, with_item, with_output}
 use Rattle.sc_tracker.specs.Outputs.{is_on, never}
 use Rattle.sc_tracker.specs.TrackerData.{ShuffleData, shuffle_data}
-use Rattle.sc_tracker.specs.declared.lists.Place.{Place}
+use Rattle.sc_tracker.specs.declared.links.Place.{Place}
 use Rattle.sc_tracker.specs.declared.outputs.Output.{Output}
 use Rattle.sc_tracker.proofs.BlockLemmas.{at_or-map}
 use Rattle.sc_tracker.proofs.LinkLemmas.{clash}

@@ -9,8 +9,8 @@ use Rattle.sc_tracker.specs.Lists.{AreListed, IsList, ListsData, back_at, emptie
 use Rattle.sc_tracker.specs.Outputs.{forgotten, forgotten_on, is_on, never}
 use Rattle.sc_tracker.specs.TrackerData.{ShuffleData}
 use Rattle.sc_tracker.specs.Tracking.{with_forgotten, with_forgotten_on}
-use Rattle.sc_tracker.specs.declared.lists.Link.{Link}
-use Rattle.sc_tracker.specs.declared.lists.Place.{Place}
+use Rattle.sc_tracker.specs.declared.links.Link.{Link}
+use Rattle.sc_tracker.specs.declared.links.Place.{Place}
 use Rattle.sc_tracker.specs.declared.outputs.Output.{Output}
 use Rattle.sc_tracker.proofs.ItemLemmas.{item_more, on_one, output_mapped, output_more}
 use Rattle.sc_tracker.proofs.LinkLemmas.{links_same}

@@ -6,8 +6,8 @@ use Rattle.sc_ids.specs.Changes.{change_at}
 use Rattle.sc_ids.specs.declared.blocks.BlockId.{BlockId}
 use Rattle.sc_tracker.specs.Outputs.{forgotten, is_on, never}
 use Rattle.sc_tracker.specs.TrackerData.{ShuffleData, place_of, shuffle_data}
-use Rattle.sc_tracker.specs.declared.lists.Link.{Link}
-use Rattle.sc_tracker.specs.declared.lists.Place.{Place}
+use Rattle.sc_tracker.specs.declared.links.Link.{Link}
+use Rattle.sc_tracker.specs.declared.links.Place.{Place}
 use Rattle.sc_tracker.specs.declared.outputs.Output.{Output}
 
 -- nothing stands before or behind an output
