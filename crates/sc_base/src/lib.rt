@@ -8,6 +8,7 @@
 //! rose, `specs/Trees.antt` what directories and files are, and `specs/Saves.antt` what a save
 //! leaves of them. `specs/Lists.antt` has the words on lists that the definitions above share.
 //! `proofs/Gathering.antt` carries every loop that gathers results up to the first that stops it.
+//! [`Steps`] counts what a call looks at, so that a contract can bound it; it takes no bytes.
 //!
 //! It stands below every other crate, and knows nothing of values, scripts or runs.
 #![tactic(auto)]

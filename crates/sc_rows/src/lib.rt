@@ -68,6 +68,8 @@ mod stagings;
 #[cfg(test)]
 mod streams;
 #[cfg(test)]
+mod trackers;
+#[cfg(test)]
 mod transcripts;
 #[cfg(test)]
 mod veiled;

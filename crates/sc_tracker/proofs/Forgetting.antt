@@ -1,23 +1,19 @@
 -- Going through the list of an executor, whose outputs are forgotten one by one.
-use Rattle.std.proofs.Common.{◌≡◌, ◌⊎◌, inl, inr, ℕ, zero, suc, ◌+◌, ◌<◌, ◌≤◌, ◌==◌, ◌||◌, Bool, true, false, cond, if◌then◌else◌, List, [], ◌∷◌, ◌++◌, Option, Some, None, length, map, replicate, slice_get, refl, ap, sym, subst, ◌∙◌, arith, rules, true≢false}
-use Rattle.std.proofs.lemmas.Bool.{cases_eq}
-use Rattle.std.proofs.lemmas.Bool.Decides.{nat_tests}
-use Rattle.std.proofs.lemmas.List.{length-map, length-replicate, map-append}
+use Rattle.std.proofs.Common.{◌≡◌, ℕ, zero, suc, ◌+◌, ◌<◌, ◌||◌, Bool, true, false, cond, List, [], ◌∷◌, Option, Some, None, length, map, refl, ap, sym, subst, ◌∙◌, arith, rules, true≢false}
 use Rattle.std.proofs.lemmas.List.Sums.{sum_by-cons}
-use Rattle.std.specs.List.{count_by, sum_by}
+use Rattle.std.specs.List.{count_by}
 use Rattle.sc_base.specs.Lists.{at_or}
 use Rattle.sc_ids.specs.Changes.{change_at}
-use Rattle.sc_ids.proofs.ChangeLemmas.{at_or_change_other, at_or_change_same, length_change_at}
-use Rattle.sc_tracker.specs.Lists.{AreLinked, AreListed, AreOnce, IsList, ListsData, back_at, emptied_lists, has_place, has_room_at, is_same, lists_data, next_at, output_at, unlinked, with_first, with_one_forgotten, with_output}
+use Rattle.sc_tracker.specs.Lists.{AreLinked, AreOnce, IsList, back_at, has_place, is_same, next_at, output_at, with_one_forgotten, with_output}
 use Rattle.sc_tracker.specs.Outputs.{forgotten, forgotten_on, is_on, never}
 use Rattle.sc_tracker.specs.TrackerData.{ShuffleData, registered_on, shuffle_data}
-use Rattle.sc_tracker.specs.Tracking.{with_forgotten, with_forgotten_on}
-use Rattle.sc_tracker.specs.declared.lists.Link.{Link}
-use Rattle.sc_tracker.specs.declared.lists.Place.{Place}
+use Rattle.sc_tracker.specs.Tracking.{with_forgotten_on}
+use Rattle.sc_tracker.specs.declared.links.Link.{Link}
+use Rattle.sc_tracker.specs.declared.links.Place.{Place}
 use Rattle.sc_tracker.specs.declared.outputs.Output.{Output}
 use Rattle.sc_tracker.proofs.CountLemmas.{count_change, count_cons, passes_within}
-use Rattle.sc_tracker.proofs.ItemLemmas.{has_room_on, item_more, on_one, output_mapped, output_more, output_other, output_same}
-use Rattle.sc_tracker.proofs.LinkLemmas.{clash, in_front, links_same, same_place}
+use Rattle.sc_tracker.proofs.ItemLemmas.{has_room_on, output_other, output_same}
+use Rattle.sc_tracker.proofs.LinkLemmas.{in_front, same_place}
 
 -- ---- what is still to be gone through
 

@@ -2,6 +2,7 @@ pub mod BlockLemmas
 pub mod CountLemmas
 pub mod Forgetting
 pub mod ItemLemmas
+pub mod LinkChanges
 pub mod LinkLemmas
 pub mod ListedLemmas
 pub mod PlaceLemmas

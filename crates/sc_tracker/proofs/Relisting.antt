@@ -1,20 +1,21 @@
 -- Lists of outputs, where an output is registered.
-use Rattle.std.proofs.Common.{◌≡◌, ◌⊎◌, inl, inr, ℕ, zero, suc, ◌<◌, ◌≤◌, ◌==◌, Bool, true, false, if◌then◌else◌, is_none, List, [], ◌∷◌, Option, Some, None, length, map, nat_lt, refl, ap, sym, subst, ◌∙◌, arith, rules, true≢false}
+use Rattle.std.proofs.Common.{◌≡◌, ◌⊎◌, inl, inr, ℕ, zero, suc, ◌<◌, ◌≤◌, ◌==◌, Bool, true, false, if◌then◌else◌, is_none, List, [], ◌∷◌, Option, Some, None, length, map, nat_lt, refl, ap, sym, subst, ◌∙◌, arith, rules}
 use Rattle.std.proofs.lemmas.Bool.{cases_eq, cases_lt}
 use Rattle.std.proofs.lemmas.Bool.Decides.{nat_tests}
 use Rattle.sc_base.specs.Lists.{at_or}
 use Rattle.sc_ids.specs.Changes.{change_at}
 use Rattle.sc_ids.specs.declared.blocks.Loc.{Loc}
 use Rattle.sc_ids.proofs.ChangeLemmas.{change_at_past, at_or_change_other, at_or_change_same, length_change_at}
-use Rattle.sc_tracker.specs.Lists.{AreListed, IsList, ListsData, back_at, has_place, has_room_at, is_same, link_at, lists_data, next_at, output_at, pushed, removed, unchained, unlinked, with_back, with_first, with_item, with_next, with_output}
+use Rattle.sc_tracker.specs.Lists.{AreListed, IsList, ListsData, back_at, has_place, has_room_at, is_same, lists_data, next_at, output_at, pushed, removed, unchained, unlinked, with_back, with_first, with_item, with_next, with_output}
 use Rattle.sc_tracker.specs.Outputs.{forgotten, is_on, placed}
 use Rattle.sc_tracker.specs.TrackerData.{ShuffleData, shuffle_data}
-use Rattle.sc_tracker.specs.declared.lists.Link.{Link}
-use Rattle.sc_tracker.specs.declared.lists.Place.{Place}
+use Rattle.sc_tracker.specs.declared.links.Link.{Link}
+use Rattle.sc_tracker.specs.declared.links.Place.{Place}
 use Rattle.sc_tracker.specs.declared.outputs.Output.{Output}
 use Rattle.sc_tracker.proofs.ItemLemmas.{at_or_past, has_room_on, item_other, item_same, on_one, output_other, output_same}
-use Rattle.sc_tracker.proofs.LinkLemmas.{clash, head_in, links_pushed, links_same, same_itself, same_place, some_one}
-use Rattle.sc_tracker.proofs.ListedLemmas.{HasLink, apart_of, back_back, back_firsts, back_keep, back_length, back_next, forgotten_listed, forgotten_unlisted, has_link, item_length, next_firsts, output_length, row_length}
+use Rattle.sc_tracker.proofs.LinkLemmas.{clash, head_in, links_pushed, links_same, same_place, some_one}
+use Rattle.sc_tracker.proofs.LinkChanges.{HasLink, apart_of, back_back, back_firsts, back_keep, back_length, back_next, has_link, item_length, next_firsts, output_length, row_length}
+use Rattle.sc_tracker.proofs.ListedLemmas.{forgotten_listed, forgotten_unlisted}
 
 -- ---- an output that is registered nowhere is registered
 
@@ -100,7 +101,9 @@ module _ (shuffles : List ShuffleData) (l : ListsData) (are : AreListed shuffles
       (ap (is_on exec) none))))
 
   here : (exec : ℕ) → is_on exec (output_at after p).here ≡ (loc.exec == exec)
-  here exec = ap (λ (o : Output). is_on exec o.here) (output_same shuffles p (placed loc epoch) room)
+  here exec =
+      ap (λ (o : Output). is_on exec o.here)
+      (output_same shuffles p (placed loc epoch) room)
 
   kept : (exec : ℕ) (q : Place) → is_same p q ≡ false
       → is_on exec (output_at after q).here ≡ is_on exec (output_at shuffles q).here
@@ -146,8 +149,8 @@ module _ (shuffles : List ShuffleData) (l : ListsData) (are : AreListed shuffles
             (λ q h. (
               next_other exec q (sym (list.exactly q) ∙ h),
               back_other exec q (sym (list.exactly q) ∙ h)
-                  (λ is. ne (on_one exec loc.exec (output_at shuffles q).here (sym (list.exactly q) ∙ h)
-                  (first_there q is))),
+                  (λ is. ne (on_one exec loc.exec (output_at shuffles q).here
+                  (sym (list.exactly q) ∙ h) (first_there q is))),
             )) list.linked;
         once = list.once;
         exactly = λ q. by q (is_same p q) refl;

@@ -1,23 +1,19 @@
 -- Lists of a tracker that begins, has room for one more shuffle, or forgets outputs.
-use Rattle.std.proofs.Common.{◌≡◌, ◌⊎◌, inl, inr, ℕ, zero, suc, ◌+◌, ◌<◌, ◌≤◌, ◌==◌, ◌||◌, Bool, true, false, cond, if◌then◌else◌, List, [], ◌∷◌, ◌++◌, Option, Some, None, length, map, replicate, slice_get, refl, ap, sym, subst, ◌∙◌, arith, rules, true≢false}
+use Rattle.std.proofs.Common.{◌≡◌, ◌⊎◌, inl, inr, ℕ, zero, suc, ◌<◌, Bool, true, false, if◌then◌else◌, List, [], ◌∷◌, ◌++◌, Option, None, length, map, replicate, refl, ap, sym, subst, ◌∙◌}
 use Rattle.std.proofs.lemmas.Bool.{cases_eq}
-use Rattle.std.proofs.lemmas.Bool.Decides.{nat_tests}
 use Rattle.std.proofs.lemmas.List.{length-map, length-replicate, map-append}
-use Rattle.std.proofs.lemmas.List.Sums.{sum_by-cons}
-use Rattle.std.specs.List.{count_by, sum_by}
 use Rattle.sc_base.specs.Lists.{at_or}
 use Rattle.sc_ids.specs.Changes.{change_at}
 use Rattle.sc_ids.proofs.ChangeLemmas.{at_or_change_other, at_or_change_same, length_change_at}
-use Rattle.sc_tracker.specs.Lists.{AreLinked, AreListed, AreOnce, IsList, ListsData, back_at, emptied_lists, has_place, has_room_at, is_same, lists_data, next_at, output_at, unlinked, with_first, with_one_forgotten, with_output}
+use Rattle.sc_tracker.specs.Lists.{AreListed, IsList, ListsData, back_at, emptied_lists, lists_data, next_at, output_at, unlinked, with_first}
 use Rattle.sc_tracker.specs.Outputs.{forgotten, forgotten_on, is_on, never}
-use Rattle.sc_tracker.specs.TrackerData.{ShuffleData, registered_on, shuffle_data}
+use Rattle.sc_tracker.specs.TrackerData.{ShuffleData}
 use Rattle.sc_tracker.specs.Tracking.{with_forgotten, with_forgotten_on}
-use Rattle.sc_tracker.specs.declared.lists.Link.{Link}
-use Rattle.sc_tracker.specs.declared.lists.Place.{Place}
+use Rattle.sc_tracker.specs.declared.links.Link.{Link}
+use Rattle.sc_tracker.specs.declared.links.Place.{Place}
 use Rattle.sc_tracker.specs.declared.outputs.Output.{Output}
-use Rattle.sc_tracker.proofs.CountLemmas.{count_change, count_cons, passes_within}
-use Rattle.sc_tracker.proofs.ItemLemmas.{has_room_on, item_more, on_one, output_mapped, output_more, output_other, output_same}
-use Rattle.sc_tracker.proofs.LinkLemmas.{clash, in_front, links_same, same_place}
+use Rattle.sc_tracker.proofs.ItemLemmas.{item_more, on_one, output_mapped, output_more}
+use Rattle.sc_tracker.proofs.LinkLemmas.{links_same}
 
 abbrev nowhere : Option Place
 nowhere = None

@@ -1,13 +1,13 @@
 -- The outputs that are registered on each executor, in a list of their places.
-use Rattle.std.specs.Prelude.{ℕ, ◌≡◌, ◌<◌, ◌==◌, ◌&&◌, Bool, true, false, List, [], ◌∷◌, Option, Some, None, if◌then◌else◌, is_none, length, map, nat_lt}
+use Rattle.std.specs.Prelude.{ℕ, ◌≡◌, ◌<◌, ◌==◌, ◌&&◌, Bool, false, List, [], ◌∷◌, Option, Some, None, if◌then◌else◌, is_none, length, map, nat_lt}
 use Rattle.std.specs.List.{list_any}
 use Rattle.sc_base.specs.Lists.{at_or}
 use Rattle.sc_ids.specs.Changes.{change_at}
 use Rattle.sc_ids.specs.declared.blocks.BlockId.{BlockId}
 use Rattle.sc_tracker.specs.Outputs.{forgotten, is_on, never}
 use Rattle.sc_tracker.specs.TrackerData.{ShuffleData, place_of, shuffle_data}
-use Rattle.sc_tracker.specs.declared.lists.Link.{Link}
-use Rattle.sc_tracker.specs.declared.lists.Place.{Place}
+use Rattle.sc_tracker.specs.declared.links.Link.{Link}
+use Rattle.sc_tracker.specs.declared.links.Place.{Place}
 use Rattle.sc_tracker.specs.declared.outputs.Output.{Output}
 
 -- nothing stands before or behind an output

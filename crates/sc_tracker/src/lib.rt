@@ -14,6 +14,7 @@
 #![tactic(auto)]
 
 mod laws;
+mod links;
 mod listed;
 mod lists;
 mod outputs;

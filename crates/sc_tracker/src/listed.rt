@@ -8,7 +8,8 @@ ghost use Rattle.sc_tracker.specs.Outputs.{placed};
 ghost use Rattle.sc_tracker.specs.TrackerData.{registered_on};
 ghost use Rattle.sc_tracker.specs.Tracking.{with_forgotten_on};
 
-use crate::lists::{Lists, Place};
+use crate::links::Place;
+use crate::lists::Lists;
 use crate::shuffles::{ShuffleOutputs, forget_at, has_room_at, output_in, place_at};
 use sc_base::Steps;
 use sc_ids::{Epoch, ExecId, Loc};

@@ -1,7 +1,8 @@
 //! What is known of one map output.
 #![tactic(auto)]
 
-ghost use Rattle.std.specs.Prelude.{◌≡◌};
+ghost use Rattle.std.specs.Prelude.{◌≡◌, map};
+ghost use Rattle.sc_ids.specs.Changes.{change_at};
 ghost use Rattle.sc_tracker.specs.Outputs.{forgotten, is_here, location_in, placed};
 
 use sc_ids::{Epoch, Loc};
@@ -68,5 +69,32 @@ impl Output {
         ensures { self.new ≡ forgotten self.old }
     {
         self.here = None;
+    }
+}
+
+/// Registers an output of a shuffle, where there is room for it.
+pub(crate) fn place_in(outputs: &mut Vec<Output>, map: u32, loc: Loc, epoch: Epoch)
+    ensures { outputs.new.items ≡ change_at outputs.old.items map (placed loc epoch) }
+{
+    if (map as usize) < outputs.len() {
+        outputs[map as usize].place(loc, epoch);
+    }
+}
+
+/// Forgets an output of a shuffle.
+pub(crate) fn forget_in(outputs: &mut Vec<Output>, map: u32)
+    ensures { outputs.new.items ≡ change_at outputs.old.items map forgotten }
+{
+    if (map as usize) < outputs.len() {
+        outputs[map as usize].forget();
+    }
+}
+
+/// Forgets all outputs of a shuffle.
+pub(crate) fn forget_outputs(outputs: &mut [Output])
+    ensures { outputs.new ≡ map forgotten outputs.old }
+{
+    for output in outputs.iter_mut() {
+        output.forget();
     }
 }

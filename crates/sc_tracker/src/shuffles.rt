@@ -9,8 +9,8 @@ ghost use Rattle.sc_tracker.specs.Outputs.{are_here, forgotten, never, output_in
 ghost use Rattle.sc_tracker.specs.TrackerData.{is_of, output_under, outputs_under, place_of, shuffle_data};
 ghost use Rattle.sc_tracker.specs.Tracking.{with_forgotten, with_placed};
 
-use crate::lists::Place;
-use crate::outputs::Output;
+use crate::links::Place;
+use crate::outputs::{Output, forget_in, forget_outputs, place_in};
 use sc_ids::{BlockId, Epoch, Loc, ShuffleId};
 use std::alloc::{AllocError, Global};
 use std::marker::Model;
@@ -243,29 +243,5 @@ pub(crate) fn forget_at(shuffles: &mut Vec<ShuffleOutputs>, place: Place)
 {
     if place.at < shuffles.len() {
         shuffles[place.at].forget_one(place.map);
-    }
-}
-
-fn place_in(outputs: &mut Vec<Output>, map: u32, loc: Loc, epoch: Epoch)
-    ensures { outputs.new.items ≡ change_at outputs.old.items map (placed loc epoch) }
-{
-    if (map as usize) < outputs.len() {
-        outputs[map as usize].place(loc, epoch);
-    }
-}
-
-fn forget_in(outputs: &mut Vec<Output>, map: u32)
-    ensures { outputs.new.items ≡ change_at outputs.old.items map forgotten }
-{
-    if (map as usize) < outputs.len() {
-        outputs[map as usize].forget();
-    }
-}
-
-fn forget_outputs(outputs: &mut [Output])
-    ensures { outputs.new ≡ map forgotten outputs.old }
-{
-    for output in outputs.iter_mut() {
-        output.forget();
     }
 }

@@ -1,9 +1,5 @@
-use Rattle.std.proofs.Common.{◌≡◌, ◌∙◌, ◌+◌, None, Some, ap, arith, subst, true}
-use Rattle.sc_tracker.specs.Lists.{link_at, output_at}
-use Rattle.sc_tracker.specs.Outputs.{is_on}
-use Rattle.sc_tracker.specs.TrackerData.{registered_on}
+use Rattle.std.proofs.Common.{◌∙◌, ◌+◌, ap, arith, subst}
 use Rattle.sc_tracker.proofs.Forgetting.{IsRest, next_is_on, one_less, rest_forgotten, rest_none}
-use Rattle.sc_tracker.specs.declared.lists.Link.{Link}
 use Rattle.sc_tracker.proofs.listed.forget_listed.Goals as goal
 
 pub loop-next-smaller : goal.loop-next-smaller

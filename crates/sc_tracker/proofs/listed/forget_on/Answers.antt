@@ -1,4 +1,4 @@
-use Rattle.std.proofs.Common.{None, Option, ap, length, ◌∙◌}
+use Rattle.std.proofs.Common.{None, ap, length, ◌∙◌}
 use Rattle.sc_ids.proofs.ChangeLemmas.{length_change_at}
 use Rattle.sc_tracker.proofs.WholeLists.{lost_listed}
 use Rattle.sc_tracker.proofs.listed.forget_on.Goals as goal

@@ -1,6 +1,5 @@
-use Rattle.std.proofs.Common.{◌≡◌, ◌∙◌, None, Option, Some, ap, false, length, sym, true}
-use Rattle.sc_ids.specs.declared.blocks.Loc.{Loc}
-use Rattle.sc_tracker.specs.Lists.{AreListed, has_room_at, output_at, with_output}
+use Rattle.std.proofs.Common.{◌≡◌, ◌∙◌, ap, false, length, sym, true}
+use Rattle.sc_tracker.specs.Lists.{has_room_at, output_at}
 use Rattle.sc_tracker.specs.Outputs.{placed}
 use Rattle.sc_tracker.specs.declared.outputs.Output.{Output}
 use Rattle.sc_tracker.proofs.Relisting.{moved_listed, no_room, pushed_listed, pushed_many, removed_many}

@@ -1,4 +1,4 @@
-use Rattle.std.proofs.Common.{◌≡◌, ◌∙◌, ◌<◌, ◌-◌, sym, ap, arith, true, false, count_by}
+use Rattle.std.proofs.Common.{◌≡◌, ◌∙◌, ◌-◌, sym, ap, arith, true, false}
 use Rattle.sc_tracker.specs.Outputs.{is_here, output_in}
 use Rattle.sc_tracker.proofs.CountLemmas.{forgotten_again, forgotten_anew, some_here}
 use Rattle.sc_tracker.proofs.shuffles.ShuffleOutputs.forget_one.Goals.{then-is_here, else-is_here}

@@ -1,5 +1,4 @@
-use Rattle.std.proofs.Common.{ap, length, ◌∙◌}
-use Rattle.std.proofs.lemmas.List.{length-map}
+use Rattle.std.proofs.Common.{◌∙◌}
 use Rattle.sc_tracker.specs.TrackerData.{tracker_data}
 use Rattle.sc_tracker.proofs.TrackerLemmas.{emptied_sound}
 use Rattle.sc_tracker.proofs.WholeLists.{emptied_listed, emptied_many}

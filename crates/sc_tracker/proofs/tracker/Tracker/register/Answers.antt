@@ -2,7 +2,6 @@ use Rattle.std.proofs.Common.{◌≡◌, ◌∙◌, ap, sym, false, subst}
 use Rattle.sc_tracker.specs.Lists.{place_for, with_output}
 use Rattle.sc_tracker.specs.Outputs.{placed}
 use Rattle.sc_tracker.specs.TrackerData.{tracker_data}
-use Rattle.sc_tracker.specs.Tracking.{registered}
 use Rattle.sc_tracker.specs.Trust.{is_bogus_for, trust_at}
 use Rattle.sc_tracker.specs.TrackerFacts.{IsSoundTracker}
 use Rattle.sc_tracker.proofs.TrackerLemmas.{registered_sound}

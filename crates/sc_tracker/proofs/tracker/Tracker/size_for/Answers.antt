@@ -1,4 +1,4 @@
-use Rattle.std.proofs.Common.{ap, length, ◌∙◌}
+use Rattle.std.proofs.Common.{ap}
 use Rattle.sc_tracker.specs.TrackerData.{tracker_data}
 use Rattle.sc_tracker.proofs.TrackerLemmas.{sized_sound}
 use Rattle.sc_tracker.proofs.WholeLists.{more_listed}

@@ -1,4 +1,4 @@
-use Rattle.std.proofs.Common.{◌≡◌, ◌∙◌, ◌<◌, ap, subst, sym, slice_get, true, arith, length}
+use Rattle.std.proofs.Common.{◌≡◌, ◌∙◌, ◌<◌, ap, subst, sym, slice_get, true, arith}
 use Rattle.sc_ids.proofs.ChangeLemmas.{length_change_at}
 use Rattle.sc_tracker.specs.TrackerData.{tracker_data}
 use Rattle.sc_tracker.specs.Trust.{is_live, lost_at}

@@ -1,6 +1,6 @@
 use Rattle.std.proofs.Common.{◌≡◌, ◌++◌, map, take, drop}
 use Rattle.sc_tracker.specs.Outputs.{forgotten}
-use Rattle.sc_tracker.proofs.shuffles.forget_outputs.Given as goal
+use Rattle.sc_tracker.proofs.outputs.forget_outputs.Given as goal
 
 abbrev pub invariant-loop-output : goal.invariant-loop-output
 invariant-loop-output l =

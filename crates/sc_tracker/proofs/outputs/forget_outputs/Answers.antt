@@ -1,6 +1,6 @@
 use Rattle.sc_ids.proofs.ChangeLemmas.{map_loop}
 use Rattle.sc_tracker.specs.Outputs.{forgotten, never}
-use Rattle.sc_tracker.proofs.shuffles.forget_outputs.Goals as goal
+use Rattle.sc_tracker.proofs.outputs.forget_outputs.Goals as goal
 
 pub loop-output-preserved : goal.loop-output-preserved
 loop-output-preserved c =

@@ -1,7 +1,7 @@
 use Rattle.std.proofs.Common.{sym, arith}
 use Rattle.sc_ids.proofs.ChangeLemmas.{set_changed, change_at_past}
 use Rattle.sc_tracker.specs.Outputs.{forgotten}
-use Rattle.sc_tracker.proofs.shuffles.forget_in.Goals as goal
+use Rattle.sc_tracker.proofs.outputs.forget_in.Goals as goal
 
 pub returns-then-map-len : goal.returns-then-map-len
 returns-then-map-len c =

@@ -1,7 +1,7 @@
 use Rattle.std.proofs.Common.{arith, sym}
 use Rattle.sc_ids.proofs.ChangeLemmas.{change_at_past, set_change_at}
 use Rattle.sc_tracker.specs.Lists.{unlinked}
-use Rattle.sc_tracker.proofs.lists.put_in.Goals as goal
+use Rattle.sc_tracker.proofs.links.put_in.Goals as goal
 
 pub returns-then-map-len : goal.returns-then-map-len
 returns-then-map-len c =
