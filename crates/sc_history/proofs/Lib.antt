@@ -24,6 +24,8 @@ pub mod CauseCases
 pub mod TrackerLemmas
 pub mod RulingLemmas
 pub mod GivenLemmas
+pub mod CommitSteps
+pub mod Committed
 pub mod BirthLemmas
 pub mod LaterLemmas
 pub mod ChargedLemmas
