@@ -15,8 +15,10 @@ use Rattle.sc_commit.specs.declared.committers.Permission.{Permission}
 use Rattle.sc_commit.specs.declared.committers.Permission.TheVariants as permissions
 use Rattle.sc_commit.proofs.LawLemmas.{winners_held}
 use Rattle.sc_tracker.specs.Trust.{are_lost}
+use Rattle.sc_dag.specs.DagData.{stage_at}
 use Rattle.sc_dag.specs.Losses.{after_lost}
 use Rattle.sc_dag.specs.Reports.{is_repeat, reaches_limit_in, result_success_of, set_of}
+use Rattle.sc_dag.specs.Submission.{is_map}
 use Rattle.sc_dag.specs.declared.reports.Success.{Success}
 use Rattle.sc_dag.specs.declared.reports.Success.TheVariants as successes
 use Rattle.sc_dag.proofs.Tests.{both_left, both_right, clash}
@@ -393,7 +395,10 @@ heard_finishes c after event answer p w sound heard wins =
     fit = subst (λ o. fits c heard.one o ≡ true) wins.result known.fit
 
     moved : has_moved heard.one.phase ≡ true
-    moved = drop (is_save c.committers) saves (both_right _ _ fit)
+    moved =
+        drop (is_save c.committers) saves
+        (both_right (not (is_map (stage_at c.dag heard.one.hand_out.attempt.stage).target))
+        (not (is_save c.committers) || has_moved heard.one.phase) fit)
       where
         drop : (b : Bool) → b ≡ true → (not b || has_moved heard.one.phase) ≡ true
             → has_moved heard.one.phase ≡ true

@@ -3,6 +3,7 @@
 
 ghost use Rattle.sc_history.specs.Budgets.{BudgetsAreShown, HandOutsAreCounted, LimitsStay};
 ghost use Rattle.sc_history.specs.Charges.{FailedAttemptsAreCharged, StepsCharge};
+ghost use Rattle.sc_history.specs.Committing.{GrantsAreSole, WinnersCommit};
 ghost use Rattle.sc_history.specs.Evidence.{TaskLimitsAreShown};
 ghost use Rattle.sc_history.specs.Fresh.{TakesAreFresh};
 ghost use Rattle.sc_history.specs.Given.{HeardAreGiven, RunningAreGiven};
@@ -95,4 +96,12 @@ pub fn failures_are_charged()
 /// it. A call does nothing.
 pub fn results_are_once()
     ensures { ResultsAreOnce }
+{}
+
+/// No two attempts of a partition hold a grant, and who has won was granted it, moved its output
+/// and told its success, in this order and with its grant held from the first to the last. A call
+/// does nothing.
+pub fn grants_are_sole()
+    ensures sole { GrantsAreSole }
+    ensures winners { WinnersCommit }
 {}
