@@ -95,8 +95,11 @@ result_ends c after r answer (told, is) = by (result_success_of c.dag a) refl to
     by successes.Registered e told is = absurd (never (is_repeat c.dag a) e)
     by successes.Bogus e told is = absurd (nor (is_repeat c.dag a) e)
     by successes.Finished e told is =
-        inr (inr (ap (λ (x : CoreData). x.committers) is ∙ done _ (with_result_of freed a), refl,
-        told))
+        inr (inr (
+          ap (λ (x : CoreData). x.committers) is ∙ done _ (with_result_of freed a),
+          refl,
+          told,
+        ))
 
 pub tells_end : (c after : CoreData) (r : Running) (outcome : Outcome) (answer : Answer)
     → Tells c r outcome answer after
@@ -258,8 +261,11 @@ sides_ask c after (Ask a) said step = by (is_staged (saver_phase c a)) step
     asks permissions.Granted e (told, is) =
         inr (a, ap (λ (x : CoreData). x.committers) is, λ granted. (refl, told))
     asks (permissions.Denied other) e (told, is) =
-        inr (a, ap (λ (x : CoreData). x.committers) is,
-        λ granted. absurd (search (rules, e, granted)))
+        inr (
+          a,
+          ap (λ (x : CoreData). x.committers) is,
+          λ granted. absurd (search (rules, e, granted)),
+        )
     asks permissions.Over e (told, is) = inl (ap (λ (x : CoreData). x.committers) is)
 
     by : (b : Bool) → AsksIf b c a said after

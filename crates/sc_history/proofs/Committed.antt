@@ -258,8 +258,10 @@ one_moves opening entries c e a moves held rs all =
     by r h true f =
         let same : r.hand_out.attempt ≡ a =
         same_is r.hand_out.attempt a (both_left (is_of a r) r.is_out f) in
-        λ m. inr (subst (λ b. IsMoveOf b e) (sym same) moves,
-        subst (λ b. HoldsGrant c b) (sym same) held)
+        λ m. inr (
+          subst (λ b. IsMoveOf b e) (sym same) moves,
+          subst (λ b. HoldsGrant c b) (sym same) held,
+        )
 
 aside_moves :
     (opening : CoreData) (entries : List Entry) (c after : CoreData) (e : Entry)

@@ -13,6 +13,7 @@ ghost use Rattle.sc_history.specs.Results.{ResultsAreOnce};
 ghost use Rattle.sc_history.specs.Rooms.{ReplaysKeepRoom, StepsKeepRoom};
 ghost use Rattle.sc_history.specs.Ruling.{BogusStays, EventsForgetAtOne, OthersForgetNone, ReplaysGoForward};
 ghost use Rattle.sc_history.specs.StageEvidence.{StageLimitsAreShown};
+ghost use Rattle.sc_history.specs.Stands.{StandsAreTold};
 ghost use Rattle.sc_history.specs.Tellings.{ReportsArePosted};
 ghost use Rattle.sc_history.specs.Trackers.{EpochsCount, StepsCountEpochs, StepsTrack};
 
@@ -104,4 +105,9 @@ pub fn results_are_once()
 pub fn grants_are_sole()
     ensures sole { GrantsAreSole }
     ensures winners { WinnersCommit }
+{}
+
+/// What stands of the output of an attempt is a function of the entries. A call does nothing.
+pub fn stands_are_told()
+    ensures { StandsAreTold }
 {}
