@@ -124,7 +124,7 @@ saver_of c a phase job save is = by (may_save c a) refl is
     by false e h = absurd (search (rules, h))
     by true e h = one e (find (is_out_of a) c.running) refl h
 
-given_is : (o : Option Phase) → is_given o ≡ true → o ≡ Some phases.Given
+pub given_is : (o : Option Phase) → is_given o ≡ true → o ≡ Some phases.Given
 given_is None e = absurd (true≢false (sym e))
 given_is (Some phases.Given) e = refl
 given_is (Some phases.Staged) e = absurd (true≢false (sym e))
@@ -133,7 +133,7 @@ given_is (Some phases.Denied) e = absurd (true≢false (sym e))
 given_is (Some phases.Moved) e = absurd (true≢false (sym e))
 given_is (Some (phases.Faulted fault)) e = absurd (true≢false (sym e))
 
-staged_is : (o : Option Phase) → is_staged o ≡ true → o ≡ Some phases.Staged
+pub staged_is : (o : Option Phase) → is_staged o ≡ true → o ≡ Some phases.Staged
 staged_is None e = absurd (true≢false (sym e))
 staged_is (Some phases.Given) e = absurd (true≢false (sym e))
 staged_is (Some phases.Staged) e = refl
@@ -142,7 +142,7 @@ staged_is (Some phases.Denied) e = absurd (true≢false (sym e))
 staged_is (Some phases.Moved) e = absurd (true≢false (sym e))
 staged_is (Some (phases.Faulted fault)) e = absurd (true≢false (sym e))
 
-granted_is : (o : Option Phase) → is_granted o ≡ true → o ≡ Some phases.Granted
+pub granted_is : (o : Option Phase) → is_granted o ≡ true → o ≡ Some phases.Granted
 granted_is None e = absurd (true≢false (sym e))
 granted_is (Some phases.Given) e = absurd (true≢false (sym e))
 granted_is (Some phases.Staged) e = absurd (true≢false (sym e))
@@ -152,7 +152,7 @@ granted_is (Some phases.Moved) e = absurd (true≢false (sym e))
 granted_is (Some (phases.Faulted fault)) e = absurd (true≢false (sym e))
 
 -- it is as far as its grant tells
-saver_far : (c : CoreData) (a : AttemptId) (phase : Phase) (s : IsSaver c a phase)
+pub saver_far : (c : CoreData) (a : AttemptId) (phase : Phase) (s : IsSaver c a phase)
     → IsAsFar phase (has_grant c a)
 saver_far c a phase s =
     subst (λ x. IsAsFar x (has_grant c a)) s.far
@@ -167,7 +167,7 @@ far_same a b phase r = by (is_out_of a r)
     by true = refl
     by false = refl
 
-find_far : (a b : AttemptId) (phase : Phase) (rs : List Running)
+pub find_far : (a b : AttemptId) (phase : Phase) (rs : List Running)
     → find (is_of b) (map (as_far a phase) rs)
     ≡ option_map (as_far a phase) (find (is_of b) rs)
 find_far a b phase rs = find_mapped (is_of b) (as_far a phase) (far_same a b phase) rs

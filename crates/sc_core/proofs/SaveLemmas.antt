@@ -361,7 +361,8 @@ saves_released a these rs c kind other save =
       won = λ s p. ap (λ o. is_some o) (failed_winners c.committers a p) ∙ save.won (saves s) p
           ∙ sym (done p);
       mirrors = λ s p. freed_flags c.dag a (holds a (committer_at c.committers a.partition))
-          (result_stage c.dag) s p (denies (committer_at c.committers p)) holder_stage (save.mirrors s p)
+          (result_stage c.dag) s p (denies (committer_at c.committers p)) holder_stage
+          (save.mirrors s p)
           ∙ sym (ap (λ (r : ℕ). (s == r) && denies (committer_at next.committers p)) same
           ∙ ap (λ b. (s == result_stage c.dag) && b) (denies_ended c.committers a Failed p));
     }
@@ -395,7 +396,8 @@ saves_released a these rs c kind other save =
     given : (w : AttemptId) → was_given c.dag w ≡ true → was_given next.dag w ≡ true
     given w g = free.given w g
 
-    holder_stage : holds a (committer_at c.committers a.partition) ≡ true → a.stage ≡ result_stage c.dag
+    holder_stage : holds a (committer_at c.committers a.partition) ≡ true
+        → a.stage ≡ result_stage c.dag
     holder_stage e =
         (save.holders a.partition a (holds_is (committer_at c.committers a.partition) a e)).stage
 

@@ -49,7 +49,8 @@ free_in zero p = refl
 free_in (suc n) zero = refl
 free_in (suc n) (suc p) = free_in n p
 
-pub free_at : (saves : Bool) (d : DagData) (p : ℕ) → committer_at (committers_for saves d) p ≡ Nobody
+pub free_at : (saves : Bool) (d : DagData) (p : ℕ)
+    → committer_at (committers_for saves d) p ≡ Nobody
 free_at false d p = refl
 free_at true d p = free_in (stage_at d (result_stage d)).tasks p
 

@@ -287,5 +287,6 @@ failure_saves c after r cause answer job save tells =
 
     left_kind : is_map (stage_at left.dag (result_stage left.dag)).target ≡ false
     left_kind =
-        subst (λ (all : List StageData). is_map (at_or all (length all - 1) no_stage).target ≡ false)
+        subst
+        (λ (all : List StageData). is_map (at_or all (length all - 1) no_stage).target ≡ false)
         (sym (freed failed a endings.Failed).stages) job.result

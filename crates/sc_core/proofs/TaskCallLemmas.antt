@@ -163,7 +163,8 @@ result_moves d a now = by (is_repeat d a)
 told_calm : (p : ℕ) (denied : Bool) (state : StageState)
     → MovesOf nothing None (Some state) (Some (told_held p denied state))
 told_calm p denied state =
-    let moves = newest_calm (λ set. after_held set p denied) state (λ set. hold_calm set p denied) in
+    let moves =
+    newest_calm (λ set. after_held set p denied) state (λ set. hold_calm set p denied) in
     record { runners = moves.runners; given = moves.given }
 
 pub hold_calms : (d : DagData) (s p : ℕ) (denied : Bool) → Calm d (after_hold d s p denied)

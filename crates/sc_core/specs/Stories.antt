@@ -8,17 +8,27 @@ use Rattle.sc_core.specs.declared.answers.Answer.{Answer}
 use Rattle.sc_core.specs.declared.answers.Answer.TheVariants as says
 use Rattle.sc_core.specs.declared.entries.Entry.{Entry}
 use Rattle.sc_core.specs.declared.events.Event.{Event}
-use Rattle.sc_core.specs.declared.events.Event.TheVariants.{Post, Take}
+use Rattle.sc_core.specs.declared.events.Event.TheVariants.{Post, Side, Take}
+use Rattle.sc_core.specs.declared.events.SideEvent.{SideEvent}
+use Rattle.sc_core.specs.declared.events.SideEvent.TheVariants.{Ask, Move, Stage}
 
 -- an answer hands the attempt out
 abbrev pub hands_out : Answer → AttemptId → Bool
 hands_out (says.Task h) a = is_same h.attempt a
 hands_out answer a = false
 
--- an entry is of an attempt: it hands it out, or is a report of it
+-- an event beside the reports is a step of an attempt of a save
+abbrev pub is_step_of : AttemptId → SideEvent → Bool
+is_step_of a (Stage attempt wrote) = is_same attempt a
+is_step_of a (Ask attempt) = is_same attempt a
+is_step_of a (Move attempt renamed) = is_same attempt a
+is_step_of a event = false
+
+-- an entry is of an attempt: it hands it out, or is a step or a report of it
 abbrev pub is_told_of : AttemptId → Event → Answer → Bool
 is_told_of a (Take exec) answer = hands_out answer a
 is_told_of a (Post attempt outcome) answer = is_same attempt a
+is_told_of a (Side event) answer = is_step_of a event
 is_told_of a event answer = false
 
 abbrev pub is_entry_of : AttemptId → Entry → Bool

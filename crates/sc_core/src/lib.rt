@@ -3,9 +3,9 @@
 //! [`Core::step`] is the only way in. An [`Event`] is one of five: an executor asks for a task
 //! ([`Event::Take`]) or reports on one ([`Event::Post`]); a report that the fault plan delayed
 //! reaches the driver ([`Event::Release`]); the driver learns that an executor is lost
-//! ([`Event::TellLost`]); or something happens beside the reports ([`Event::Side`]): an executor leaves,
-//! the clock is read, or an attempt of a save stages its output, asks whether it may commit, or
-//! moves the output to where it counts. What an event is answered and what it leaves is
+//! ([`Event::TellLost`]); or something happens beside the reports ([`Event::Side`]): an executor
+//! leaves, the clock is read, or an attempt of a save stages its output, asks whether it may
+//! commit, or moves the output to where it counts. What an event is answered and what it leaves is
 //! one relation, `Steps` of `specs/Steps.antt`, with a file for each event. A [`Journal`] keeps the
 //! events with their answers, so that its state is the replay of its entries.
 //!

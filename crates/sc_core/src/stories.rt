@@ -3,22 +3,23 @@
 
 ghost use Rattle.std.specs.Prelude.{◌≡◌, IfOk, string_bytes};
 ghost use Rattle.sc_commit.specs.Committing.{is_same};
-ghost use Rattle.sc_core.specs.Stories.{hands_out, is_entry_of, story_text};
+ghost use Rattle.sc_core.specs.Stories.{hands_out, is_entry_of, is_step_of, story_text};
 
 use crate::answers::Answer;
 use crate::entries::Entry;
-use crate::events::Event;
+use crate::events::{Event, SideEvent};
 use sc_ids::AttemptId;
 use std::alloc::{AllocError, Global};
 
 impl Entry {
-    /// Whether it hands out an attempt, or is a report of it.
+    /// Whether it hands out an attempt, or is a step or a report of it.
     pub fn is_of(&self, attempt: AttemptId) -> bool
         ensures { result ≡ is_entry_of attempt self.now }
     {
         match self.event {
             Event::Take { .. } => hands_out(&self.answer, attempt),
             Event::Post { attempt: of, .. } => is_same(of, attempt),
+            Event::Side(event) => is_step_of(event, attempt),
             _ => false,
         }
     }
@@ -35,6 +36,18 @@ pub fn story(alloc: Global, entries: &[Entry], attempt: AttemptId) -> Result<Str
         }
     }
     Ok(text)
+}
+
+/// Whether an event beside the reports is a step of an attempt of a save.
+fn is_step_of(event: SideEvent, attempt: AttemptId) -> bool
+    ensures { result ≡ is_step_of attempt event }
+{
+    match event {
+        SideEvent::Stage { attempt: of, .. } => is_same(of, attempt),
+        SideEvent::Ask { attempt: of } => is_same(of, attempt),
+        SideEvent::Move { attempt: of, .. } => is_same(of, attempt),
+        SideEvent::Leave { .. } | SideEvent::Tick { .. } => false,
+    }
 }
 
 /// Whether an answer hands an attempt out.

@@ -15,15 +15,17 @@ use Rattle.sc_commit.specs.declared.committers.Permission.{Permission}
 use Rattle.sc_commit.specs.declared.committers.Permission.TheVariants as permissions
 use Rattle.sc_commit.proofs.LawLemmas.{winners_held}
 use Rattle.sc_tracker.specs.Trust.{are_lost}
+use Rattle.sc_dag.specs.DagData.{stage_at}
 use Rattle.sc_dag.specs.Losses.{after_lost}
 use Rattle.sc_dag.specs.Reports.{is_repeat, reaches_limit_in, result_success_of, set_of}
+use Rattle.sc_dag.specs.Submission.{is_map}
 use Rattle.sc_dag.specs.declared.reports.Success.{Success}
 use Rattle.sc_dag.specs.declared.reports.Success.TheVariants as successes
 use Rattle.sc_dag.proofs.Tests.{both_left, both_right, clash}
 use Rattle.sc_core.specs.CoreData.{CoreData, job_runs, running_of, with_dag}
 use Rattle.sc_core.specs.HandOuts.{HandOutData}
 use Rattle.sc_core.specs.Losses.{LosesOrAborts, all_released, attempts_on, without_executor}
-use Rattle.sc_core.specs.Posts.{has_moved, is_save}
+use Rattle.sc_core.specs.Posts.{fits, has_moved, is_save}
 use Rattle.sc_core.specs.Saving.{AsksBy, AsksIf, MovesIf, StagesIf, is_given, is_granted, is_staged, saver_phase}
 use Rattle.sc_core.specs.Sides.{LeavesIf, Sides, StepsAside, TicksIf}
 use Rattle.sc_core.specs.Sound.{IsSoundCore}
@@ -50,7 +52,7 @@ use Rattle.sc_core.proofs.TakeCases.{TakesSo, takes_so}
 use Rattle.sc_commit.proofs.CommitLemmas.{change_sound, ended_sound}
 use Rattle.sc_commit.specs.Committing as commit
 use Rattle.sc_history.specs.Tellings.{telling, tellings_in}
-use Rattle.sc_history.proofs.Events.{Comes, IsHeard, posts_come, releases_come}
+use Rattle.sc_history.proofs.Events.{Comes, IsHeard, IsKnown, is_aside, posts_come, releases_come}
 
 -- ---- a report
 
@@ -93,8 +95,11 @@ result_ends c after r answer (told, is) = by (result_success_of c.dag a) refl to
     by successes.Registered e told is = absurd (never (is_repeat c.dag a) e)
     by successes.Bogus e told is = absurd (nor (is_repeat c.dag a) e)
     by successes.Finished e told is =
-        inr (inr (ap (λ (x : CoreData). x.committers) is ∙ done _ (with_result_of freed a), refl,
-        told))
+        inr (inr (
+          ap (λ (x : CoreData). x.committers) is ∙ done _ (with_result_of freed a),
+          refl,
+          told,
+        ))
 
 pub tells_end : (c after : CoreData) (r : Running) (outcome : Outcome) (answer : Answer)
     → Tells c r outcome answer after
@@ -221,7 +226,7 @@ asked_winners ks a p = at (slice_get_cases ks a.partition).1
     at (inr (past, is)) = ap (λ xs. winner_of xs p) (change_at_past ks a.partition (asked a) past)
 
 -- what an event beside the reports does to the committers: nothing, or an attempt has asked
-AskedSo : List Committer → List Committer → SideEvent → SideAnswer → Type 0
+abbrev AskedSo : List Committer → List Committer → SideEvent → SideAnswer → Type 0
 AskedSo ks now event said =
     (now ≡ ks)
     ⊎ ((a : AttemptId) × (now ≡ after_ask ks a true)
@@ -230,26 +235,22 @@ AskedSo ks now event said =
 
 sides_ask : (c after : CoreData) (event : SideEvent) (said : SideAnswer)
     → Sides c event said after → AskedSo c.committers after.committers event said
-unfolding AskedSo
 sides_ask c after (Leave exec) said step = by (job_runs c) step
   where
     by : (b : Bool) → LeavesIf b c exec said after
         → AskedSo c.committers after.committers (Leave exec) said
-    unfolding AskedSo
     by false (told, is) = inl (ap (λ (x : CoreData). x.committers) is)
     by true (told, is) = inl (ap (λ (x : CoreData). x.committers) is)
 sides_ask c after (Tick now) said step = by (job_runs c) step
   where
     by : (b : Bool) → TicksIf b c now said after
         → AskedSo c.committers after.committers (Tick now) said
-    unfolding AskedSo
     by false (told, is) = inl (ap (λ (x : CoreData). x.committers) is)
     by true (told, is) = inl (ap (λ (x : CoreData). x.committers) is)
 sides_ask c after (Stage a wrote) said step = by (is_given (saver_phase c a)) step
   where
     by : (b : Bool) → StagesIf b c a wrote said after
         → AskedSo c.committers after.committers (Stage a wrote) said
-    unfolding AskedSo
     by false (told, is) = inl (ap (λ (x : CoreData). x.committers) is)
     by true (told, is) = inl (ap (λ (x : CoreData). x.committers) is)
 sides_ask c after (Ask a) said step = by (is_staged (saver_phase c a)) step
@@ -257,24 +258,24 @@ sides_ask c after (Ask a) said step = by (is_staged (saver_phase c a)) step
     asks : (permission : Permission) → answer_to c.committers a true ≡ permission
         → AsksBy permission c a said after
         → AskedSo c.committers after.committers (Ask a) said
-    unfolding AskedSo
     asks permissions.Granted e (told, is) =
         inr (a, ap (λ (x : CoreData). x.committers) is, λ granted. (refl, told))
     asks (permissions.Denied other) e (told, is) =
-        inr (a, ap (λ (x : CoreData). x.committers) is,
-        λ granted. absurd (search (rules, e, granted)))
+        inr (
+          a,
+          ap (λ (x : CoreData). x.committers) is,
+          λ granted. absurd (search (rules, e, granted)),
+        )
     asks permissions.Over e (told, is) = inl (ap (λ (x : CoreData). x.committers) is)
 
     by : (b : Bool) → AsksIf b c a said after
         → AskedSo c.committers after.committers (Ask a) said
-    unfolding AskedSo
     by false (told, is) = inl (ap (λ (x : CoreData). x.committers) is)
     by true h = asks (answer_to c.committers a true) refl h
 sides_ask c after (Move a renamed) said step = by (is_granted (saver_phase c a)) step
   where
     by : (b : Bool) → MovesIf b c a renamed said after
         → AskedSo c.committers after.committers (Move a renamed) said
-    unfolding AskedSo
     by false (told, is) = inl (ap (λ (x : CoreData). x.committers) is)
     by true (told, is) = inl (ap (λ (x : CoreData). x.committers) is)
 
@@ -284,7 +285,177 @@ sides_ask c after (Move a renamed) said step = by (is_granted (saver_phase c a))
 abbrev pub IsGranted : Event → Answer → AttemptId → Type 0
 IsGranted event answer a = (event ≡ Side (Ask a)) × (answer ≡ says.Side sides.Granted)
 
-comes_holders : (c after : CoreData) (event : Event) (answer : Answer) → (p : ℕ) (h : AttemptId)
-    → IsSoundCommit c.committers → (event ≡ event → Bool) → Comes c after event answer
+comes_holders : (c after : CoreData) (event : Event) (answer : Answer) (p : ℕ) (h : AttemptId)
+    → IsSoundCommit c.committers → is_aside event ≡ false → Comes c after event answer
     → holder_of after.committers p ≡ Some h → holder_of c.committers p ≡ Some h
-comes_holders c after event answer p h sound plain comes e = ?
+comes_holders c after event answer p h sound plain (inl q) e =
+    ap (λ xs. holder_of xs p) (sym (q.committers plain)) ∙ e
+comes_holders c after event answer p h sound plain (inr heard) e =
+    ap (λ xs. holder_of xs p) (sym heard.committers)
+    ∙ ends_holders heard.mid.committers after.committers heard.one.hand_out.attempt heard.outcome
+    answer p h (subst IsSoundCommit (sym heard.committers) sound)
+    (tells_end heard.mid after heard.one heard.outcome answer heard.tells) e
+
+all_holders : (these : List AttemptId) (c : CoreData) (p : ℕ) (h : AttemptId)
+    → IsSoundCommit c.committers → holder_of (all_released these c).committers p ≡ Some h
+    → holder_of c.committers p ≡ Some h
+all_holders [] c p h sound e = e
+all_holders (a ∷ these) c p h sound e =
+    (holder_ended c.committers a endings.Failed p h sound
+    (all_holders these (released c a endings.Failed) p h
+    (change_sound c.committers a.partition (commit.ended a endings.Failed)
+    (ended_sound a endings.Failed) sound) e)).0
+
+all_winners : (these : List AttemptId) (c : CoreData) (p : ℕ)
+    → winner_of (all_released these c).committers p ≡ winner_of c.committers p
+all_winners [] c p = refl
+all_winners (a ∷ these) c p =
+    all_winners these (released c a endings.Failed) p ∙ failed_winners c.committers a p
+
+-- who holds a grant behind an event did so before it, or is granted by it
+pub steps_holders : (c after : CoreData) (event : Event) (answer : Answer) (p : ℕ) (h : AttemptId)
+    → IsSoundCommit c.committers → Steps c event answer after
+    → holder_of after.committers p ≡ Some h
+    → (holder_of c.committers p ≡ Some h) ⊎ IsGranted event answer h
+steps_holders c after (Take exec) answer p h sound step e =
+    inl (by (takes_so c after exec answer step))
+  where
+    by : TakesSo c after exec answer → holder_of c.committers p ≡ Some h
+    by (inl t) = ap (λ (x : CoreData). holder_of x.committers p) (sym t.is) ∙ e
+    by (inr (inl b)) = ap (λ (x : CoreData). holder_of x.committers p) (sym b.is) ∙ e
+    by (inr (inr same)) = ap (λ (x : CoreData). holder_of x.committers p) (sym same.is) ∙ e
+steps_holders c after (Post a outcome) answer p h sound step e =
+    inl (comes_holders c after (Post a outcome) answer p h sound refl
+    (posts_come c after a outcome answer step) e)
+steps_holders c after (Release key) answer p h sound step e =
+    inl (comes_holders c after (Release key) answer p h sound refl
+    (releases_come c after key answer step) e)
+steps_holders c after (TellLost exec) answer p h sound (may, step) e =
+    inl (all_holders (attempts_on exec c.running) (with_dag c (after_lost c.dag exec)) p h sound
+    (by (are_lost (without_executor c exec).dag.tracker.trust) step))
+  where
+    by : (b : Bool) → LosesOrAborts b (without_executor c exec) answer after
+        → holder_of (without_executor c exec).committers p ≡ Some h
+    by true (told, is) = ap (λ (x : CoreData). holder_of x.committers p) (sym is) ∙ e
+    by false (told, is) = ap (λ (x : CoreData). holder_of x.committers p) (sym is) ∙ e
+steps_holders c after (Side event) answer p h sound (said, told, step) e =
+    by (sides_ask c after event said step)
+  where
+    asks : (a : AttemptId) → (answer_to c.committers a true ≡ permissions.Granted
+        → (event ≡ Ask a) × (said ≡ sides.Granted))
+        → (holder_of c.committers p ≡ Some h)
+        ⊎ ((a ≡ h) × (answer_to c.committers a true ≡ permissions.Granted))
+        → (holder_of c.committers p ≡ Some h) ⊎ IsGranted (Side event) answer h
+    asks a so (inl f) = inl f
+    asks a so (inr (same, granted)) =
+        let both = so granted in
+        inr (ap Side both.0 ∙ ap (λ b. Side (Ask b)) same, told ∙ ap says.Side both.1)
+
+    by : AskedSo c.committers after.committers event said
+        → (holder_of c.committers p ≡ Some h) ⊎ IsGranted (Side event) answer h
+    by (inl is) = inl (ap (λ xs. holder_of xs p) (sym is) ∙ e)
+    by (inr (a, is, so)) =
+        asks a so
+        (asked_holders c.committers a p h (ap (λ xs. holder_of xs p) (sym is) ∙ e))
+
+-- an event tells the success of an attempt that held its grant, and had moved its output
+pub record Finishes (c : CoreData) (event : Event) (answer : Answer) (w : AttemptId) : Type 0 where
+  pub told : tellings_in c event answer ≡ telling w outcomes.Result says.Finished ∷ []
+  pub one : Running
+  pub found : running_of c w ≡ Some one
+  pub moved : one.phase ≡ phases.Moved
+
+moved_is : (phase : Phase) → has_moved phase ≡ true → phase ≡ phases.Moved
+moved_is phases.Moved e = refl
+moved_is phases.Given e = absurd (true≢false (sym e))
+moved_is phases.Staged e = absurd (true≢false (sym e))
+moved_is phases.Granted e = absurd (true≢false (sym e))
+moved_is phases.Denied e = absurd (true≢false (sym e))
+moved_is (phases.Faulted fault) e = absurd (true≢false (sym e))
+
+heard_finishes : (c after : CoreData) (event : Event) (answer : Answer) (p : ℕ) (w : AttemptId)
+    → IsSoundCore c → (heard : IsHeard c after event answer)
+    → WinsBy heard.mid.committers p w heard.one.hand_out.attempt heard.outcome answer
+    → Finishes c event answer w
+heard_finishes c after event answer p w sound heard wins =
+    record {
+      told = known.told
+          ∙ ap (λ b. telling b heard.outcome answer ∷ []) wins.same
+          ∙ ap (λ o. telling w o answer ∷ []) wins.result
+          ∙ ap (λ x. telling w outcomes.Result x ∷ []) wins.told;
+      one = known.ran;
+      found = subst (λ b. running_of c b ≡ Some known.ran)
+          (ap (λ (x : HandOutData). x.attempt) known.hand ∙ wins.same) known.found;
+      moved = sym known.phase ∙ moved_is heard.one.phase moved;
+    }
+  where
+    known : IsKnown c event answer heard.one heard.outcome
+    known = heard.known sound
+
+    saves : is_save c.committers ≡ true
+    saves =
+        (holder_within c.committers p w
+        (ap (λ xs. holder_of xs p) (sym heard.committers) ∙ wins.held)).0
+
+    fit : fits c heard.one outcomes.Result ≡ true
+    fit = subst (λ o. fits c heard.one o ≡ true) wins.result known.fit
+
+    moved : has_moved heard.one.phase ≡ true
+    moved =
+        drop (is_save c.committers) saves
+        (both_right (not (is_map (stage_at c.dag heard.one.hand_out.attempt.stage).target))
+        (not (is_save c.committers) || has_moved heard.one.phase) fit)
+      where
+        drop : (b : Bool) → b ≡ true → (not b || has_moved heard.one.phase) ≡ true
+            → has_moved heard.one.phase ≡ true
+        drop true e h = h
+        drop false e h = absurd (true≢false (sym e))
+
+comes_winners : (c after : CoreData) (event : Event) (answer : Answer) (p : ℕ) (w : AttemptId)
+    → IsSoundCore c → is_aside event ≡ false → Comes c after event answer
+    → winner_of after.committers p ≡ Some w
+    → (winner_of c.committers p ≡ Some w) ⊎ Finishes c event answer w
+comes_winners c after event answer p w sound plain (inl q) e =
+    inl (ap (λ xs. winner_of xs p) (sym (q.committers plain)) ∙ e)
+comes_winners c after event answer p w sound plain (inr heard) e =
+    by (ends_winners heard.mid.committers after.committers heard.one.hand_out.attempt heard.outcome
+    answer p w (tells_end heard.mid after heard.one heard.outcome answer heard.tells) e)
+  where
+    by : (winner_of heard.mid.committers p ≡ Some w)
+        ⊎ WinsBy heard.mid.committers p w heard.one.hand_out.attempt heard.outcome answer
+        → (winner_of c.committers p ≡ Some w) ⊎ Finishes c event answer w
+    by (inl f) = inl (ap (λ xs. winner_of xs p) (sym heard.committers) ∙ f)
+    by (inr wins) = inr (heard_finishes c after event answer p w sound heard wins)
+
+-- who has won behind an event had so before it, or wins by it
+pub steps_winners : (c after : CoreData) (event : Event) (answer : Answer) (p : ℕ) (w : AttemptId)
+    → IsSoundCore c → Steps c event answer after → winner_of after.committers p ≡ Some w
+    → (winner_of c.committers p ≡ Some w) ⊎ Finishes c event answer w
+steps_winners c after (Take exec) answer p w sound step e =
+    inl (by (takes_so c after exec answer step))
+  where
+    by : TakesSo c after exec answer → winner_of c.committers p ≡ Some w
+    by (inl t) = ap (λ (x : CoreData). winner_of x.committers p) (sym t.is) ∙ e
+    by (inr (inl b)) = ap (λ (x : CoreData). winner_of x.committers p) (sym b.is) ∙ e
+    by (inr (inr same)) = ap (λ (x : CoreData). winner_of x.committers p) (sym same.is) ∙ e
+steps_winners c after (Post a outcome) answer p w sound step e =
+    comes_winners c after (Post a outcome) answer p w sound refl
+    (posts_come c after a outcome answer step) e
+steps_winners c after (Release key) answer p w sound step e =
+    comes_winners c after (Release key) answer p w sound refl
+    (releases_come c after key answer step) e
+steps_winners c after (TellLost exec) answer p w sound (may, step) e =
+    inl (sym (all_winners (attempts_on exec c.running) (with_dag c (after_lost c.dag exec)) p)
+    ∙ by (are_lost (without_executor c exec).dag.tracker.trust) step)
+  where
+    by : (b : Bool) → LosesOrAborts b (without_executor c exec) answer after
+        → winner_of (without_executor c exec).committers p ≡ Some w
+    by true (told, is) = ap (λ (x : CoreData). winner_of x.committers p) (sym is) ∙ e
+    by false (told, is) = ap (λ (x : CoreData). winner_of x.committers p) (sym is) ∙ e
+steps_winners c after (Side event) answer p w sound (said, told, step) e =
+    inl (by (sides_ask c after event said step))
+  where
+    by : AskedSo c.committers after.committers event said → winner_of c.committers p ≡ Some w
+    by (inl is) = ap (λ xs. winner_of xs p) (sym is) ∙ e
+    by (inr (a, is, so)) =
+        sym (asked_winners c.committers a p) ∙ ap (λ xs. winner_of xs p) (sym is) ∙ e

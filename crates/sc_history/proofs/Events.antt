@@ -182,8 +182,10 @@ posts_come c after a outcome answer step = by (job_runs c) refl step
     late : (delay : ℕ) (twice : Bool) → answer ≡ says.Shelved
         → after ≡ shelved_if twice (shelved c a outcome delay) a outcome delay
         → Comes c after (Post a outcome) answer
-    late delay false told is = inl (quiet c after _ _ answer _ refl refl refl refl refl refl told is)
-    late delay true told is = inl (quiet c after _ _ answer _ refl refl refl refl refl refl told is)
+    late delay false told is =
+        inl (quiet c after _ _ answer _ refl refl refl refl refl refl told is)
+    late delay true told is =
+        inl (quiet c after _ _ answer _ refl refl refl refl refl refl told is)
 
     posts : (r : Running) → running_of c a ≡ Some r → fits c r outcome ≡ true
         → job_runs c ≡ true → (delay : Option ℕ) → PostsBy delay c a outcome answer after
@@ -198,7 +200,8 @@ posts_come c after a outcome answer step = by (job_runs c) refl step
     of (Some r) e runs (fit, h) = posts r e fit runs (delay_for c a) h
 
     by : (b : Bool) → job_runs c ≡ b → PostsIf b c a outcome answer after → Goal
-    by false runs (told, is) = inl (quiet c after c _ answer _ refl refl refl refl refl refl told is)
+    by false runs (told, is) =
+        inl (quiet c after c _ answer _ refl refl refl refl refl refl told is)
     by true runs h = of (running_of c a) refl runs h
 
 pub releases_come : (c after : CoreData) (key : ℕ) (answer : Answer)
@@ -251,7 +254,8 @@ releases_come c after key answer step = by (job_runs c) refl step
 
     by : (b : Bool) → job_runs c ≡ b → ReleasesIf b c key answer after
         → Comes c after (Release key) answer
-    by false runs (told, is) = inl (quiet c after c _ answer _ refl refl refl refl refl refl told is)
+    by false runs (told, is) =
+        inl (quiet c after c _ answer _ refl refl refl refl refl refl told is)
     by true runs h = of (shelved_of c key) refl runs h
 
 -- what happens beside the reports is no report that is heard

@@ -24,6 +24,9 @@ pub mod CauseCases
 pub mod TrackerLemmas
 pub mod RulingLemmas
 pub mod GivenLemmas
+pub mod CommitSteps
+pub mod Committed
+pub mod StandLemmas
 pub mod BirthLemmas
 pub mod LaterLemmas
 pub mod ChargedLemmas

@@ -3,6 +3,7 @@
 
 ghost use Rattle.sc_history.specs.Budgets.{BudgetsAreShown, HandOutsAreCounted, LimitsStay};
 ghost use Rattle.sc_history.specs.Charges.{FailedAttemptsAreCharged, StepsCharge};
+ghost use Rattle.sc_history.specs.Committing.{GrantsAreSole, WinnersCommit};
 ghost use Rattle.sc_history.specs.Evidence.{TaskLimitsAreShown};
 ghost use Rattle.sc_history.specs.Fresh.{TakesAreFresh};
 ghost use Rattle.sc_history.specs.Given.{HeardAreGiven, RunningAreGiven};
@@ -12,6 +13,7 @@ ghost use Rattle.sc_history.specs.Results.{ResultsAreOnce};
 ghost use Rattle.sc_history.specs.Rooms.{ReplaysKeepRoom, StepsKeepRoom};
 ghost use Rattle.sc_history.specs.Ruling.{BogusStays, EventsForgetAtOne, OthersForgetNone, ReplaysGoForward};
 ghost use Rattle.sc_history.specs.StageEvidence.{StageLimitsAreShown};
+ghost use Rattle.sc_history.specs.Stands.{StandsAreTold};
 ghost use Rattle.sc_history.specs.Tellings.{ReportsArePosted};
 ghost use Rattle.sc_history.specs.Trackers.{EpochsCount, StepsCountEpochs, StepsTrack};
 
@@ -95,4 +97,17 @@ pub fn failures_are_charged()
 /// it. A call does nothing.
 pub fn results_are_once()
     ensures { ResultsAreOnce }
+{}
+
+/// No two attempts of a partition hold a grant, and who has won was granted it, moved its output
+/// and told its success, in this order and with its grant held from the first to the last. A call
+/// does nothing.
+pub fn grants_are_sole()
+    ensures sole { GrantsAreSole }
+    ensures winners { WinnersCommit }
+{}
+
+/// What stands of the output of an attempt is a function of the entries. A call does nothing.
+pub fn stands_are_told()
+    ensures { StandsAreTold }
 {}
