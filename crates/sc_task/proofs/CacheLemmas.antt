@@ -25,7 +25,7 @@ use Rattle.sc_compute.specs.declared.caching.CachedPart.{CachedPart}
 use Rattle.sc_compute.proofs.AskingLemmas.{taken_known}
 use Rattle.sc_compute.proofs.AsksLemmas.{among_all, asks_given, needed_known}
 use Rattle.sc_store.specs.StoreData.{StoreData, cached_in, with_cache}
-use Rattle.sc_task.specs.Caches.{IsCachedIn, IsSameButCache, KeepsEach, TakesCached, cached_id, has_cache, has_cached, with_each_kept, with_each_used}
+use Rattle.sc_task.specs.Caches.{IsCachedIn, IsSameButCache, KeepsEach, KeepsSome, TakesCached, cached_id, has_cache, has_cached, with_each_kept, with_each_used}
 
 -- ---- what is taken
 
@@ -267,3 +267,8 @@ keeps_rest used fresh before after keeps =
           ∙ kept_limit (with_each_used before.cache used) fresh
           ∙ used_limit before.cache used;
     }
+
+pub some_rest : (used fresh : List CachedPart) (before after : StoreData)
+    → KeepsSome used fresh before after → IsSameButCache before after
+some_rest used fresh before after keeps =
+    keeps_rest used (take keeps.0 fresh) before after keeps.1

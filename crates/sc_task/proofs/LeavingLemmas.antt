@@ -73,8 +73,3 @@ planned_did work t s report planned is same tells holds = (
   subst (λ (r : ReportData). FailsAs work t r.finding) (sym is)
       (ap (is_planned work) (sym same) ∙ sym tells ∙ holds),
 )
-
--- where the plan doesn't fail an attempt, nothing holds of one that it fails
-pub unplanned : (work : WorkData) (t s : TaskData) (planned : Bool) → s ≡ t
-    → planned ≡ is_planned work s → planned ≡ false → is_planned work t ≡ true → ⊥
-unplanned work t s planned same tells goes_on holds = cc
