@@ -1,11 +1,13 @@
 -- What an abort shows of a run without a fault plan.
-use Rattle.std.proofs.Common.{◌≡◌, ◌∙◌, ℕ, zero, suc, ◌<◌, List, [], ◌∷◌, length, subst, ap, refl, arith}
+use Rattle.std.proofs.Common.{◌≡◌, ◌∙◌, ◌⊎◌, inl, inr, ℕ, zero, suc, ◌<◌, true, false, List, [], ◌∷◌, length, subst, sym, ap, refl, arith, true≢false}
 use Rattle.std.specs.Prelude.{Contains}
+use Rattle.std.proofs.lemmas.List.Elements.{All-contains}
 use Rattle.sc_base.specs.Lists.{at_or}
 use Rattle.sc_core.specs.declared.answers.Abort.TheVariants as aborts
 use Rattle.sc_core.specs.declared.journals.JobHistory.{JobHistory}
 use Rattle.sc_lineage.specs.Actions.{action_outcome, never}
 use Rattle.sc_lineage.specs.ScriptData.{ActionData, WorkData, collect_action}
+use Rattle.sc_jobs.specs.JobData.{is_saving}
 use Rattle.sc_plan.specs.Plans.{PlansHaveOneReading}
 use Rattle.sc_script.specs.Parsing.{HaveOneReading}
 use Rattle.sc_app.specs.declared.ran.Status.{Status}
@@ -14,6 +16,7 @@ use Rattle.sc_app.specs.Promises.{Ends}
 use Rattle.sc_app.specs.Exactly.{HasNoNever, TellsNoFailure}
 use Rattle.sc_app.specs.Runs.{RunData, HasReadWork}
 use Rattle.sc_app.proofs.ReadingLemmas.{one_work}
+use Rattle.sc_app.proofs.ScriptLemmas.{script_saves_none}
 
 -- the action of a number that is known is among the actions
 action_there : (actions : List ActionData) (k : ℕ) (other : ActionData) → k < length actions
@@ -23,6 +26,10 @@ action_there (action ∷ actions) zero other known = (0, omega arith, refl)
 action_there (action ∷ actions) (suc k) other known =
     let there = action_there actions k other (omega (arith, known)) in
     (suc there.0, omega (arith, there.1), there.2)
+
+-- an action never has an outcome, or saves
+abbrev RaisesOrSaves : WorkData → ActionData → Type 0
+RaisesOrSaves work action = (action_outcome work action ≡ never) ⊎ (is_saving action ≡ true)
 
 module _ (law : HaveOneReading) (plans : PlansHaveOneReading) (run : RunData)
     (history : List JobHistory) (work : WorkData)
@@ -47,12 +54,18 @@ module _ (law : HaveOneReading) (plans : PlansHaveOneReading) (run : RunData)
       let same : ends.work ≡ work = this_work ends.work ends.read in
       let known : ends.k < length work.script.actions =
       subst (λ (w : WorkData). ends.k < length w.script.actions) same ends.aborted.known in
-      let raises : action_outcome work (at_or work.script.actions ends.k (collect_action 0))
-      ≡ never =
-      subst (λ (w : WorkData). action_outcome w (at_or w.script.actions ends.k (collect_action 0))
-      ≡ never) same (ends.aborted.unplanned (no_line ends.work ends.read)) in
-      outcomes (at_or work.script.actions ends.k (collect_action 0))
-      (action_there work.script.actions ends.k (collect_action 0) known) raises
+      by (at_or work.script.actions ends.k (collect_action 0))
+      (action_there work.script.actions ends.k (collect_action 0) known)
+      (subst (λ (w : WorkData). RaisesOrSaves w (at_or w.script.actions ends.k (collect_action 0)))
+      same (ends.aborted.unplanned (no_line ends.work ends.read)))
+    where
+      -- no script that was read saves
+      by : (action : ActionData) → Contains work.script.actions action
+          → RaisesOrSaves work action → ⊥
+      by action there (inl raises) = outcomes action there raises
+      by action there (inr saves) =
+          true≢false (sym saves ∙ All-contains (λ a. is_saving a ≡ false) work.script.actions action
+          (script_saves_none read.read.bytes work.script read.read.is_script) there)
 
 pub tells_no_failure : HaveOneReading → PlansHaveOneReading → (run : RunData)
     (history : List JobHistory) (status : Status) → Ends run history status

@@ -1,5 +1,5 @@
 -- What the history of an aborted job shows.
-use Rattle.std.proofs.Common.{◌≡◌, ◌∙◌, ℕ, ◌<◌, ◌≤◌, ◌&&◌, true, false, List, [], ◌∷◌, ◌++◌, Option, Some, None, IfSome, length, refl, sym, subst, arith, true≢false}
+use Rattle.std.proofs.Common.{◌≡◌, ◌∙◌, ◌⊎◌, inl, inr, ap, ℕ, ◌<◌, ◌≤◌, ◌&&◌, true, false, List, [], ◌∷◌, ◌++◌, Option, Some, None, IfSome, length, refl, sym, subst, arith, true≢false}
 use Rattle.std.specs.List.{All, Contains}
 use Rattle.std.proofs.lemmas.Bool.{and_parts, false≢true}
 use Rattle.std.proofs.lemmas.List.Elements.{All-append, All-cons, All-contains, All-head, All-nil}
@@ -38,7 +38,7 @@ use Rattle.sc_history.proofs.LossLemmas.{no_executors_are_shown}
 use Rattle.sc_history.proofs.StageLimitLemmas.{stage_limits_are_shown}
 use Rattle.sc_history.proofs.ToldLosses.{losses_are_shown}
 use Rattle.sc_history.proofs.TaskLimitLemmas.{task_limits_are_shown}
-use Rattle.sc_jobs.specs.JobData.{IsGoal, JobData, goal_action, job_data}
+use Rattle.sc_jobs.specs.JobData.{IsGoal, JobData, goal_action, job_data, saves}
 use Rattle.sc_jobs.specs.declared.goals.Goal.{Goal}
 use Rattle.sc_jobs.specs.declared.goals.Goal.TheVariants as goals
 use Rattle.sc_desk.specs.Begins.{FitsLast, FitsRun}
@@ -134,44 +134,53 @@ module _ (known_causes : AreCauses) (work : WorkData) (sound : IsSoundWork work)
     abbrev job : JobData
     job = job_data goal is.graph
 
-    -- a failure that counts is a raise
+    -- the action never has an outcome, or it saves
+    abbrev RaisesOrSaves : Type 0
+    RaisesOrSaves =
+        (action_outcome work (goal_action work (goals.Action p.actions)) ≡ never)
+        ⊎ (saves work (goals.Action p.actions) ≡ true)
+
+    -- a job that saves is that of the action
+    saves_itself : (g : Goal) → IsNext work p g → saves work g ≡ true
+        → saves work (goals.Action p.actions) ≡ true
+    saves_itself (goals.Action number) next e = ap (λ n. saves work (goals.Action n)) (sym next.0) ∙ e
+    saves_itself (goals.Bounds sort) next e = absurd (false≢true e)
+
+    -- a failure that counts is a raise, or one of a call on the files
     counted_raises : (told : ℕ) (a : AttemptId) (cause : FailureCause) → is_counted cause ≡ true
-        → EndedFor work job told a (outcomes.Failed cause)
-        → action_outcome work (goal_action work (goals.Action p.actions)) ≡ never
+        → EndedFor work job told a (outcomes.Failed cause) → RaisesOrSaves
     counted_raises told a causes.Planned counted failed =
         absurd (false≢true
         (subst (λ (plan : List PlanLine). is_failed plan (place_of a) ≡ true) empty failed))
     counted_raises told a (causes.Raised raise) counted raised =
-        (known_causes.raises work p.carried goal is.graph a.stage a.partition raise
+        inl ((known_causes.raises work p.carried goal is.graph a.stage a.partition raise
         sound.script carried known is.cut raised.task raised.own).served p.actions
-        (serves goal is.next)
-    counted_raises told a (causes.Device fault) counted failed = absurd failed
+        (serves goal is.next))
+    counted_raises told a (causes.Device fault) counted failed =
+        inr (saves_itself goal is.next failed.1)
     counted_raises told a (causes.Gone exec wanted found) counted failed =
         absurd (false≢true counted)
     counted_raises told a (causes.Metadata last) counted failed = absurd (false≢true counted)
     counted_raises told a causes.Denied counted failed = absurd (false≢true counted)
 
     outcome_raises : (told : ℕ) (a : AttemptId) (outcome : Outcome) → counts outcome ≡ true
-        → EndedFor work job told a outcome
-        → action_outcome work (goal_action work (goals.Action p.actions)) ≡ never
+        → EndedFor work job told a outcome → RaisesOrSaves
     outcome_raises told a (outcomes.Map loc) counted ended = absurd (false≢true counted)
     outcome_raises told a outcomes.Result counted ended = absurd (false≢true counted)
     outcome_raises told a (outcomes.Failed cause) counted ended =
         counted_raises told a cause counted ended
 
-    -- so the action never has an outcome
+    -- so the action never has an outcome, or saves
     limit_raises : (stage number partition : ℕ)
         → ShowsTaskLimit work.limits (tellings h.opening h.entries.items h.end is.replays)
-        stage number partition
-        → action_outcome work (goal_action work (goals.Action p.actions)) ≡ never
+        stage number partition → RaisesOrSaves
     limit_raises stage number partition shows =
         by shows.failures shows.among shows.are shows.many
       where
         by : (failures : List Telling)
             → All (Contains (tellings h.opening h.entries.items h.end is.replays)) failures
             → All (λ t. is_failure_of stage number partition t ≡ true) failures
-            → work.limits.task_failures ≤ length failures
-            → action_outcome work (goal_action work (goals.Action p.actions)) ≡ never
+            → work.limits.task_failures ≤ length failures → RaisesOrSaves
         by [] among are many = absurd (omega (arith, many, sound.limits.task_failures.above))
         by (t ∷ rest) among are many =
             let fails = and_parts (is_of_task stage number partition t.attempt)

@@ -1,5 +1,5 @@
 -- What an abort shows.
-use Rattle.std.specs.Prelude.{ℕ, ◌<◌, ◌≡◌, List, [], length}
+use Rattle.std.specs.Prelude.{ℕ, ◌<◌, ◌≡◌, ◌⊎◌, true, List, [], length}
 use Rattle.sc_lineage.specs.Actions.{action_outcome, never}
 use Rattle.sc_lineage.specs.ScriptData.{WorkData}
 use Rattle.sc_core.specs.Journals.{Replays}
@@ -13,7 +13,7 @@ use Rattle.sc_history.specs.Evidence.{ShowsTaskLimit}
 use Rattle.sc_history.specs.Losses.{ShowsLoss}
 use Rattle.sc_history.specs.StageEvidence.{ShowsStageLimit}
 use Rattle.sc_history.specs.Tellings.{tellings}
-use Rattle.sc_jobs.specs.JobData.{goal_action}
+use Rattle.sc_jobs.specs.JobData.{goal_action, saves}
 use Rattle.sc_jobs.specs.declared.goals.Goal.{Goal}
 use Rattle.sc_jobs.specs.declared.goals.Goal.TheVariants as goals
 use Rattle.sc_context.specs.Histories.{HasGone}
@@ -35,10 +35,12 @@ ShowsAbort work h is NoExecutor =
 ShowsAbort work h is Budget = ShowsBudget work.limits h.entries.items
 
 -- What an abort for an action means where the plan has no line: failures of a task are raises, so
--- the action never has an outcome, and no input is ever missed and no executor lost.
+-- the action never has an outcome, or it saves, and calls on its files failed; and no input is ever
+-- missed and no executor lost.
 abbrev pub IsUnplanned : WorkData → ℕ → Abort → Type 0
 IsUnplanned work k (TaskLimit stage number partition) =
-    action_outcome work (goal_action work (goals.Action k)) ≡ never
+    (action_outcome work (goal_action work (goals.Action k)) ≡ never)
+    ⊎ (saves work (goals.Action k) ≡ true)
 IsUnplanned work k (StageLimit stage) = ⊥
 IsUnplanned work k NoExecutor = ⊥
 IsUnplanned work k Budget = Unit {0}

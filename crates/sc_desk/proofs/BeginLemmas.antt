@@ -25,7 +25,7 @@ use Rattle.sc_core.proofs.MoveLemmas.{Calm}
 use Rattle.sc_core.proofs.StageCallLemmas.{submitted_calm, submitted_results}
 use Rattle.sc_history.proofs.OpeningLemmas.{openings_agree}
 use Rattle.sc_jobs.specs.Fitting.{FitsWork}
-use Rattle.sc_jobs.specs.JobData.{JobData, saves}
+use Rattle.sc_jobs.specs.JobData.{JobData}
 use Rattle.sc_jobs.specs.Plans.{IsJobFor}
 use Rattle.sc_jobs.proofs.TrackerLemmas.{new_trackers_fit, sized_trackers_fit, trackers_fit}
 use Rattle.sc_desk.specs.Begins.{FitsLast, IsFresh}
@@ -86,10 +86,10 @@ fits_job work limits job last is fits =
 pub opened_alike :
     (work : WorkData) (limits : Limits) (job : JobData) (last : Option CoreData)
     (x y : CoreData) → IsJobFor work job → FitsLast work last → IfSome last IsSoundCore
-    → IsOpening job.graph limits (saves work job.goal) work.plan last x
-    → IsOpening job.graph limits (saves work job.goal) work.plan last y → x ≡ y
+    → IsOpening job.graph limits false work.plan last x
+    → IsOpening job.graph limits false work.plan last y → x ≡ y
 opened_alike work limits job last x y is fits sound a b =
-    openings_agree job.graph limits (saves work job.goal) work.plan last x y is.job
+    openings_agree job.graph limits false work.plan last x y is.job
     (fits_job work limits job last is fits) sound a b
 
 -- room for outputs changes nothing in who was heard of
@@ -175,8 +175,7 @@ fresh_sound work d last is fits core fresh results shelf carried right many =
       many = many;
     }
   where
-    opens : IsOpening d.job.graph work.limits (saves work d.job.goal) work.plan last
-        d.journal.opening
+    opens : IsOpening d.job.graph work.limits false work.plan last d.journal.opening
     opens = fresh.opening_is
 
     trust : (core_of d).dag.tracker.trust ≡ (tracker_behind last work.limits).trust

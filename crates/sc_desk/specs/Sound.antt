@@ -126,10 +126,9 @@ IsSeenDue work c =
 
 -- every desk
 pub record IsSoundDesk (work : WorkData) (d : DeskData) : Type 0 where
-  -- its job began behind another one or none, under the plan of the work
+  -- its job began behind another one or none, under the plan of the work, and saves nothing yet
   pub last : Option CoreData
-  pub opened : IsOpening d.job.graph work.limits (saves work d.job.goal) work.plan last
-      d.journal.opening
+  pub opened : IsOpening d.job.graph work.limits false work.plan last d.journal.opening
   -- with a core that is sound
   pub began : IsSoundCore d.journal.opening
   -- the core has the job's stages by their numbers, the work's limits and plan, and its executors
