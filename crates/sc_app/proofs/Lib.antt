@@ -10,3 +10,4 @@ pub mod ReadingLemmas
 pub mod RunLemmas
 pub mod TextLemmas
 pub mod WithoutTextLemmas
+pub mod SourceLemmas

@@ -28,6 +28,8 @@ mod failures;
 #[cfg(test)]
 mod files;
 #[cfg(test)]
+mod generated;
+#[cfg(test)]
 mod given;
 #[cfg(test)]
 mod histories;
