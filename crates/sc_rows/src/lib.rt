@@ -22,6 +22,8 @@ mod calls;
 #[cfg(test)]
 mod claims;
 #[cfg(test)]
+mod clocks;
+#[cfg(test)]
 mod committing;
 #[cfg(test)]
 mod failures;
