@@ -37,7 +37,10 @@ impl Generated {
         let lines = workload(alloc, seed, size)?;
         Ok(Generated {
             script: (script, Octets::copy_of(alloc, gen_script().as_bytes())?),
-            lines: (Name::new(alloc, "gen")?, Octets::copy_of(alloc, lines.as_bytes())?),
+            lines: (
+                Name::new(alloc, "gen")?,
+                Octets::copy_of(alloc, lines.as_bytes())?,
+            ),
             misses: 0,
         })
     }

@@ -146,5 +146,9 @@ fn number_from(found: &ArgMatches<'_>, option: &str, least: u32, most: u32, othe
 fn within(least: u32, most: u32, n: u32, other: u32) -> u32
     ensures { result ≡ within least most n other }
 {
-    if (least..=most).contains(&n) { n } else { other }
+    if (least..=most).contains(&n) {
+        n
+    } else {
+        other
+    }
 }
