@@ -11,3 +11,4 @@ pub mod RunLemmas
 pub mod TextLemmas
 pub mod WithoutTextLemmas
 pub mod ScriptLemmas
+pub mod SourceLemmas

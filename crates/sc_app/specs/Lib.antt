@@ -6,3 +6,4 @@ pub mod Good
 pub mod Handed
 pub mod Statuses
 pub mod FaultTexts
+pub mod Sources

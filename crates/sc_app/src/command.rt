@@ -8,9 +8,10 @@ ghost use Rattle.sc_app.specs.Exactly.{TellsDriverFault, TellsFault, TellsNever,
 ghost use Rattle.sc_app.specs.Handed.{IsRun};
 ghost use Rattle.sc_app.specs.Promises.{Ends, GoodRunsEndWell, ZeroMeansText, ZeroShowsJobs};
 ghost use Rattle.sc_app.specs.Runs.{AreReads, AsksOnce, run_of};
+ghost use Rattle.sc_app.specs.Sources.{Over};
 
 use crate::ran::{Ran, Status};
-use crate::scripts::run_script;
+use crate::workloads::run_command;
 use sc_base::OrMemory;
 use sc_core::JobHistory;
 use sc_input::Source;
@@ -21,7 +22,9 @@ use sc_sink::Sink;
 use sc_words::read_words;
 use std::alloc::Global;
 
-/// Runs the script that the words name, as `run SCRIPT` and options.
+/// Runs the script that the words name, as `run SCRIPT` and options, or the generator's script over
+/// the lines that it makes, as `gen --seed S --size N`. The second is the same run over files that
+/// are made (`Over`), and asks the source for nothing.
 ///
 /// What is promised, of which the clauses below have what this release has:
 ///
@@ -48,31 +51,34 @@ pub fn run<R, S: Source, K: Sink>(
 
     // The script was read under its word, then the plan, where one is named, and then each input
     // that the script names, once and in order.
-    ensures reads { AreReads (run_of (map string_bytes words.now) result.read.items
-        (outside_of (S.state source.old) (K.state sink.old))
-        (outside_of (S.state source.new) (K.state sink.new))) }
+    ensures reads { Over (map string_bytes words.now) (λ before after.
+        AreReads (run_of (map string_bytes words.now) result.read.items
+        (outside_of before (K.state sink.old)) (outside_of after (K.state sink.new))))
+        (S.state source.old) (S.state source.new) }
 
     // The source was asked for that, and for the name that it didn't give, and for nothing else.
-    ensures asked { AsksOnce (run_of (map string_bytes words.now) result.read.items
-        (outside_of (S.state source.old) (K.state sink.old))
-        (outside_of (S.state source.new) (K.state sink.new))) result.status }
+    ensures asked { Over (map string_bytes words.now) (λ before after.
+        AsksOnce (run_of (map string_bytes words.now) result.read.items
+        (outside_of before (K.state sink.old)) (outside_of after (K.state sink.new)))
+        result.status) (S.state source.old) (S.state source.new) }
 
     // Done: the sink got exactly the text of the meaning of the script and inputs that were read.
-    ensures headline { ZeroMeansText (run_of (map string_bytes words.now) result.read.items
-        (outside_of (S.state source.old) (K.state sink.old))
-        (outside_of (S.state source.new) (K.state sink.new))) result.status }
+    ensures headline { Over (map string_bytes words.now) (λ before after.
+        ZeroMeansText (run_of (map string_bytes words.now) result.read.items
+        (outside_of before (K.state sink.old)) (outside_of after (K.state sink.new)))
+        result.status) (S.state source.old) (S.state source.new) }
 
     // And the history is that of the jobs of all actions of what was read.
-    ensures histories { ZeroShowsJobs (run_of (map string_bytes words.now) result.read.items
-        (outside_of (S.state source.old) (K.state sink.old))
-        (outside_of (S.state source.new) (K.state sink.new))) result.history.items
-        result.status }
+    ensures histories { Over (map string_bytes words.now) (λ before after.
+        ZeroShowsJobs (run_of (map string_bytes words.now) result.read.items
+        (outside_of before (K.state sink.old)) (outside_of after (K.state sink.new)))
+        result.history.items result.status) (S.state source.old) (S.state source.new) }
 
     // Each status has its cause, and this is what stands.
-    ensures ends { Ends (run_of (map string_bytes words.now) result.read.items
-        (outside_of (S.state source.old) (K.state sink.old))
-        (outside_of (S.state source.new) (K.state sink.new))) result.history.items
-        result.status }
+    ensures ends { Over (map string_bytes words.now) (λ before after.
+        Ends (run_of (map string_bytes words.now) result.read.items
+        (outside_of before (K.state sink.old)) (outside_of after (K.state sink.new)))
+        result.history.items result.status) (S.state source.old) (S.state source.new) }
 
     // Usage comes only where `clap` refuses the words, and there unless memory runs out.
     ensures usage { TellsUsage (map string_bytes words.now) result.status }
@@ -102,9 +108,10 @@ pub fn run<R, S: Source, K: Sink>(
 
     // With nothing to refuse the run is done, unless memory runs out, a job is aborted, or the
     // results of an action have no value together.
-    ensures good { GoodRunsEndWell (run_of (map string_bytes words.now) result.read.items
-        (outside_of (S.state source.old) (K.state sink.old))
-        (outside_of (S.state source.new) (K.state sink.new))) result.status }
+    ensures good { Over (map string_bytes words.now) (λ before after.
+        GoodRunsEndWell (run_of (map string_bytes words.now) result.read.items
+        (outside_of before (K.state sink.old)) (outside_of after (K.state sink.new)))
+        result.status) (S.state source.old) (S.state source.new) }
 {
     scripts_have_one_reading();
     plans_have_one_reading();
@@ -131,12 +138,13 @@ fn run_words<S: Source, K: Sink>(
     requires none { history.old.items ≡ [] }
     ensures later { IsLaterSource (S.state source.old) (S.state source.new) }
     ensures sink_later { (K.state sink.old).faults ≤ (K.state sink.new).faults }
-    ensures run { IsRun (run_of (map string_bytes words.now) reads.new.items
-        (outside_of (S.state source.old) (K.state sink.old))
-        (outside_of (S.state source.new) (K.state sink.new))) history.new.items result }
+    ensures run { Over (map string_bytes words.now) (λ before after.
+        IsRun (run_of (map string_bytes words.now) reads.new.items
+        (outside_of before (K.state sink.old)) (outside_of after (K.state sink.new)))
+        history.new.items result) (S.state source.old) (S.state source.new) }
 {
     match read_words(alloc, words) {
-        Ok(command) => run_script(alloc, command, source, sink, reads, history),
+        Ok(command) => run_command(alloc, command, source, sink, reads, history),
         Err(refusal) => match refusal {
             OrMemory::Fault(_) => Status::Usage,
             OrMemory::OutOfMemory => Status::OutOfMemory,

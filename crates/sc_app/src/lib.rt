@@ -1,10 +1,11 @@
 //! A run: from the words of the command line to the printed text.
 //!
 //! [`run`] reads the script and the fault plan that the words name and the inputs that the script
-//! names, evaluates its actions in order, and writes the text of each to the sink. Its contract is
-//! the promise of the whole program: a run that is done has written exactly the text of the
-//! script's sequential meaning over the inputs that it read, and every other [`Status`] comes only
-//! with its cause, and with what then stands. `specs/Promises.antt` has that on two pages.
+//! names, or makes those of a workload, evaluates the script's actions in order, and writes the
+//! text of each to the sink. Its contract is the promise of the whole program: a run that is done
+//! has written exactly the text of the script's sequential meaning over the inputs that it read,
+//! and every other [`Status`] comes only with its cause, and with what then stands.
+//! `specs/Promises.antt` has that on two pages.
 //!
 //! It runs on the thread that calls it, and it returns. The command comes from `sc_words`, what is
 //! read from `sc_read`, and the actions are run and printed by `sc_print`; the program that calls
@@ -16,6 +17,7 @@ mod ran;
 mod scripts;
 mod stops;
 mod texts;
+mod workloads;
 
 pub use command::run;
 pub use ran::{Ran, Status};

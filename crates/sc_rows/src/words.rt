@@ -4,11 +4,11 @@
 use crate::claims::assert_text;
 use crate::given::words_of;
 use sc_base::OrMemory;
-use sc_words::{Command, read_words};
+use sc_words::{Command, Workload, read_words};
 use std::process::Abort;
 
 /// What words ask for: the script, how many executors, failures of a task, attempts of a stage and
-/// blocks of cached nodes there may be, and the plan.
+/// blocks of cached nodes there may be, and the plan, or seed and size of a workload.
 fn asked<R: Abort + AllocGlobal>(rt: &R, words: &[&str]) -> String {
     let alloc = rt.alloc();
     let words = words_of(alloc, words).expect(rt, "memory");
@@ -28,6 +28,11 @@ fn told<R: Abort + AllocGlobal>(rt: &R, command: &Command) -> String {
     let failures = command.limits.task_failures;
     let attempts = command.limits.stage_attempts;
     let cache = command.limits.cache;
+    if let Some(Workload { seed, size }) = command.workload {
+        return format!(in rt.alloc(); "{script} {executors} from {seed} lines {size}").expect(
+            rt, "memory",
+        );
+    }
     let plan = match &command.plan {
         Some(name) => name.as_str(),
         None => "(no plan)",
@@ -38,7 +43,7 @@ fn told<R: Abort + AllocGlobal>(rt: &R, command: &Command) -> String {
 }
 
 /// Words that are a command, and what they ask for.
-const COMMANDS: [(&[&str], &str); 27] = [
+const COMMANDS: [(&[&str], &str); 30] = [
     (&["run", "a.spark"], "a.spark 2 4 4 64 (no plan)"),
     (
         &["run", "--executors", "3", "a.spark"],
@@ -138,6 +143,15 @@ const COMMANDS: [(&[&str], &str); 27] = [
         &["run", "--executors=3", "--", "a.spark"],
         "a.spark 3 4 4 64 (no plan)",
     ),
+    (
+        &["gen", "--seed", "1", "--size", "4"],
+        "gen.spark 2 from 1 lines 4",
+    ),
+    (
+        &["gen", "--size=100000", "--executors=64", "--seed=0"],
+        "gen.spark 64 from 0 lines 100000",
+    ),
+    (&["run", "gen"], "gen 2 4 4 64 (no plan)"),
 ];
 
 #[test]

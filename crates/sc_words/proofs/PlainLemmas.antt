@@ -11,7 +11,7 @@ use Rattle.sc_words.specs.Words.{NamesAreCommands, command_of}
 -- `run` and a name that doesn't begin with `-` (45) ask for its run with no option set
 plain_run : (c : ℕ) (cs : Text) → (c == 45) ≡ false
     → command_of (codes "run" ∷ (c ∷ cs) ∷ [])
-    ≡ Some (record { script = c ∷ cs; plan = None; limits = default_limits })
+    ≡ Some (record { script = c ∷ cs; plan = None; limits = default_limits; workload = None })
 unfolding command_of clap_on_literals
 plain_run c cs e =
     let dashes : bytes_eq (c ∷ cs) (45 ∷ 45 ∷ []) ≡ false = rw e refl in
@@ -21,7 +21,7 @@ plain_run c cs e =
 
 -- and so do `run` and the empty name
 empty_run : command_of (codes "run" ∷ [] ∷ [])
-    ≡ Some (record { script = []; plan = None; limits = default_limits })
+    ≡ Some (record { script = []; plan = None; limits = default_limits; workload = None })
 unfolding command_of clap_on_literals
 empty_run = refl
 

@@ -1,11 +1,14 @@
 -- Which words `clap` takes, and what they name.
-use Rattle.std.proofs.Common.{◌≡◌, ◌∙◌, ap, Bool, true, false, refl, subst, List, [], ◌∷◌, Option, Some, None, Err, inl, inr, is_some}
+use Rattle.std.proofs.Common.{◌≡◌, ◌∙◌, ap, ap₂, sym, Bool, true, false, refl, subst, List, [], ◌∷◌, Option, Some, None, Err, inl, inr, is_some}
 use Rattle.std.specs.Option.{option_map}
 use Rattle.clap.specs.Faults.{check_fault, defaults_fault, fault_of, settle_fault, walk_fault, is_simple_and_free, level_fault}
 use Rattle.clap.specs.Kinds.{HasKind, IsAmong, Kinds, or_else}
 use Rattle.clap.specs.Simple.{App, Shape, built, names_of, subcommand_of}
 use Rattle.clap.specs.Walk.{Held, Names, Row, Text, finished, nothing_held, settled, walk, walk_from}
-use Rattle.clap.specs.Words.{kind_of}
+use Rattle.clap.specs.Matches.{subcommand_name_of}
+use Rattle.clap.specs.Words.{kind_of, subcommand_rows_of}
+use Rattle.clap.specs.declared.ArgMatches.{ArgMatches}
+use Rattle.clap.specs.declared.parser.matches.ArgMatches.TheViews.{out-ArgMatches}
 use Rattle.clap.specs.declared.Error.{Error}
 use Rattle.sc_base.specs.declared.refusals.OrMemory.{OrMemory}
 use Rattle.sc_base.specs.declared.refusals.OrMemory.TheVariants.{Fault, OutOfMemory}
@@ -67,17 +70,37 @@ refused a words e (Fault usage) is fails other = by_kind (fails (ap is_simple_an
         (ap (λ (x : App). fault_of x words) is ∙ none) among
 refused a words e OutOfMemory is fails other = tt
 
+-- a name with its rows
+abbrev pair_of : Text → List Row → Option (Text × List Row)
+pair_of name rows = Some (name, rows)
+
+-- two things that are found of one
+both_found : {A : Type 0} (f : A → Text) (g : A → List Row) (o : Option A) (name : Text)
+    (rows : List Row) → Some name ≡ option_map f o
+    → Some rows ≡ option_map (λ (p : Text × List Row). p.1)
+    (option_map {U = Text × List Row} (λ a. (f a, g a)) o)
+    → option_map {U = Text × List Row} (λ a. (f a, g a)) o ≡ Some (name, rows)
+both_found f g None name rows named rows_are = absurd cc
+both_found f g (Some a) name rows named rows_are =
+    let one : name ≡ f a = cc in
+    let two : rows ≡ g a = cc in
+    ap₂ pair_of (sym one) (sym two)
+
 -- the command of words that are taken
-pub command_found : (words : List Text) (rows : List Row) (found : Option (Text × List Row))
-    → AreTaken words → found ≡ subcommand_of program words
-    → option_map (λ p. p.1) found ≡ Some rows → command_of words ≡ Some (command_at rows)
+pub command_found : (words : List Text) (name : Text) (rows : List Row) (m : ArgMatches)
+    → AreTaken words → subcommand_rows_of m ≡ subcommand_of program words
+    → Some name ≡ subcommand_name_of m → Some rows ≡ option_map (λ p. p.1) (subcommand_rows_of m)
+    → command_of words ≡ Some (command_at (name, rows))
 unfolding AreTaken command_of
-command_found words rows found none is e = rw (none, ← is) (by_found found e)
+command_found words name rows m none is named rows_are =
+    rw (none, ← is, found_so name rows m named rows_are) refl
   where
-    by_found : (o : Option (Text × List Row)) → option_map (λ p. p.1) o ≡ Some rows
-        → option_map (λ p. command_at p.1) o ≡ Some (command_at rows)
-    by_found None e = absurd cc
-    by_found (Some p) e = let same : p.1 ≡ rows = cc in ap (λ rs. Some (command_at rs)) same
+    found_so : (name : Text) (rows : List Row) (m : ArgMatches)
+        → Some name ≡ subcommand_name_of m
+        → Some rows ≡ option_map (λ p. p.1) (subcommand_rows_of m)
+        → subcommand_rows_of m ≡ Some (name, rows)
+    found_so name rows m named rows_are =
+        both_found _ _ (out-ArgMatches m).subcommand name rows named rows_are
 
 -- words that aren't taken have no command
 pub no_command : (words : List Text) → (AreTaken words → ⊥) → command_of words ≡ None
@@ -107,7 +130,7 @@ pub command_taken : (words : List Text) (command : Command) → command_of words
 unfolding AreTaken command_of
 command_taken words command e =
     by_kinds (fault_of program words)
-    (option_map (λ p. command_at p.1) (subcommand_of program words)) e
+    (option_map command_at (subcommand_of program words)) e
   where
     by_kinds : (ks : Kinds) (given : Option Command) → unless_refused ks given ≡ Some command
         → ks ≡ []

@@ -1,4 +1,4 @@
--- The command line, as what `clap` reads of it: one subcommand with a script and options.
+-- The command line, as what `clap` reads of it: two subcommands, each with options.
 use Rattle.std.specs.Prelude.{ℕ, true, false, List, [], ◌∷◌, Some, codes, pos}
 use Rattle.clap.specs.Words.{App, Rule, Text, new_app, new_rule}
 use Rattle.clap.specs.declared.builder.value_parser.ValueParser.TheVariants as parsers
@@ -7,12 +7,16 @@ use Rattle.clap.specs.declared.builder.value_parser.ValueParser.TheVariants as p
 abbrev pub script_rule : Rule
 script_rule = record (new_rule (codes "SCRIPT")) { required = true }
 
--- an option that takes a whole number from 1 to this one
-abbrev pub number_rule : Text → ℕ → Rule
-number_rule name most = record (new_rule name) {
+-- an option that takes a whole number from the first of these to the second
+abbrev pub number_rule : Text → ℕ → ℕ → Rule
+number_rule name least most = record (new_rule name) {
   long = Some name;
-  parser = Some (parsers.Signed (pos 1) (pos most));
+  parser = Some (parsers.Signed (pos least) (pos most));
 }
+
+-- the same where it has to be there
+abbrev pub required_number_rule : Text → ℕ → ℕ → Rule
+required_number_rule name least most = record (number_rule name least most) { required = true }
 
 -- an option that takes a text
 abbrev pub text_rule : Text → Rule
@@ -22,10 +26,10 @@ text_rule name = record (new_rule name) { long = Some name }
 abbrev pub run_rules : List Rule
 run_rules =
     script_rule
-    ∷ number_rule (codes "executors") 64
-    ∷ number_rule (codes "task-failures") 16
-    ∷ number_rule (codes "stage-attempts") 16
-    ∷ number_rule (codes "cache") 4096
+    ∷ number_rule (codes "executors") 1 64
+    ∷ number_rule (codes "task-failures") 1 16
+    ∷ number_rule (codes "stage-attempts") 1 16
+    ∷ number_rule (codes "cache") 1 4096
     ∷ text_rule (codes "plan")
     ∷ []
 
@@ -33,6 +37,21 @@ run_rules =
 abbrev pub run_app : App
 run_app = record {
   top = record (new_app (codes "run")).top { rules = run_rules };
+  subs = [];
+}
+
+-- what `gen` takes
+abbrev pub gen_rules : List Rule
+gen_rules =
+    required_number_rule (codes "seed") 0 2147483647
+    ∷ required_number_rule (codes "size") 1 100000
+    ∷ number_rule (codes "executors") 1 64
+    ∷ []
+
+-- the subcommand `gen`
+abbrev pub gen_app : App
+gen_app = record {
+  top = record (new_app (codes "gen")).top { rules = gen_rules };
   subs = [];
 }
 
@@ -44,5 +63,5 @@ program = record {
     no_binary_name = true;
     subcommand_required = true;
   };
-  subs = run_app.top ∷ [];
+  subs = run_app.top ∷ gen_app.top ∷ [];
 }

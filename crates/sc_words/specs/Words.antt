@@ -1,5 +1,6 @@
 -- What the words of the command line ask for.
 use Rattle.std.specs.Prelude.{ℕ, ◌≡◌, ◌≢◌, ◌&&◌, List, [], ◌∷◌, Option, Some, None, Result, Ok, Err, codes, nat_le, nat_lt, if◌then◌else◌, option_and_then, option_map, unwrap_or}
+use Rattle.std.specs.Str.{bytes_eq}
 use Rattle.std.specs.Str.Parse.{digits_value, without_leading_plus}
 use Rattle.clap.specs.ValueTests.{is_numeral}
 use Rattle.clap.specs.Words.{Row, Text, fault_of, first_of, one_of, subcommand_of, subcommand_rows_of}
@@ -13,6 +14,7 @@ use Rattle.sc_ids.specs.declared.limits.Limits.{Limits}
 use Rattle.sc_words.specs.Program.{program}
 use Rattle.sc_words.specs.declared.commands.Command.{Command}
 use Rattle.sc_words.specs.declared.commands.Usage.{Usage}
+use Rattle.sc_words.specs.declared.commands.Workload.{Workload}
 
 -- `clap` takes the words
 unfoldable pub AreTaken : List Text → Type 0
@@ -25,31 +27,52 @@ number_of text =
     if is_numeral digits && nat_lt (digits_value 10 digits) 4294967296
     then Some (digits_value 10 digits) else None
 
--- a number where it is from 1 to `most`, or another
-abbrev pub up_to : ℕ → ℕ → ℕ → ℕ
-up_to most n other = if nat_le 1 n && nat_le n most then n else other
+-- a number where it is within these, or another
+abbrev pub within : ℕ → ℕ → ℕ → ℕ → ℕ
+within least most n other = if nat_le least n && nat_le n most then n else other
 
--- the number that an option has, or another where it has none from 1 to `most`
-abbrev pub number_at : Text → ℕ → List Row → ℕ → ℕ
-number_at name most rows other =
-    up_to most (unwrap_or (option_and_then number_of (one_of name rows)) other) other
+-- the number that an option has, or another where it has none within these
+abbrev pub number_at : Text → ℕ → ℕ → List Row → ℕ → ℕ
+number_at name least most rows other =
+    within least most (unwrap_or (option_and_then number_of (one_of name rows)) other) other
 
 -- the limits that the options set; the others are those of a run that sets none
 abbrev pub limits_at : List Row → Limits
 limits_at rows = record default_limits {
-  executors = number_at (codes "executors") 64 rows default_limits.executors;
-  task_failures = number_at (codes "task-failures") 16 rows default_limits.task_failures;
-  stage_attempts = number_at (codes "stage-attempts") 16 rows default_limits.stage_attempts;
-  cache = number_at (codes "cache") 4096 rows default_limits.cache;
+  executors = number_at (codes "executors") 1 64 rows default_limits.executors;
+  task_failures = number_at (codes "task-failures") 1 16 rows default_limits.task_failures;
+  stage_attempts = number_at (codes "stage-attempts") 1 16 rows default_limits.stage_attempts;
+  cache = number_at (codes "cache") 1 4096 rows default_limits.cache;
 }
 
 -- the command of what `clap` found for `run`
-abbrev pub command_at : List Row → Command
-command_at rows = record {
+abbrev pub run_at : List Row → Command
+run_at rows = record {
   script = unwrap_or (first_of (codes "SCRIPT") rows) [];
   plan = first_of (codes "plan") rows;
   limits = limits_at rows;
+  workload = None;
 }
+
+-- the workload that the options of `gen` name
+abbrev pub workload_at : List Row → Workload
+workload_at rows = record {
+  seed = number_at (codes "seed") 0 2147483647 rows 0;
+  size = number_at (codes "size") 1 100000 rows 1;
+}
+
+-- the command of what `clap` found for `gen`, whose script has a name of its own
+abbrev pub gen_at : List Row → Command
+gen_at rows = record {
+  script = codes "gen.spark";
+  plan = None;
+  limits = limits_at rows;
+  workload = Some (workload_at rows);
+}
+
+-- the same for a subcommand by its name, of which there are these two
+abbrev pub command_at : Text × List Row → Command
+command_at found = if bytes_eq found.0 (codes "gen") then gen_at found.1 else run_at found.1
 
 -- a command, unless something refuses it
 abbrev pub unless_refused : List ErrorKind → Option Command → Option Command
@@ -60,7 +83,7 @@ unless_refused (kind ∷ kinds) command = None
 unfoldable pub command_of : List Text → Option Command
 command_of words =
     unless_refused (fault_of program words)
-    (option_map (λ p. command_at p.1) (subcommand_of program words))
+    (option_map command_at (subcommand_of program words))
 
 -- what a reading of words answers
 abbrev pub ReadsWords : List Text → Result Command (OrMemory Usage) → Type 0
@@ -90,4 +113,4 @@ abbrev pub NamesAreCommands : Type 0
 NamesAreCommands =
     (name : Text) → IsPlainName name
     → command_of (codes "run" ∷ name ∷ [])
-    ≡ Some (record { script = name; plan = None; limits = default_limits })
+    ≡ Some (record { script = name; plan = None; limits = default_limits; workload = None })

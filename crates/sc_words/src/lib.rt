@@ -11,6 +11,6 @@ mod laws;
 mod program;
 mod words;
 
-pub use commands::{Command, Usage};
+pub use commands::{Command, Usage, Workload};
 pub use laws::names_are_commands;
 pub use words::read_words;

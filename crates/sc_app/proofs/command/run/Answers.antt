@@ -1,40 +1,78 @@
+use Rattle.std.proofs.Common.{subst}
+use Rattle.sc_app.specs.Promises.{Ends}
+use Rattle.sc_app.specs.declared.ran.Status.{Status}
 use Rattle.sc_app.proofs.AbortLemmas.{tells_no_failure}
 use Rattle.sc_app.proofs.ExactlyLemmas.{tells_fault, tells_not_text, tells_plan_fault}
 use Rattle.sc_app.proofs.WithoutTextLemmas.{tells_driver_fault, tells_never}
 use Rattle.sc_app.proofs.GoodLemmas.{ends_well}
 use Rattle.sc_app.proofs.JobLemmas.{zero_shows_jobs}
+use Rattle.sc_app.proofs.SourceLemmas.{over_out, over_weaker}
 use Rattle.sc_app.proofs.command.run.Goals as goal
 
-pub returns-clause-good : goal.returns-clause-good
-returns-clause-good g c = ends_well _ _ _ c.run_words-status.ensures.run.ends
+pub returns-clause-reads : goal.returns-clause-reads
+returns-clause-reads g c =
+    over_weaker _ _ _ (λ before after is. is.reads) _ _ c.run_words-status.ensures.run
 
-pub returns-clause-text_exactly : goal.returns-clause-text_exactly
-returns-clause-text_exactly g c = tells_not_text _ _ _ c.run_words-status.ensures.run.ends
+pub returns-clause-asked : goal.returns-clause-asked
+returns-clause-asked g c =
+    over_weaker _ _ _ (λ before after is. is.asked) _ _ c.run_words-status.ensures.run
 
-pub returns-clause-script_exactly : goal.returns-clause-script_exactly
-returns-clause-script_exactly g c =
-    tells_fault c.scripts_have_one_reading.ensures _ _ _ c.run_words-status.ensures.run.ends
-
-pub returns-clause-never_exactly : goal.returns-clause-never_exactly
-returns-clause-never_exactly g c =
-    tells_never c.scripts_have_one_reading.ensures c.plans_have_one_reading.ensures _ _ _
-    c.run_words-status.ensures.run.ends
-
-pub returns-clause-driver_exactly : goal.returns-clause-driver_exactly
-returns-clause-driver_exactly g c =
-    tells_driver_fault c.scripts_have_one_reading.ensures c.plans_have_one_reading.ensures _ _ _
-    c.run_words-status.ensures.run.ends
-
-pub returns-clause-plan_exactly : goal.returns-clause-plan_exactly
-returns-clause-plan_exactly g c =
-    tells_plan_fault c.plans_have_one_reading.ensures _ _ _ c.run_words-status.ensures.run.ends
-
-pub returns-clause-no_failure : goal.returns-clause-no_failure
-returns-clause-no_failure g c =
-    tells_no_failure c.scripts_have_one_reading.ensures c.plans_have_one_reading.ensures _ _ _
-    c.run_words-status.ensures.run.ends
+pub returns-clause-headline : goal.returns-clause-headline
+returns-clause-headline g c =
+    over_weaker _ _ _
+    (λ before after is done. subst (λ (status : Status). Ends _ _ status) done is.ends) _ _
+    c.run_words-status.ensures.run
 
 pub returns-clause-histories : goal.returns-clause-histories
 returns-clause-histories g c =
-    zero_shows_jobs c.scripts_have_one_reading.ensures c.plans_have_one_reading.ensures _ _ _
+    over_weaker _ _ _
+    (λ before after is. zero_shows_jobs c.scripts_have_one_reading.ensures
+    c.plans_have_one_reading.ensures _ _ _ is) _ _ c.run_words-status.ensures.run
+
+pub returns-clause-ends : goal.returns-clause-ends
+returns-clause-ends g c =
+    over_weaker _ _ _ (λ before after is. is.ends) _ _ c.run_words-status.ensures.run
+
+pub returns-clause-good : goal.returns-clause-good
+returns-clause-good g c =
+    over_weaker _ _ _ (λ before after is. ends_well _ _ _ is.ends) _ _
     c.run_words-status.ensures.run
+
+pub returns-clause-usage : goal.returns-clause-usage
+returns-clause-usage g c =
+    over_out _ _ _ (λ before after is. is.usage) _ _ c.run_words-status.ensures.run
+
+pub returns-clause-text_exactly : goal.returns-clause-text_exactly
+returns-clause-text_exactly g c =
+    over_out _ _ _ (λ before after is. tells_not_text _ _ _ is.ends) _ _
+    c.run_words-status.ensures.run
+
+pub returns-clause-script_exactly : goal.returns-clause-script_exactly
+returns-clause-script_exactly g c =
+    over_out _ _ _
+    (λ before after is. tells_fault c.scripts_have_one_reading.ensures _ _ _ is.ends) _ _
+    c.run_words-status.ensures.run
+
+pub returns-clause-never_exactly : goal.returns-clause-never_exactly
+returns-clause-never_exactly g c =
+    over_out _ _ _
+    (λ before after is. tells_never c.scripts_have_one_reading.ensures
+    c.plans_have_one_reading.ensures _ _ _ is.ends) _ _ c.run_words-status.ensures.run
+
+pub returns-clause-driver_exactly : goal.returns-clause-driver_exactly
+returns-clause-driver_exactly g c =
+    over_out _ _ _
+    (λ before after is. tells_driver_fault c.scripts_have_one_reading.ensures
+    c.plans_have_one_reading.ensures _ _ _ is.ends) _ _ c.run_words-status.ensures.run
+
+pub returns-clause-plan_exactly : goal.returns-clause-plan_exactly
+returns-clause-plan_exactly g c =
+    over_out _ _ _
+    (λ before after is. tells_plan_fault c.plans_have_one_reading.ensures _ _ _ is.ends) _ _
+    c.run_words-status.ensures.run
+
+pub returns-clause-no_failure : goal.returns-clause-no_failure
+returns-clause-no_failure g c =
+    over_out _ _ _
+    (λ before after is. tells_no_failure c.scripts_have_one_reading.ensures
+    c.plans_have_one_reading.ensures _ _ _ is.ends) _ _ c.run_words-status.ensures.run

@@ -11,6 +11,8 @@ returns c =
     ∙ ap (on_top (λ (s : Shape). record s { no_binary_name = true })) c.new.ensures.app in
     let two = ap app_of_fields c.subcommand_required.ensures
     ∙ ap (on_top (λ (s : Shape). record s { subcommand_required = true })) one in
-    IfOk-weaker c.subcommand.result _ _
-    (λ m added. adds_subcommand _ _ _ _ _ added c.in_ok-run.ensures.local two
-    c.in_ok-run.ensures.app) c.subcommand.ensures
+    let three = adds_subcommand _ _ _ _ _ c.in_ok-subcommand.ensures c.in_ok-run.ensures.local two
+    c.in_ok-run.ensures.app in
+    IfOk-weaker c.subcommand-2.result _ _
+    (λ m added. adds_subcommand _ _ _ _ _ added c.in_ok-generate.ensures.local three
+    c.in_ok-generate.ensures.app) c.subcommand-2.ensures

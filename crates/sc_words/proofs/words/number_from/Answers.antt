@@ -4,7 +4,7 @@ use Rattle.std.specs.Prelude.{option_and_then}
 use Rattle.std.specs.Str.Parse.{ParsesUnsigned, ExplainsUnsignedError, HasUnsignedDigitsIfOk}
 use Rattle.clap.specs.Words.{found_of}
 use Rattle.clap.proofs.WalkLemmas.{one_text-rows}
-use Rattle.sc_words.specs.Words.{number_of, up_to}
+use Rattle.sc_words.specs.Words.{number_of, within}
 use Rattle.sc_words.proofs.GetterLemmas.{number_read}
 use Rattle.sc_words.proofs.words.number_from.Goals as goal
 
@@ -13,7 +13,8 @@ returns c =
     let read = number_read
     (λ bs r. ParsesUnsigned 32 10 bs r × ExplainsUnsignedError 10 bs r × HasUnsignedDigitsIfOk bs r)
     _ c.get_one.result (λ u x g. g.0) c.get_one.ensures.none c.get_one.ensures.value in
-    c.up_to.ensures ∙ ap (λ (n : ℕ). up_to c.args.most n c.args.other) (c.unwrap_or.ensures
+    c.within.ensures
+    ∙ ap (λ (n : ℕ). within c.args.least c.args.most n c.args.other) (c.unwrap_or-number.ensures
     ∙ ap (λ (o : Option ℕ). unwrap_or o c.args.other)
     (read ∙ ap (option_and_then number_of)
-    (one_text-rows (found_of c.args.run.now) c.args.option.now)))
+    (one_text-rows (found_of c.args.found.now) c.args.option.now)))

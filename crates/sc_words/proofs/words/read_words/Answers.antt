@@ -14,8 +14,8 @@ pub returns-in-Some-clause-command : goal.returns-in-Some-clause-command
 returns-in-Some-clause-command c =
     let found = c.in_ok-matches.ensures in (
       found.0,
-      command_found (map string_bytes c.args.words.now) _ _ found.0 found.1
-          (sym c.in-Some.ensures.rows)
+      command_found (map string_bytes c.args.words.now) _ _ _ found.0 found.1
+          c.in-Some.ensures.name c.in-Some.ensures.rows
           ∙ ap Some (sym c.in_ok-command_from-in-Some.ensures.command),
     )
 

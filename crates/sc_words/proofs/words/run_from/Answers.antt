@@ -1,10 +1,10 @@
-use Rattle.std.proofs.Common.{◌≡◌, ◌∙◌, ap, List, [], ℕ, Option, codes, refl}
+use Rattle.std.proofs.Common.{◌≡◌, ◌∙◌, ap, List, [], ℕ, None, Option, codes, refl}
 use Rattle.std.specs.Borrow.{Bor}
 use Rattle.std.specs.Prelude.{unwrap_or}
 use Rattle.clap.specs.Words.{first_of, found_of, rows_of}
 use Rattle.clap.proofs.WalkLemmas.{first_value-rows}
 use Rattle.sc_words.proofs.GetterLemmas.{text_or_empty}
-use Rattle.sc_words.proofs.words.command_from.Goals as goal
+use Rattle.sc_words.proofs.words.run_from.Goals as goal
 
 pub returns-clause-command : goal.returns-clause-command
 returns-clause-command c =
@@ -21,4 +21,5 @@ returns-clause-command c =
       script = script i;
       plan = plan i;
       limits = c.limits_from-limits.ensures.limits i;
+      workload = None;
     }
