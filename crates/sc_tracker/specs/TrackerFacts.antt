@@ -1,9 +1,9 @@
 -- What holds of every tracker.
-use Rattle.std.specs.Prelude.{ℕ, List, Some, IfSome, ◌≡◌, ◌≤◌, ◌<◌, ◌+◌, ◌^◌, if◌then◌else◌}
-use Rattle.std.specs.List.{All, sum_by}
+use Rattle.std.specs.Prelude.{ℕ, List, Some, IfSome, ◌≡◌, ◌≢◌, ◌≤◌, ◌<◌, ◌+◌, ◌^◌, if◌then◌else◌, map}
+use Rattle.std.specs.List.{All, AllPairs, sum_by}
 use Rattle.sc_tracker.specs.declared.outputs.Output.{Output}
 use Rattle.sc_tracker.specs.declared.trust.Trust.{Trust}
-use Rattle.sc_tracker.specs.TrackerData.{TrackerData}
+use Rattle.sc_tracker.specs.TrackerData.{ShuffleData, TrackerData}
 use Rattle.sc_tracker.specs.Trust.{trust_at}
 
 -- what holds of each output
@@ -35,3 +35,7 @@ pub record IsSoundTracker (t : TrackerData) : Type 0 where
 -- the seen generations are within their type
 abbrev pub SeenFits : List Trust → Type 0
 SeenFits trust = All (λ heard. heard.seen < 2 ^ 32) trust
+
+-- no two places are of one shuffle
+abbrev pub AreApart : List ShuffleData → Type 0
+AreApart shuffles = AllPairs (λ a b. a ≢ b) (map (λ s. s.shuffle) shuffles)

@@ -13,6 +13,7 @@
 //! registered block is there is no promise of it. Below it lies `sc_ids`.
 #![tactic(auto)]
 
+mod hints;
 mod laws;
 mod links;
 mod listed;

@@ -7,6 +7,7 @@ ghost use Rattle.sc_ids.specs.Changes.{change_at};
 ghost use Rattle.sc_tracker.specs.Lists.{has_room_at, output_at, place_for, with_one_forgotten, with_output};
 ghost use Rattle.sc_tracker.specs.Outputs.{are_here, forgotten, never, output_in, placed};
 ghost use Rattle.sc_tracker.specs.TrackerData.{is_of, output_under, outputs_under, place_of, shuffle_data};
+ghost use Rattle.sc_tracker.specs.TrackerFacts.{AreApart};
 ghost use Rattle.sc_tracker.specs.Tracking.{with_forgotten, with_placed};
 
 use crate::links::Place;
@@ -59,6 +60,13 @@ impl ShuffleOutputs {
             outputs,
             registered: self.registered,
         })
+    }
+
+    /// Whose outputs these are.
+    pub(crate) fn shuffle(&self) -> ShuffleId
+        ensures { result ≡ self.now.shuffle }
+    {
+        self.shuffle
     }
 
     /// Whether these are the outputs of that shuffle.
@@ -168,8 +176,21 @@ fn forget_each(shuffles: &mut [ShuffleOutputs])
     }
 }
 
-/// The place of a shuffle among others, or their number where it isn't there.
-fn place_of(shuffles: &[ShuffleOutputs], shuffle: ShuffleId) -> usize
+/// The place of a shuffle among others, or their number where it isn't there. They are looked at one
+/// by one only where the guess is wrong.
+fn place_of(shuffles: &[ShuffleOutputs], guess: usize, shuffle: ShuffleId) -> usize
+    requires { AreApart shuffles.now }
+    ensures { result ≡ place_of shuffles.now shuffle }
+{
+    if guess < shuffles.len() && shuffles[guess].is_of(shuffle) {
+        guess
+    } else {
+        found_place(shuffles, shuffle)
+    }
+}
+
+/// The same by a search.
+fn found_place(shuffles: &[ShuffleOutputs], shuffle: ShuffleId) -> usize
     ensures { result ≡ place_of shuffles.now shuffle }
 {
     shuffles
@@ -179,31 +200,39 @@ fn place_of(shuffles: &[ShuffleOutputs], shuffle: ShuffleId) -> usize
 }
 
 /// What is known of an output; of one that there is no room for, nothing.
-pub(crate) fn output_at(shuffles: &[ShuffleOutputs], block: BlockId) -> Output
+pub(crate) fn output_at(shuffles: &[ShuffleOutputs], guess: usize, block: BlockId) -> Output
+    requires { AreApart shuffles.now }
     ensures { result ≡ output_under shuffles.now block }
 {
-    match shuffles.get(place_of(shuffles, block.shuffle)) {
+    match shuffles.get(place_of(shuffles, guess, block.shuffle)) {
         Some(outputs) => outputs.output(block.map),
         None => Output::NEVER,
     }
 }
 
 /// Whether the first so many outputs of a shuffle are all registered.
-pub(crate) fn has_all(shuffles: &[ShuffleOutputs], shuffle: ShuffleId, maps: u32) -> bool
+pub(crate) fn has_all(
+    shuffles: &[ShuffleOutputs],
+    guess: usize,
+    shuffle: ShuffleId,
+    maps: u32,
+) -> bool
+    requires { AreApart shuffles.now }
     ensures { result ≡ are_here (outputs_under shuffles.now shuffle) maps }
 {
-    match shuffles.get(place_of(shuffles, shuffle)) {
+    match shuffles.get(place_of(shuffles, guess, shuffle)) {
         Some(outputs) => outputs.has_all(maps),
         None => maps == 0,
     }
 }
 
 /// Where a block's output stands.
-pub(crate) fn place_for(shuffles: &[ShuffleOutputs], block: BlockId) -> Place
+pub(crate) fn place_for(shuffles: &[ShuffleOutputs], guess: usize, block: BlockId) -> Place
+    requires { AreApart shuffles.now }
     ensures { result ≡ place_for shuffles.now block }
 {
     Place {
-        at: place_of(shuffles, block.shuffle),
+        at: place_of(shuffles, guess, block.shuffle),
         map: block.map,
     }
 }

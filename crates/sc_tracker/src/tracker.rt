@@ -8,6 +8,7 @@ ghost use Rattle.sc_tracker.specs.TrackerFacts.{IsSoundTracker};
 ghost use Rattle.sc_tracker.specs.Tracking.{after_executor_lost, after_gone, emptied, is_bogus, registered, sized};
 ghost use Rattle.sc_tracker.specs.Trust.{are_lost, is_live, is_newer, untold};
 
+use crate::hints::Hints;
 use crate::listed::{forget_on, forget_on_in, register_at};
 use crate::lists::Lists;
 use crate::outputs::{Location, Output};
@@ -35,6 +36,8 @@ pub enum Registration {
 pub struct Tracker {
     alloc: Global,
     shuffles: Vec<ShuffleOutputs>,
+    /// Where each shuffle may stand among them.
+    hints: Hints,
     /// The outputs that are registered on each executor.
     lists: Lists,
     trust: Vec<Trust>,
@@ -45,7 +48,7 @@ impl Model for Tracker {
     ghost use Rattle.std.specs.Prelude.{◌<◌, ◌≡◌, ◌^◌, length};
     ghost use Rattle.sc_tracker.specs.Lists.{AreListed};
     ghost use Rattle.sc_tracker.specs.TrackerData.{TrackerData, tracker_data};
-    ghost use Rattle.sc_tracker.specs.TrackerFacts.{IsSoundTracker, SeenFits};
+    ghost use Rattle.sc_tracker.specs.TrackerFacts.{AreApart, IsSoundTracker, SeenFits};
 
     ghost Value = { TrackerData };
 
@@ -54,7 +57,8 @@ impl Model for Tracker {
     ghost invariant = { λ t. IsSoundTracker (tracker_data t.shuffles.items t.trust.items t.epoch)
         × SeenFits t.trust.items × (length t.trust.items < 2 ^ 32)
         × AreListed t.shuffles.items t.lists
-        × (length t.lists.firsts ≡ length t.trust.items) };
+        × (length t.lists.firsts ≡ length t.trust.items)
+        × AreApart t.shuffles.items };
 }
 
 impl Tracker {
@@ -67,6 +71,7 @@ impl Tracker {
         Ok(Tracker {
             alloc,
             shuffles: Vec::new(alloc),
+            hints: Hints::new(alloc),
             lists,
             trust,
             epoch: 0,
@@ -78,11 +83,13 @@ impl Tracker {
         ensures { IfOk result (λ t. t ≡ self.now) }
     {
         let shuffles = copies(self.alloc, self.shuffles.as_slice())?;
+        let hints = self.hints.copied(self.alloc)?;
         let lists = self.lists.copied(self.alloc)?;
         let trust = self.trust.as_slice().to_vec(self.alloc)?;
         Ok(Tracker {
             alloc: self.alloc,
             shuffles,
+            hints,
             lists,
             trust,
             epoch: self.epoch,
@@ -98,7 +105,9 @@ impl Tracker {
         if !has_room(self.shuffles.as_slice(), shuffle) {
             let outputs = ShuffleOutputs::new(self.alloc, shuffle, maps)?;
             self.shuffles.reserve(1)?;
+            self.hints.reserve(self.alloc, self.shuffles.as_slice())?;
             self.lists.add(self.alloc, maps)?;
+            self.hints.note(shuffle, self.shuffles.len());
             self.shuffles.push_reserved(outputs);
         }
         Ok(())
@@ -116,7 +125,8 @@ impl Tracker {
         if is_bogus(self.trust.as_slice(), loc, epoch) {
             return Registration::Bogus;
         }
-        let place = place_for(self.shuffles.as_slice(), block);
+        let guess = self.hints.guess(block.shuffle);
+        let place = place_for(self.shuffles.as_slice(), guess, block);
         register_at(&mut self.shuffles, &mut self.lists, place, loc, self.epoch);
         Registration::Registered
     }
@@ -132,14 +142,16 @@ impl Tracker {
     pub fn output(&self, block: BlockId) -> Output
         ensures { result ≡ output_of self.now block }
     {
-        output_at(self.shuffles.as_slice(), block)
+        let guess = self.hints.guess(block.shuffle);
+        output_at(self.shuffles.as_slice(), guess, block)
     }
 
     /// Whether the outputs of the first so many map partitions of a shuffle are all registered.
     pub fn has_all(&self, shuffle: ShuffleId, maps: u32) -> bool
         ensures { result ≡ has_all self.now shuffle maps }
     {
-        has_all(self.shuffles.as_slice(), shuffle, maps)
+        let guess = self.hints.guess(shuffle);
+        has_all(self.shuffles.as_slice(), guess, shuffle, maps)
     }
 
     /// An executor was told lost: its outputs are forgotten. A second telling changes nothing. A

@@ -1,15 +1,11 @@
-use Rattle.std.proofs.Common.{rules, tests, ◌∙◌}
-use Rattle.std.proofs.lemmas.Iterator.{YieldsList-from_slice}
-use Rattle.std.proofs.lemmas.Iterator.Search.{position_from_yields_List}
+use Rattle.std.proofs.Common.{◌∙◌, ap, arith, sym}
 use Rattle.sc_tracker.specs.TrackerData.{is_of}
-use Rattle.sc_tracker.proofs.PlaceLemmas.{position_or_length}
+use Rattle.sc_tracker.proofs.ApartLemmas.{stands_there}
 use Rattle.sc_tracker.proofs.shuffles.place_of.Goals as goal
 
-pub returns : goal.returns
-returns c =
-    let shuffles = c.args.shuffles.now in
-    c.unwrap_or.ensures
-    ∙ position_or_length (is_of c.args.shuffle) shuffles c.position.result
-    (position_from_yields_List (is_of c.args.shuffle) _ _ c.position.result
-    c.position.ensures.ran (YieldsList-from_slice shuffles cc)
-    (λ x b q k. search (rules, tests)))
+pub returns-then-is_of : goal.returns-then-is_of
+returns-then-is_of c =
+    stands_there c.args.shuffles.now c.args.guess c.index-shuffles-guess.result c.args.shuffle
+    c.requires (omega (arith, c.if-guess-shuffles.true))
+    (ap (is_of c.args.shuffle) (sym c.index-shuffles-guess.is) ∙ sym c.is_of.ensures
+    ∙ c.if-is_of.true)

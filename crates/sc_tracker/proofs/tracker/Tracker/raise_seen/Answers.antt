@@ -1,7 +1,9 @@
-use Rattle.std.proofs.Common.{◌≡◌, ◌∙◌, ◌<◌, ap, subst, sym, slice_get, true, arith}
+use Rattle.std.proofs.Common.{refl, ◌≡◌, ◌∙◌, ◌<◌, ap, subst, sym, slice_get, true, arith}
 use Rattle.sc_ids.proofs.ChangeLemmas.{length_change_at}
 use Rattle.sc_tracker.specs.TrackerData.{tracker_data}
 use Rattle.sc_tracker.specs.Trust.{is_newer, seen_at}
+use Rattle.sc_tracker.specs.Tracking.{with_forgotten_on}
+use Rattle.sc_tracker.proofs.ApartLemmas.{mapped_apart}
 use Rattle.sc_tracker.proofs.TrackerLemmas.{epoch_fits, gone_sound, newer_within, seen_fits}
 use Rattle.sc_tracker.proofs.tracker.Tracker.raise_seen.Goals as goal
 
@@ -39,4 +41,7 @@ invariant_of-self c =
       rw many c.self.invariant.2,
       c.forget_on_in.ensures.listed,
       c.forget_on_in.ensures.many ∙ c.self.invariant.4 ∙ sym many,
+      rw c.forget_on_in.ensures.outputs
+          (mapped_apart f.shuffles.items (with_forgotten_on c.args.exec) (λ s. refl)
+          c.self.invariant.5),
     )

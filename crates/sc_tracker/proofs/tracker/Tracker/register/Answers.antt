@@ -3,7 +3,8 @@ use Rattle.sc_tracker.specs.Lists.{place_for, with_output}
 use Rattle.sc_tracker.specs.Outputs.{placed}
 use Rattle.sc_tracker.specs.TrackerData.{tracker_data}
 use Rattle.sc_tracker.specs.Trust.{is_bogus_for, trust_at}
-use Rattle.sc_tracker.specs.TrackerFacts.{IsSoundTracker}
+use Rattle.sc_tracker.specs.TrackerFacts.{AreApart, IsSoundTracker}
+use Rattle.sc_tracker.proofs.ApartLemmas.{with_apart}
 use Rattle.sc_tracker.proofs.TrackerLemmas.{registered_sound}
 use Rattle.sc_tracker.proofs.tracker.Tracker.register.Goals as goal
 
@@ -27,4 +28,7 @@ invariant_of-self c =
       c.self.invariant.2,
       c.register_at.ensures.listed,
       c.register_at.ensures.many ∙ c.self.invariant.4,
+      subst AreApart (sym c.register_at.ensures.outputs)
+          (with_apart f.shuffles.items c.place_for-place.result (placed c.args.loc f.epoch)
+          c.self.invariant.5),
     )

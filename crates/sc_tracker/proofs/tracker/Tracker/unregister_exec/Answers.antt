@@ -1,7 +1,9 @@
-use Rattle.std.proofs.Common.{◌≡◌, ◌∙◌, ◌<◌, ap, subst, sym, slice_get, true, arith}
+use Rattle.std.proofs.Common.{refl, ◌≡◌, ◌∙◌, ◌<◌, ap, subst, sym, slice_get, true, arith}
 use Rattle.sc_ids.proofs.ChangeLemmas.{length_change_at}
 use Rattle.sc_tracker.specs.TrackerData.{tracker_data}
 use Rattle.sc_tracker.specs.Trust.{is_live, lost_at}
+use Rattle.sc_tracker.specs.Tracking.{with_forgotten_on}
+use Rattle.sc_tracker.proofs.ApartLemmas.{mapped_apart}
 use Rattle.sc_tracker.proofs.TrackerLemmas.{epoch_fits, live_within, lost_sound, seen_fits}
 use Rattle.sc_tracker.proofs.tracker.Tracker.unregister_exec.Goals as goal
 
@@ -39,4 +41,7 @@ invariant_of-self g c =
       rw many c.self.invariant.2,
       c.forget_on.ensures.listed,
       c.forget_on.ensures.many ∙ c.self.invariant.4 ∙ sym many,
+      rw c.forget_on.ensures.outputs
+          (mapped_apart f.shuffles.items (with_forgotten_on c.args.exec) (λ s. refl)
+          c.self.invariant.5),
     )
