@@ -8,7 +8,8 @@ pub begin-requires : goal.begin-requires
 begin-requires g c =
     let before : Option CoreData = option_map (λ l. l.now) c.args.last in
     openings_agree c.args.graph.now c.args.limits c.args.saves c.args.plan.now before
-    c.expect-core.result c.expect-opening.result c.requires.job c.requires.fits c.is_sound_behind.ensures
+    c.expect-core.result c.expect-opening.result c.requires.job c.requires.fits
+    c.is_sound_behind.ensures
     (subst (λ r. IfOk r
     (λ k. IsOpening c.args.graph.now c.args.limits c.args.saves c.args.plan.now before k))
     c.expect-core.ensures c.open-2.ensures)
