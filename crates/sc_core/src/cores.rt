@@ -13,7 +13,7 @@ ghost use Rattle.sc_core.specs.Steps.{Steps, is_enabled};
 ghost use Rattle.sc_core.specs.declared.answers.NotEnabled.{NotEnabled};
 
 use crate::answers::{JobState, NotEnabled, Stepped};
-use crate::events::Event;
+use crate::events::{Event, SideEvent};
 use crate::running::{Running, Shelved};
 use crate::states::State;
 use sc_base::OrMemory;
@@ -78,6 +78,14 @@ impl Core {
             Event::TellLost { exec } => self.state.tell_lost(exec),
             Event::Side(side) => Ok(self.state.step_aside(side)),
         }
+    }
+
+    /// Something happens beside the reports. It takes no memory.
+    pub fn step_aside(&mut self, event: SideEvent) -> Stepped
+        ensures answered { Steps self.old (Event.Side event) result.answer self.new }
+        ensures thrice { IsThrice result result.answer }
+    {
+        self.state.step_aside(event)
     }
 
     /// How far the job is.

@@ -52,13 +52,17 @@ shelved_code =
     code_by (ℕ × (ℕ × ReportData)) (coded× coded_ℕ (coded× coded_ℕ report_code))
     (λ s. (s.key, (s.due, s.report))) (λ p. shelved p.0 p.1.0 p.1.1) (λ _. refl)
 
+-- that of a journal but for its room
+abbrev pub journal_code : Coded JournalData
+journal_code = code_by (JournalData × ℕ) journal.coded (λ j. (j, 0)) (λ p. p.0) (λ _. refl)
+
 -- and that of a desk
 abbrev pub desk_code : Coded DeskData
 desk_code =
     code_by (((JobData × CarriedData) × (JournalData × List (Option TaskResult)))
     × (List (ShelvedReport ReportData) × List Ordered))
     (coded× (coded× (coded× job_code carried.coded)
-    (coded× journal.coded (coded_list (coded_option result_row.coded))))
+    (coded× journal_code (coded_list (coded_option result_row.coded))))
     (coded× (coded_list shelved_code) orders_code))
     (λ d. (((d.job, d.carried), (d.journal, d.results)), (d.shelf, d.ordered)))
     (λ p. desk_data p.0.0.0 p.0.0.1 p.0.1.0 p.0.1.1 p.1.0 p.1.1) (λ _. refl)

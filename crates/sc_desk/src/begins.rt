@@ -86,9 +86,9 @@ fn open_job<W: Naming>(
     requires live { HasLive (tracker_behind (option_map (λ l. l.now) last) W.work.limits) }
     ensures begun { IfOk result (λ o. Begins W.work passed.old
         (option_map (λ l. l.now) last.entry) goal
-        (begun_desk o.job o.journal o.results.items passed.new)) }
+        (begun_desk o.job o.journal.0 o.results.items passed.new)) }
     ensures sound { IfOk result (λ o. IsSoundDesk W.work
-        (begun_desk o.job o.journal o.results.items passed.new)) }
+        (begun_desk o.job o.journal.0 o.results.items passed.new)) }
     ensures back { OnErr result (IsHandedBack W.work passed.old goal passed.new) }
 {
     let job = Job::plan(alloc, work, &mut passed.carried, goal)?;
@@ -118,10 +118,10 @@ fn begin_journal<W: Naming>(
     requires fits { FitsLast W.work (option_map (λ l. l.now) last) }
     requires live { HasLive (tracker_behind (option_map (λ l. l.now) last) W.work.limits) }
     ensures fresh { IfOk result (λ b. IsFresh job.now.graph W.work.limits W.work.plan
-        (option_map (λ l. l.now) last.entry) b.journal) }
-    ensures sound { IfOk result (λ b. IsSoundCore b.journal.core) }
+        (option_map (λ l. l.now) last.entry) b.journal.0) }
+    ensures sound { IfOk result (λ b. IsSoundCore b.journal.0.core) }
     ensures results { IfOk result (λ b. b.results.items
-        ≡ replicate (result_count b.journal.core.dag) None) }
+        ≡ replicate (result_count b.journal.0.core.dag) None) }
 {
     let journal = journal_of(alloc, work, job, last)?;
     let results = no_results(alloc, &journal)?;
@@ -138,8 +138,8 @@ fn journal_of<W: Naming>(
     requires fits { FitsLast W.work (option_map (λ l. l.now) last) }
     requires live { HasLive (tracker_behind (option_map (λ l. l.now) last) W.work.limits) }
     ensures fresh { IfOk result (λ j. IsFresh job.now.graph W.work.limits W.work.plan
-        (option_map (λ l. l.now) last.entry) j) }
-    ensures sound { IfOk result (λ j. IsSoundCore j.core) }
+        (option_map (λ l. l.now) last.entry) j.0) }
+    ensures sound { IfOk result (λ j. IsSoundCore j.0.core) }
 {
     work.is_named();
     job.is_job();
@@ -163,7 +163,7 @@ fn are_sound(last: Option<&Core>)
 
 /// Places for the results of a job, of which none is there.
 fn no_results(alloc: Global, journal: &Journal) -> Result<Vec<Option<TaskResult>>, AllocError>
-    ensures { IfOk result (λ v. v.items ≡ replicate (result_count journal.now.core.dag) None) }
+    ensures { IfOk result (λ v. v.items ≡ replicate (result_count journal.now.0.core.dag) None) }
 {
     let core = journal.core();
     places(alloc, core.tasks(core.result_stage()))

@@ -38,10 +38,10 @@ impl<W: Naming> Model for Desk<W> {
     ghost coded = { desk_code };
 
     ghost view = { λ d.
-        desk_data d.job d.carried d.journal d.results.items d.shelf.items d.ordered };
+        desk_data d.job d.carried d.journal.0 d.results.items d.shelf.items d.ordered };
 
     ghost invariant = { λ d. IsSoundDesk W.work
-        (desk_data d.job d.carried d.journal d.results.items d.shelf.items d.ordered) };
+        (desk_data d.job d.carried d.journal.0 d.results.items d.shelf.items d.ordered) };
 }
 
 impl<W: Naming> Desk<W> {

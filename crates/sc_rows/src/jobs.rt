@@ -17,7 +17,7 @@ use std::process::Abort;
 /// The journal of a word count over two partitions, under a fault plan: stage 0 makes two outputs
 /// of a shuffle, and stage 1 reads them for two results.
 pub fn counting_under<R: Abort + AllocGlobal>(rt: &R, limits: Limits, plan: &str) -> Journal
-    ensures { room_of result.core ≡ 2 }
+    ensures { room_of result.0.core ≡ 2 }
 {
     let graph = word_count(rt, 1);
     let plan = plan_of(rt, plan);
@@ -60,7 +60,7 @@ fn begun<R: Abort + AllocGlobal>(
     requires job { IsJob graph.now }
     requires fits { FitsJob (tracker_behind (option_map (λ l. l.now) last) limits) graph.now }
     ensures { IsOpening graph.now limits false plan.now (option_map (λ l. l.now) last.entry)
-        result.core }
+        result.0.core }
 {
     is_sound_behind(last);
     is_live_behind(rt, limits, last);

@@ -62,7 +62,7 @@ pub fn assert_transcript<R: Abort + AllocGlobal>(
     want: &str,
     label: &str,
 )
-    ensures { room_of journal.new.core ≡ room_of journal.old.core }
+    ensures { room_of journal.new.0.core ≡ room_of journal.old.0.core }
 {
     let seen = replayed(rt, journal, want);
     assert_eq!(rt; seen.as_str(), want, "{label}");
@@ -70,7 +70,7 @@ pub fn assert_transcript<R: Abort + AllocGlobal>(
 
 /// Lets the events of a transcript happen: what they are answered, as a transcript.
 fn replayed<R: Abort + AllocGlobal>(rt: &R, journal: &mut Journal, lines: &str) -> String
-    ensures { room_of journal.new.core ≡ room_of journal.old.core }
+    ensures { room_of journal.new.0.core ≡ room_of journal.old.0.core }
 {
     let mut text = String::new(rt.alloc());
     for line in lines.lines() {
@@ -93,7 +93,7 @@ fn enter<R: Abort + AllocGlobal>(
     numbers: &[u32],
     text: &mut String,
 )
-    ensures { room_of journal.new.core ≡ room_of journal.old.core }
+    ensures { room_of journal.new.0.core ≡ room_of journal.old.0.core }
 {
     let exec = at(numbers, 0);
     let event = event_of(line, numbers);

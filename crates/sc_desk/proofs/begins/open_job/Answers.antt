@@ -8,7 +8,7 @@ use Rattle.sc_desk.proofs.begins.open_job.Goals as goal
 pub returns-clause-sound : goal.returns-clause-sound
 returns-clause-sound g c =
     fresh_sound g.W.Naming.work
-    (begun_desk c.in_ok-job.job c.in_ok-begun.begun.journal c.in_ok-begun.begun.results.items
+    (begun_desk c.in_ok-job.job c.in_ok-begun.begun.journal.0 c.in_ok-begun.begun.results.items
     (passed_data c.plan.new.carried c.passed.inside.ordered))
     (option_map (λ l. l.now) c.args.last) c.is_job.ensures c.requires.fits
     c.in_ok-begun.ensures.sound c.in_ok-begun.ensures.fresh c.in_ok-begun.ensures.results

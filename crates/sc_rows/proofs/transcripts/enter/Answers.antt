@@ -3,5 +3,5 @@ use Rattle.sc_rows.proofs.transcripts.enter.Goals as goal
 
 pub returns : goal.returns
 returns g c =
-    entered_room c.enter.result c.args.journal.now c.enter.new.self c.event_of-event.result
+    entered_room c.enter.result c.args.journal.now.0 c.enter.new.self.0 c.event_of-event.result
     c.enter.ensures.step c.enter.ensures.unchanged

@@ -12,13 +12,13 @@ pub returns-clause-whole : goal.returns-clause-whole
 returns-clause-whole g c =
     rw (← c.self.view_is)
     (all_there done_jobs_are_whole g.W.Naming.work
-    (desk_data c.self.inside.job c.self.inside.carried c.self.inside.journal
+    (desk_data c.self.inside.job c.self.inside.carried c.self.inside.journal.0
     c.self.inside.results.items c.self.inside.shelf.items c.self.inside.ordered) c.self.invariant
     (subst IsSoundCore c.core.ensures c.is_sound.ensures))
 
 pub returns-clause-evidence : goal.returns-clause-evidence
 returns-clause-evidence g c =
-    let j = c.self.inside.journal in
+    let j = c.self.inside.journal.0 in
     evident_as g.W.Naming.work c.self.inside.job j.opening c.close-history.result.opening j.core
     c.close-history.result.end j.entries c.close-history.result.entries.items
     c.close-history.ensures.opening c.close-history.ensures.entries c.close-history.ensures.end

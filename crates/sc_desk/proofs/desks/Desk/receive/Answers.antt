@@ -12,9 +12,9 @@ use Rattle.sc_desk.proofs.desks.Desk.receive.Goals as goal
 
 pub settle-requires-clause-few : goal.settle-requires-clause-few
 settle-requires-clause-few g c =
-    let d = desk_data c.self.inside.job c.self.inside.carried c.self.inside.journal
+    let d = desk_data c.self.inside.job c.self.inside.carried c.self.inside.journal.0
     c.self.inside.results.items c.self.inside.shelf.items c.self.inside.ordered in
-    let after = desk_data c.self.inside.job c.self.inside.carried c.enter.new.self
+    let after = desk_data c.self.inside.job c.self.inside.carried c.enter.new.self.0
     c.self.inside.results.items c.self.inside.shelf.items c.self.inside.ordered in
     let posted = posted_by g.W.Naming.work d c.args.self.now after c.args.by c.args.report
     c.in-Ok.answer c.attempt-attempt.result c.outcome-outcome.result c.task.result.now
@@ -38,9 +38,9 @@ settle-requires-clause-few g c =
 
 pub settle-requires-clause-told : goal.settle-requires-clause-told
 settle-requires-clause-told g c finished =
-    let d = desk_data c.self.inside.job c.self.inside.carried c.self.inside.journal
+    let d = desk_data c.self.inside.job c.self.inside.carried c.self.inside.journal.0
     c.self.inside.results.items c.self.inside.shelf.items c.self.inside.ordered in
-    let after = desk_data c.self.inside.job c.self.inside.carried c.enter.new.self
+    let after = desk_data c.self.inside.job c.self.inside.carried c.enter.new.self.0
     c.self.inside.results.items c.self.inside.shelf.items c.self.inside.ordered in
     let posted = posted_by g.W.Naming.work d c.args.self.now after c.args.by c.args.report
     c.in-Ok.answer c.attempt-attempt.result c.outcome-outcome.result c.task.result.now
@@ -64,9 +64,9 @@ settle-requires-clause-told g c finished =
 
 pub invariant_of-self-in-Ok : goal.invariant_of-self-in-Ok
 invariant_of-self-in-Ok g c =
-    let d = desk_data c.self.inside.job c.self.inside.carried c.self.inside.journal
+    let d = desk_data c.self.inside.job c.self.inside.carried c.self.inside.journal.0
     c.self.inside.results.items c.self.inside.shelf.items c.self.inside.ordered in
-    let after = desk_data c.self.inside.job c.self.inside.carried c.enter.new.self
+    let after = desk_data c.self.inside.job c.self.inside.carried c.enter.new.self.0
     c.settle.new.results.items c.settle.new.shelf.items c.self.inside.ordered in
     let posted = posted_by g.W.Naming.work d c.args.self.now after c.args.by c.args.report
     c.in-Ok.answer c.attempt-attempt.result c.outcome-outcome.result c.task.result.now
@@ -84,16 +84,16 @@ invariant_of-self-in-Ok g c =
     let shelf = subst (λ (x : CoreData). c.settle.new.shelf.items
     ≡ shelf_in x (with_more c.reserve.new.self.items c.args.report x.shelf))
     c.core-core.ensures c.settle.ensures.shelf
-    ∙ ap (λ ss. shelf_in c.enter.new.self.core
-    (with_more ss c.args.report c.enter.new.self.core.shelf)) c.reserve.ensures.items in
+    ∙ ap (λ ss. shelf_in c.enter.new.self.0.core
+    (with_more ss c.args.report c.enter.new.self.0.core.shelf)) c.reserve.ensures.items in
     posted_keeps g.W.Naming.work d after c.args.by c.args.report c.in-Ok.answer posted
     c.settle.ensures.results shelf
 
 pub returns-in-Ok-clause-posted : goal.returns-in-Ok-clause-posted
 returns-in-Ok-clause-posted g c =
-    let d = desk_data c.self.inside.job c.self.inside.carried c.self.inside.journal
+    let d = desk_data c.self.inside.job c.self.inside.carried c.self.inside.journal.0
     c.self.inside.results.items c.self.inside.shelf.items c.self.inside.ordered in
-    let after = desk_data c.self.inside.job c.self.inside.carried c.enter.new.self
+    let after = desk_data c.self.inside.job c.self.inside.carried c.enter.new.self.0
     c.settle.new.results.items c.settle.new.shelf.items c.self.inside.ordered in
     let posted = posted_by g.W.Naming.work d c.args.self.now after c.args.by c.args.report
     c.in-Ok.answer c.attempt-attempt.result c.outcome-outcome.result c.task.result.now
@@ -111,8 +111,8 @@ returns-in-Ok-clause-posted g c =
     let shelf = subst (λ (x : CoreData). c.settle.new.shelf.items
     ≡ shelf_in x (with_more c.reserve.new.self.items c.args.report x.shelf))
     c.core-core.ensures c.settle.ensures.shelf
-    ∙ ap (λ ss. shelf_in c.enter.new.self.core
-    (with_more ss c.args.report c.enter.new.self.core.shelf)) c.reserve.ensures.items in
+    ∙ ap (λ ss. shelf_in c.enter.new.self.0.core
+    (with_more ss c.args.report c.enter.new.self.0.core.shelf)) c.reserve.ensures.items in
     let receipt : Receipt =
     record { entry = length c.entries-entry.result.now; answer = c.in-Ok.answer } in
     subst (λ x. Receives g.W.Naming.work x c.args.by c.args.report receipt after) c.self.view_is
@@ -121,7 +121,7 @@ returns-in-Ok-clause-posted g c =
 
 pub returns-in-Err-Fault-clause-posted : goal.returns-in-Err-Fault-clause-posted
 returns-in-Err-Fault-clause-posted g c =
-    let d = desk_data c.self.inside.job c.self.inside.carried c.self.inside.journal
+    let d = desk_data c.self.inside.job c.self.inside.carried c.self.inside.journal.0
     c.self.inside.results.items c.self.inside.shelf.items c.self.inside.ordered in
     let off = subst (λ event. is_enabled (core_of d) event ≡ false)
     (ap₂ (λ x y. Post x y) c.attempt-attempt.ensures c.outcome-outcome.ensures)

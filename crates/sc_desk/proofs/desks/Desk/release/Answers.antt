@@ -11,16 +11,16 @@ take_off-requires g c =
     record {
       rising =
           desk_rises g.W.Naming.work
-          (desk_data c.self.inside.job c.self.inside.carried c.self.inside.journal
+          (desk_data c.self.inside.job c.self.inside.carried c.self.inside.journal.0
           c.self.inside.results.items c.self.inside.shelf.items c.self.inside.ordered)
           c.self.invariant (subst IsSoundCore c.core.ensures c.is_sound.ensures);
     }
 
 pub invariant_of-self : goal.invariant_of-self
 invariant_of-self g c =
-    let d = desk_data c.self.inside.job c.self.inside.carried c.self.inside.journal
+    let d = desk_data c.self.inside.job c.self.inside.carried c.self.inside.journal.0
     c.self.inside.results.items c.self.inside.shelf.items c.self.inside.ordered in
-    let after = desk_data c.self.inside.job c.self.inside.carried c.enter.new.self
+    let after = desk_data c.self.inside.job c.self.inside.carried c.enter.new.self.0
     c.keep_late.new.results.items c.clear_after_end.new.shelf.items c.self.inside.ordered in
     released_keeps g.W.Naming.work d after c.args.by c.args.key c.in-Ok.answer c.self.invariant
     (subst IsSoundCore c.core.ensures c.is_sound.ensures) c.is_replay.ensures
@@ -37,4 +37,4 @@ invariant_of-self g c =
     c.take_off.ensures.report)
     (subst (λ core. c.clear_after_end.new.shelf.items ≡ shelf_in core c.take_off.new.shelf.items)
     c.core-in-Ok.ensures c.clear_after_end.ensures
-    ∙ ap (λ ss. shelf_in c.enter.new.self.core ss) c.take_off.ensures.shelf)
+    ∙ ap (λ ss. shelf_in c.enter.new.self.0.core ss) c.take_off.ensures.shelf)

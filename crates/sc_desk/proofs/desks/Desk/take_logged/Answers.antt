@@ -10,19 +10,21 @@ use Rattle.sc_desk.proofs.desks.Desk.take_logged.Goals as goal
 
 pub told-requires : goal.told-requires
 told-requires g c =
-    let sound : IsSoundCore c.self.inside.journal.core =
+    let sound : IsSoundCore c.self.inside.journal.0.core =
     subst IsSoundCore c.core.ensures c.is_sound.ensures in
+    let before = c.self.inside.journal.0.core in
+    let after = c.enter_logged.new.self.0.core in
     rw c.in_ok-job.ensures
-    (givable c.self.inside.job c.self.inside.journal.core c.enter_logged.new.self.core c.args.exec
-    c.in-Ok.entered.answer c.self.invariant.stages
-    (steps_keep_sound c.self.inside.journal.core c.enter_logged.new.self.core (Take c.args.exec)
-    c.in-Ok.entered.answer sound c.in-Ok.ensures.step) c.in-Ok.ensures.step)
+    (givable c.self.inside.job before after c.args.exec c.in-Ok.entered.answer
+    c.self.invariant.stages
+    (steps_keep_sound before after (Take c.args.exec) c.in-Ok.entered.answer sound
+    c.in-Ok.ensures.step) c.in-Ok.ensures.step)
 
 pub invariant_of-self : goal.invariant_of-self
 invariant_of-self g c =
-    let d = desk_data c.self.inside.job c.self.inside.carried c.self.inside.journal
+    let d = desk_data c.self.inside.job c.self.inside.carried c.self.inside.journal.0
     c.self.inside.results.items c.self.inside.shelf.items c.self.inside.ordered in
-    let after = desk_data c.self.inside.job c.self.inside.carried c.enter_logged.new.self
+    let after = desk_data c.self.inside.job c.self.inside.carried c.enter_logged.new.self.0
     c.self.inside.results.items c.clear_after_end.new.shelf.items c.self.inside.ordered in
     taken_keeps g.W.Naming.work d after c.args.by c.args.exec c.in-Ok.entered.answer
     c.self.invariant (subst IsSoundCore c.core.ensures c.is_sound.ensures) c.is_replay.ensures
