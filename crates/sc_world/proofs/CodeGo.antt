@@ -1,5 +1,5 @@
 -- How one attempt goes on, in code.
-use Rattle.std.proofs.Common.{◌≡◌, ℕ, zero, suc, List, [], ◌∷◌, Option, Some, None, IfSome, IsSomeAnd, get_or, is_some, slice_get, refl, ap, sym, subst, ◌∙◌, rules}
+use Rattle.std.proofs.Common.{◌≡◌, ℕ, zero, suc, inr, List, [], ◌∷◌, Option, Some, None, IfSome, IsSomeAnd, get_or, is_some, slice_get, refl, ap, sym, subst, ◌∙◌, rules}
 use Rattle.sc_ids.specs.Graphs.{StageData}
 use Rattle.sc_ids.specs.declared.blocks.BlockId.{BlockId}
 use Rattle.sc_ids.specs.declared.blocks.Loc.{Loc}
@@ -9,12 +9,17 @@ use Rattle.sc_dag.specs.Submission.{is_map}
 use Rattle.sc_lineage.specs.ScriptData.{WorkData}
 use Rattle.sc_store.specs.StoreData.{StoreData}
 use Rattle.sc_net.specs.Tasks.{TaskData, block_left, block_left_by, block_of_task, is_map_stage, is_map_task, stage_of_task}
+use Rattle.sc_compute.specs.declared.caching.CachedPart.{CachedPart}
 use Rattle.sc_task.specs.Attempts.{AttemptData, assigned}
+use Rattle.sc_task.specs.States.{ComputedData}
+use Rattle.sc_task.specs.Steps.{Computes}
+use Rattle.sc_task.specs.declared.took.Did.{Did}
+use Rattle.sc_task.specs.declared.took.Did.TheVariants as dids
 use Rattle.sc_task.specs.Nexts.{next_of}
 use Rattle.sc_task.specs.declared.next.Next.{Next}
 use Rattle.sc_task.specs.declared.next.Next.TheVariants.{Complete, Fetch, Missing}
 use Rattle.sc_world.specs.Places.{AreInOrder, ComputesAt, FetchStands, FetchesTo, NextStands}
-use Rattle.sc_world.specs.Steps.{Makes, ReadsAt, ReadsNext, phase_of, phase_reading}
+use Rattle.sc_world.specs.Steps.{HasMade, Makes, ReadsAt, ReadsNext, phase_of, phase_reading}
 use Rattle.sc_world.specs.declared.places.AttemptState.TheVariants as phases
 use Rattle.sc_world.specs.Ties.{StandsAt, StandsIn}
 
@@ -97,3 +102,12 @@ computes_at work before t got next held computes makes =
       makes = makes;
       is = refl;
     }
+
+-- an attempt that has computed makes what it has
+pub computes_makes : {W : _} → (work : WorkData) (t s r : TaskData) (known : List CachedPart)
+    (did : Did W) (done : ComputedData) (next : AttemptData) → did ≡ dids.Computed done
+    → Computes work r known did → r ≡ t → s ≡ done.task → HasMade work s next → Makes work t next
+computes_makes work t s r known did done next is computes same kept made =
+    let d = subst (Computes work r known) is computes in
+    subst (λ u. Makes work u next) same
+    (inr (d.0, d.1, subst (λ u. HasMade work u next) (kept ∙ d.2) made))
