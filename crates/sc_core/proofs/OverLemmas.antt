@@ -1,5 +1,5 @@
 -- In a save who asks is over exactly where it doesn't come next.
-use Rattle.std.proofs.Common.{◌≡◌, ◌≢◌, ◌↔◌, ℕ, ◌<◌, ◌==◌, All, Bool, true, false, if◌then◌else◌, List, length, Option, Some, None, slice_get, refl, ap, sym, subst, ◌∙◌, rules, true≢false}
+use Rattle.std.proofs.Common.{◌≡◌, ◌≢◌, ◌↔◌, ℕ, ◌<◌, All, Bool, true, false, if◌then◌else◌, List, length, Option, Some, None, slice_get, refl, ap, sym, subst, ◌∙◌, rules, true≢false}
 use Rattle.sc_ids.specs.declared.attempts.AttemptId.{AttemptId}
 use Rattle.sc_ids.proofs.ChangeLemmas.{at_or_slice_get}
 use Rattle.sc_commit.specs.Committers.{committer_at}
@@ -14,14 +14,11 @@ use Rattle.sc_taskset.proofs.FindLemmas.{found_is, found_passes}
 use Rattle.sc_dag.specs.DagData.{DagData, stage_at}
 use Rattle.sc_dag.specs.Reports.{set_of}
 use Rattle.sc_dag.specs.Sound.{IsSoundDag, runner_among, runner_in, runner_of}
-use Rattle.sc_dag.proofs.Tests.{clash}
-use Rattle.sc_core.specs.CoreData.{CoreData, is_of, job_runs, result_stage, running_of}
+use Rattle.sc_core.specs.CoreData.{CoreData, is_of, job_runs, running_of}
 use Rattle.sc_core.specs.Laws.{AsksAreOver}
 use Rattle.sc_core.specs.Saving.{AsksBy, AsksIf, is_staged, saver_phase}
 use Rattle.sc_core.specs.Sound.{IsSoundCore, RunsWell}
-use Rattle.sc_core.specs.declared.answers.Answer.{Answer}
 use Rattle.sc_core.specs.declared.answers.Answer.TheVariants as says
-use Rattle.sc_core.specs.declared.answers.SideAnswer.{SideAnswer}
 use Rattle.sc_core.specs.declared.answers.SideAnswer.TheVariants as sides
 use Rattle.sc_core.specs.declared.running.Phase.TheVariants as phases
 use Rattle.sc_core.specs.declared.running.Running.{Running}
