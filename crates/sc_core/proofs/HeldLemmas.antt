@@ -1,5 +1,5 @@
 -- What each call that changes the stages of a job leaves of which partitions are held back.
-use Rattle.std.proofs.Common.{◌≡◌, ℕ, ◌==◌, Bool, true, false, if◌then◌else◌, List, Option, Some, None, option_map, slice_get, refl, ap, sym, subst, ◌∙◌, arith}
+use Rattle.std.proofs.Common.{◌≡◌, ℕ, ◌==◌, Bool, true, false, if◌then◌else◌, Option, Some, None, option_map, slice_get, refl, ap, sym, subst, ◌∙◌, arith}
 use Rattle.std.proofs.lemmas.Bool.Decides.{nat_tests}
 use Rattle.std.proofs.lemmas.Option.{slice_get-map}
 use Rattle.sc_ids.specs.Changes.{change_at}
@@ -18,7 +18,7 @@ use Rattle.sc_dag.specs.Losses.{after_lost, without_executor}
 use Rattle.sc_dag.specs.Offers.{handed_out}
 use Rattle.sc_dag.specs.Outputs.{has_inputs, held_in, is_complete}
 use Rattle.sc_dag.specs.Reports.{CompletesMap, FailsStage, after_failed, after_hold, after_map_success, after_result_success, completed, completed_if, ended_in_own, in_own_set, is_of_newest, is_repeat, succeeded_in_both, succeeded_in_own, told_held, with_failed, with_output, with_result}
-use Rattle.sc_dag.specs.Submission.{IsSubmitted, as_waiting, by_number, moved_if, started, waiting_stages}
+use Rattle.sc_dag.specs.Submission.{IsSubmitted, as_waiting, moved_if, started, waiting_stages}
 use Rattle.sc_dag.proofs.Items.{by_number_at}
 
 -- the same partitions of each stage are held back

@@ -8,11 +8,12 @@ use Rattle.sc_dag.proofs.ResultsGoOn.{result_successes_go_on}
 use Rattle.sc_dag.proofs.Settling.{submissions_settle}
 use Rattle.sc_dag.proofs.SoundCalls.{calls_keep_sound}
 use Rattle.sc_dag.proofs.Stuck.{nothing_is_stuck}
-use Rattle.sc_core.specs.Laws.{EventsAreAnswered, OpeningsAreSound, ReplaysAgree, ReplaysKeepSound, SideEventsStayAside, StepsAgree, StepsKeepSound, TaskLimitsAreReached, WaitsHaveCause}
+use Rattle.sc_core.specs.Laws.{AsksAreOver, EventsAreAnswered, OpeningsAreSound, ReplaysAgree, ReplaysKeepSound, SideEventsStayAside, StepsAgree, StepsKeepSound, TaskLimitsAreReached, WaitsHaveCause}
 use Rattle.sc_core.proofs.AbortLemmas.{task_limits_by}
 use Rattle.sc_core.proofs.AgreeLemmas.{replays_agree_by, steps_agree_by}
 use Rattle.sc_core.proofs.AnswerLemmas.{answered_by}
 use Rattle.sc_core.proofs.OpeningLemmas.{openings_by}
+use Rattle.sc_core.proofs.OverLemmas.{over_exactly}
 use Rattle.sc_core.proofs.SideLemmas.{aside_left, steps_aside}
 use Rattle.sc_core.proofs.StepLemmas.{replays_keep_by, steps_keep_by}
 use Rattle.sc_core.proofs.WaitLemmas.{waits_by}
@@ -42,6 +43,9 @@ replays_agree = replays_agree_by steps_keep_sound steps_agree
 
 pub task_limits_are_reached : TaskLimitsAreReached
 task_limits_are_reached = task_limits_by steps_keep_sound
+
+pub asks_are_over : AsksAreOver
+asks_are_over = over_exactly
 
 pub side_events_stay_aside : SideEventsStayAside
 side_events_stay_aside c after event answer step =

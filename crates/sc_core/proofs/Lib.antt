@@ -35,6 +35,7 @@ pub mod SaveTellLemmas
 pub mod SaveResultLemmas
 pub mod SaveStepLemmas
 pub mod SaveAsideLemmas
+pub mod OverLemmas
 pub mod TakeCases
 pub mod PlannedLemmas
 pub mod ToldLemmas

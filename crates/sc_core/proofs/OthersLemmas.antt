@@ -1,15 +1,13 @@
 -- An executor that waits does so for another one, or for a report that is to be told later.
-use Rattle.std.proofs.Common.{◌≡◌, ◌≢◌, inl, inr, ℕ, zero, suc, ◌<◌, ◌==◌, ◌&&◌, not, Bool, true, false, cond, List, [], ◌∷◌, length, Option, Some, None, find, option_map, slice_get, refl, ap, sym, subst, ◌∙◌, arith, rules, true≢false}
-use Rattle.std.specs.List.{All}
+use Rattle.std.proofs.Common.{◌≡◌, ◌≢◌, inl, inr, ℕ, zero, suc, ◌<◌, ◌==◌, not, Bool, true, false, cond, List, [], ◌∷◌, length, Option, Some, None, find, option_map, slice_get, refl, ap, sym, ◌∙◌, arith, rules, true≢false}
 use Rattle.std.proofs.lemmas.Bool.Decides.{nat_tests}
 use Rattle.sc_ids.specs.declared.attempts.AttemptId.{AttemptId}
 use Rattle.sc_taskset.proofs.FindLemmas.{found_is, found_passes}
 use Rattle.sc_dag.proofs.Tests.{both_left}
 use Rattle.sc_tracker.specs.Trust.{is_live, trust_at}
 use Rattle.sc_tracker.specs.declared.trust.Trust.{Trust}
-use Rattle.sc_core.specs.CoreData.{CoreData, held_by, is_out_on, out_or, shelved_first}
+use Rattle.sc_core.specs.CoreData.{is_out_on, out_or, shelved_first}
 use Rattle.sc_core.specs.Sound.{RunsWell, is_shelved}
-use Rattle.sc_core.specs.Takes.{is_lost}
 use Rattle.sc_core.specs.Waits.{IsForOthers, IsOutElsewhere, WaitsAreForOthers}
 use Rattle.sc_core.specs.declared.running.Running.{Running}
 use Rattle.sc_core.specs.declared.running.Shelved.{Shelved}

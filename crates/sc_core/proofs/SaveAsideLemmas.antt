@@ -1,18 +1,16 @@
 -- Who may commit, once an attempt of a save has staged its output, asked, or moved its output.
-use Rattle.std.proofs.Common.{◌≡◌, ◌≢◌, ◌⊎◌, inl, inr, ℕ, ◌<◌, ◌≤◌, ◌==◌, ◌&&◌, All, Bool, true, false, cond, if◌then◌else◌, List, [], ◌∷◌, map, Option, Some, None, find, get_or, is_some, length, option_map, slice_get, refl, ap, sym, subst, ◌∙◌, arith, rules, true≢false}
+use Rattle.std.proofs.Common.{◌≡◌, ◌≢◌, ◌⊎◌, inl, inr, ℕ, ◌<◌, ◌==◌, ◌&&◌, All, Bool, true, false, cond, if◌then◌else◌, List, [], ◌∷◌, map, Option, Some, None, find, is_some, length, option_map, slice_get, refl, ap, sym, subst, ◌∙◌, arith, rules, true≢false}
 use Rattle.std.proofs.lemmas.List.Elements.{All-map, All-weaker}
 use Rattle.std.proofs.lemmas.Option.{slice_get_within}
 use Rattle.sc_base.specs.Lists.{at_or}
-use Rattle.sc_ids.specs.Changes.{change_at}
 use Rattle.sc_ids.specs.Graphs.{StageData}
 use Rattle.sc_ids.specs.declared.attempts.AttemptId.{AttemptId}
 use Rattle.sc_ids.proofs.ChangeLemmas.{at_or_change_other, at_or_change_same, at_or_slice_get, length_change_at}
 use Rattle.sc_commit.specs.CommitLaws.{holder_of, winner_of}
 use Rattle.sc_commit.specs.Committers.{committer_at, holder_in, winner_in}
-use Rattle.sc_commit.specs.Committing.{after_ask, answer_to, asked, denies, holds, is_same, permitted, permitted_at}
+use Rattle.sc_commit.specs.Committing.{answer_to, asked, denies, holds, is_same, permitted, permitted_at}
 use Rattle.sc_commit.specs.declared.committers.Committer.{Committer}
 use Rattle.sc_commit.specs.declared.committers.Committer.TheVariants.{Holder, Nobody, Winner}
-use Rattle.sc_commit.specs.declared.committers.Permission.{Permission}
 use Rattle.sc_commit.specs.declared.committers.Permission.TheVariants as permissions
 use Rattle.sc_commit.proofs.CommitLemmas.{asked_sound, change_sound}
 use Rattle.sc_taskset.proofs.FindLemmas.{found_is, found_passes}
@@ -24,7 +22,7 @@ use Rattle.sc_core.specs.CoreData.{CoreData, is_of, job_runs, result_stage, runn
 use Rattle.sc_core.specs.Posts.{is_save}
 use Rattle.sc_core.specs.Saving.{AsksBy, AsksIf, MovesIf, StagesIf, as_far, asked as core_asked, come_to, held_back, is_given, is_granted, is_out_of, is_staged, may_save, moved_by, phase_out, saver_phase, staged_by}
 use Rattle.sc_core.specs.Sides.{LeavesIf, Sides, TicksIf}
-use Rattle.sc_core.specs.Sound.{AreTwo, IsAsFar, IsSoundJob, IsSoundSave, SavesWell, has_grant, was_given}
+use Rattle.sc_core.specs.Sound.{AreTwo, IsAsFar, IsSoundJob, IsSoundSave, SavesWell, has_grant}
 use Rattle.sc_core.specs.declared.answers.SideAnswer.{SideAnswer}
 use Rattle.sc_core.specs.declared.events.FileOutcome.{FileOutcome}
 use Rattle.sc_core.specs.declared.events.FileOutcome.TheVariants as files
@@ -33,11 +31,11 @@ use Rattle.sc_core.specs.declared.events.SideEvent.TheVariants.{Ask, Leave, Move
 use Rattle.sc_core.specs.declared.running.Phase.{Phase}
 use Rattle.sc_core.specs.declared.running.Phase.TheVariants as phases
 use Rattle.sc_core.specs.declared.running.Running.{Running}
-use Rattle.sc_core.proofs.GrantLemmas.{apart, committer_other, equal, holder_is, itself}
+use Rattle.sc_core.proofs.GrantLemmas.{apart, committer_other, equal, itself}
 use Rattle.sc_core.proofs.HeldLemmas.{hold_here, hold_other}
 use Rattle.sc_core.proofs.LeftLemmas.{same_saves}
 use Rattle.sc_core.proofs.LookupLemmas.{is_itself, same_is}
-use Rattle.sc_core.proofs.SaveLemmas.{Freed, HoldsAmong, SavesBut, done_same, result_same, saves_well, save_now, saves_now, saves_others, saves_stay}
+use Rattle.sc_core.proofs.SaveLemmas.{Freed, HoldsAmong, done_same, result_same, saves_well, save_now, saves_now, saves_others, saves_stay}
 use Rattle.sc_core.proofs.SaveTellLemmas.{calm_saves, stays_same}
 use Rattle.sc_core.proofs.ShelfLemmas.{find_mapped, found_alone}
 use Rattle.sc_core.proofs.PlaceLemmas.{clash as two_clash}

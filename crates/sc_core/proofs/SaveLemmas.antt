@@ -1,5 +1,5 @@
 -- Who may commit, while attempts end.
-use Rattle.std.proofs.Common.{◌≡◌, ◌≢◌, ℕ, zero, suc, ◌-◌, ◌==◌, ◌&&◌, ◌||◌, All, Bool, true, false, if◌then◌else◌, List, [], ◌∷◌, Option, Some, None, IfSome, find, is_some, length, slice_get, refl, ap, sym, subst, ◌∙◌, arith, rules, true≢false}
+use Rattle.std.proofs.Common.{◌≡◌, ◌≢◌, ℕ, zero, suc, ◌-◌, ◌==◌, ◌&&◌, ◌||◌, All, Bool, true, false, if◌then◌else◌, List, [], ◌∷◌, Option, Some, None, IfSome, find, is_some, length, slice_get, refl, ap, sym, subst, ◌∙◌, arith, true≢false}
 use Rattle.std.specs.List.{list_any}
 use Rattle.std.proofs.lemmas.List.Elements.{All-cons, All-head, All-tail, All-weaker}
 use Rattle.sc_base.specs.Lists.{at_or}
@@ -12,8 +12,7 @@ use Rattle.sc_ids.proofs.ChangeLemmas.{at_or_change_other, length_change_at}
 use Rattle.sc_commit.specs.CommitFacts.{IsSoundCommit}
 use Rattle.sc_commit.specs.CommitLaws.{holder_of, winner_of}
 use Rattle.sc_commit.specs.Committers.{committer_at}
-use Rattle.sc_commit.specs.Committing.{after_end, denies, ended, holds, is_same}
-use Rattle.sc_commit.specs.declared.committers.Committer.{Committer}
+use Rattle.sc_commit.specs.Committing.{denies, ended, holds, is_same}
 use Rattle.sc_commit.specs.declared.committers.Ending.{Ending}
 use Rattle.sc_commit.specs.declared.committers.Ending.TheVariants.{Failed}
 use Rattle.sc_commit.proofs.CommitLemmas.{change_sound, ended_sound}
@@ -23,11 +22,10 @@ use Rattle.sc_dag.specs.Outputs.{held_in, is_done, is_done_by, results_in}
 use Rattle.sc_dag.specs.Reports.{after_hold}
 use Rattle.sc_dag.specs.Submission.{is_map}
 use Rattle.sc_dag.proofs.Tests.{clash}
-use Rattle.sc_core.specs.CoreData.{CoreData, is_of, result_stage, running_of}
+use Rattle.sc_core.specs.CoreData.{CoreData, is_of, result_stage}
 use Rattle.sc_core.specs.Posts.{is_save}
 use Rattle.sc_core.specs.Sound.{HasWon, HoldsWell, IsAsFar, IsSoundSave, SavesWell, has_grant, is_denied_in, was_given}
 use Rattle.sc_core.specs.Tells.{released}
-use Rattle.sc_core.specs.declared.running.Phase.{Phase}
 use Rattle.sc_core.specs.declared.running.Running.{Running}
 use Rattle.sc_core.proofs.GrantLemmas.{apart, denies_ended, equal, failed_winners, holder_ended, holder_is, holds_beside, holds_is, is_holds, itself}
 use Rattle.sc_core.proofs.HeldLemmas.{SameHeld, hold_here, hold_other}

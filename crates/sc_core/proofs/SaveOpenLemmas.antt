@@ -1,21 +1,19 @@
 -- Nobody may commit yet as a job begins.
-use Rattle.std.proofs.Common.{◌≡◌, ℕ, zero, suc, ◌+◌, ◌-◌, ◌==◌, ◌&&◌, All, Bool, true, false, if◌then◌else◌, List, [], ◌∷◌, Option, Some, None, IfSome, is_some, length, replicate, slice_get, refl, ap, sym, subst, ◌∙◌, arith, true≢false}
+use Rattle.std.proofs.Common.{◌≡◌, ℕ, zero, suc, ◌+◌, ◌==◌, ◌&&◌, All, Bool, true, false, if◌then◌else◌, List, [], ◌∷◌, Option, IfSome, is_some, length, replicate, slice_get, refl, ap, sym, subst, ◌∙◌, arith, true≢false}
 use Rattle.sc_base.specs.Lists.{at_or}
 use Rattle.sc_ids.specs.Graphs.{StageData}
 use Rattle.sc_commit.specs.CommitFacts.{IsSoundCommitter}
-use Rattle.sc_commit.specs.CommitLaws.{holder_of, winner_of}
 use Rattle.sc_commit.specs.Committers.{committer_at, holder_in, winner_in}
 use Rattle.sc_commit.specs.Committing.{denies}
-use Rattle.sc_commit.specs.declared.committers.Committer.{Committer}
 use Rattle.sc_commit.specs.declared.committers.Committer.TheVariants.{Nobody}
-use Rattle.sc_dag.specs.DagData.{DagData, no_stage, stage_at}
+use Rattle.sc_dag.specs.DagData.{DagData, stage_at}
 use Rattle.sc_dag.specs.Openings.{blank_states}
 use Rattle.sc_dag.specs.Outputs.{held_in, is_done, results_in}
 use Rattle.sc_dag.specs.Submission.{IsSubmitted, is_map}
 use Rattle.sc_core.specs.CoreData.{CoreData, result_stage}
 use Rattle.sc_core.specs.Openings.{committers_for}
 use Rattle.sc_core.specs.Posts.{is_save}
-use Rattle.sc_core.specs.Sound.{HasWon, HoldsWell, IsSoundSave, SavesWell, is_denied_in}
+use Rattle.sc_core.specs.Sound.{HasWon, HoldsWell, IsSoundSave, SavesWell}
 use Rattle.sc_core.proofs.HeldLemmas.{submitted_held}
 use Rattle.sc_core.proofs.SaveResultLemmas.{done_at}
 use Rattle.sc_core.proofs.StageCallLemmas.{submitted_results}

@@ -8,48 +8,44 @@ use Rattle.sc_ids.specs.Graphs.{StageData}
 use Rattle.sc_ids.specs.declared.attempts.AttemptId.{AttemptId}
 use Rattle.sc_ids.specs.declared.blocks.Target.{Target}
 use Rattle.sc_ids.specs.declared.blocks.Target.TheVariants as targets
-use Rattle.sc_ids.proofs.ChangeLemmas.{at_or_change_other, at_or_change_same, length_change_at, slice_get_change_other, slice_get_change_same}
+use Rattle.sc_ids.proofs.ChangeLemmas.{at_or_change_other, at_or_change_same, length_change_at, slice_get_change_same}
 use Rattle.sc_commit.specs.CommitLaws.{holder_of, winner_of}
 use Rattle.sc_commit.specs.Committers.{committer_at, winner_in}
-use Rattle.sc_commit.specs.Committing.{after_end, after_holder, denies, ended, holds, is_same}
+use Rattle.sc_commit.specs.Committing.{after_end, denies, ended, holds, is_same}
 use Rattle.sc_commit.specs.declared.committers.Committer.{Committer}
 use Rattle.sc_commit.specs.declared.committers.Committer.TheVariants.{Holder, Nobody, Winner}
 use Rattle.sc_commit.specs.declared.committers.Ending.TheVariants.{Succeeded}
 use Rattle.sc_commit.proofs.CommitLemmas.{change_sound, ended_sound}
 use Rattle.sc_commit.proofs.LawLemmas.{winners_held}
-use Rattle.sc_tracker.specs.TrackerData.{TrackerData}
-use Rattle.sc_dag.specs.DagData.{DagData, StageState, attempt_in, newest_at, newest_set, no_stage, set_in, stage_at, with_state}
+use Rattle.sc_dag.specs.DagData.{DagData, StageState, newest_at, no_stage, set_in, stage_at, with_state}
 use Rattle.sc_dag.specs.Laws.{CallsKeepSound, OthersGoOn}
-use Rattle.sc_dag.specs.Outputs.{held_in, is_complete, is_done, is_done_by, results_in}
-use Rattle.sc_dag.specs.Reports.{after_hold, after_result_success, completed, completed_if, ended_in_own, is_repeat, result_success_of, set_of, succeeded_in_both, wants_in, with_result}
+use Rattle.sc_dag.specs.Outputs.{is_complete, is_done, is_done_by, results_in}
+use Rattle.sc_dag.specs.Reports.{after_result_success, completed, is_repeat, result_success_of, succeeded_in_both, wants_in, with_result}
 use Rattle.sc_dag.specs.Sound.{IsSoundDag, runner_in, runner_of}
 use Rattle.sc_dag.specs.Submission.{is_map}
 use Rattle.sc_dag.specs.declared.attempts.StageAttempt.{StageAttempt}
 use Rattle.sc_dag.specs.declared.reports.Success.{Success}
 use Rattle.sc_dag.specs.declared.reports.Success.TheVariants as successes
 use Rattle.sc_dag.proofs.Moving.{newest_among}
-use Rattle.sc_dag.proofs.Tests.{both_left, both_right, clash, not_false, not_true}
-use Rattle.sc_taskset.specs.TaskSetData.{TaskSetData}
-use Rattle.sc_core.specs.CoreData.{CoreData, ended as over, is_of, is_running_job, job_runs, result_stage, running_of, taken_off, with_dag}
+use Rattle.sc_dag.proofs.Tests.{both_left, both_right, clash, not_true}
+use Rattle.sc_core.specs.CoreData.{CoreData, is_of, job_runs, result_stage, taken_off}
 use Rattle.sc_core.specs.Posts.{fits, has_moved, is_save}
 use Rattle.sc_core.specs.Sound.{IsAsFar, IsSoundJob, IsSoundSave, RunsWell, SavesWell, has_grant, was_given}
 use Rattle.sc_core.specs.Tells.{TellsResult, after_result, done_if, released, with_result_of}
 use Rattle.sc_core.specs.declared.answers.Answer.{Answer}
-use Rattle.sc_core.specs.declared.answers.JobState.TheVariants as jobs
 use Rattle.sc_core.specs.declared.events.Outcome.TheVariants as outcomes
 use Rattle.sc_core.specs.declared.running.Phase.{Phase}
 use Rattle.sc_core.specs.declared.running.Phase.TheVariants as phases
 use Rattle.sc_core.specs.declared.running.Running.{Running}
-use Rattle.sc_core.proofs.GrantLemmas.{apart, committer_here, committer_other, denies_ended, equal, holder_ended, holder_is, holds_beside, holds_is, itself}
-use Rattle.sc_core.proofs.HeldLemmas.{SameHeld, held_then, result_held}
-use Rattle.sc_core.proofs.LeftLemmas.{same_saves, tells_left}
-use Rattle.sc_core.proofs.LookupLemmas.{is_itself, set_among}
-use Rattle.sc_core.proofs.MoveLemmas.{SameResults}
+use Rattle.sc_core.proofs.GrantLemmas.{apart, committer_here, committer_other, denies_ended, equal, holder_ended, holds_beside, holds_is}
+use Rattle.sc_core.proofs.HeldLemmas.{result_held}
+use Rattle.sc_core.proofs.LeftLemmas.{same_saves}
+use Rattle.sc_core.proofs.LookupLemmas.{set_among}
 use Rattle.sc_core.proofs.ResultLemmas.{Frees, frees, runs_results}
-use Rattle.sc_core.proofs.SaveLemmas.{Freed, HasWonBeside, SavesBut, Stays, done_same, freed, freed_flags, result_same, save_now, saves_now, saves_stay, saves_well, saves_without}
+use Rattle.sc_core.proofs.SaveLemmas.{Freed, HasWonBeside, SavesBut, Stays, done_same, freed, freed_flags, result_same, save_now, saves_stay, saves_well, saves_without}
 use Rattle.sc_core.proofs.SaveTellLemmas.{ended_saves, others_differ, rest_of, stays_same, stays_then}
 use Rattle.sc_core.proofs.ShelfLemmas.{runs_given}
-use Rattle.sc_core.proofs.TaskCallLemmas.{both_results, ended_results, result_moves}
+use Rattle.sc_core.proofs.TaskCallLemmas.{both_results, result_moves}
 
 -- ---- results
 

@@ -1,19 +1,17 @@
 -- Who may commit, once a task was handed out, a report is to be told later, or an executor is lost.
-use Rattle.std.proofs.Common.{◌≡◌, ◌≢◌, ℕ, ◌==◌, ◌||◌, not, All, Bool, true, false, cond, if◌then◌else◌, length, ◌-◌, List, [], ◌∷◌, ◌++◌, map, Option, Some, None, find, option_map, refl, ap, sym, subst, ◌∙◌, arith, rules, true≢false}
+use Rattle.std.proofs.Common.{◌≡◌, ◌≢◌, ℕ, ◌==◌, not, All, Bool, true, false, cond, if◌then◌else◌, length, ◌-◌, List, [], ◌∷◌, ◌++◌, map, Option, Some, None, find, option_map, refl, ap, sym, subst, ◌∙◌, arith, rules}
 use Rattle.std.specs.List.{filter, list_any}
 use Rattle.std.specs.Option.{option_or}
-use Rattle.std.proofs.lemmas.Bool.Decides.{nat_tests}
 use Rattle.std.proofs.lemmas.List.Elements.{All-cons, All-filter, All-head, All-map, All-push, All-tail, All-weaker}
 use Rattle.std.proofs.lemmas.List.Folds.{find-append}
 use Rattle.sc_base.specs.Lists.{at_or}
 use Rattle.sc_ids.specs.Graphs.{StageData}
 use Rattle.sc_ids.specs.declared.attempts.AttemptId.{AttemptId}
-use Rattle.sc_commit.specs.CommitLaws.{holder_of}
 use Rattle.sc_commit.specs.Committers.{committer_at}
 use Rattle.sc_commit.specs.Committing.{is_same}
 use Rattle.sc_commit.specs.declared.committers.Ending.TheVariants as endings
 use Rattle.sc_taskset.proofs.FindLemmas.{found_is, found_passes}
-use Rattle.sc_dag.specs.DagData.{DagData, no_stage, stage_at}
+use Rattle.sc_dag.specs.DagData.{no_stage, stage_at}
 use Rattle.sc_dag.specs.Losses.{after_lost}
 use Rattle.sc_dag.specs.Offers.{handed_out}
 use Rattle.sc_dag.specs.Sound.{runner_of}
@@ -26,15 +24,14 @@ use Rattle.sc_core.specs.Sound.{IsSoundJob, IsSoundSave, RunsWell, SavesWell, ha
 use Rattle.sc_core.specs.Takes.{IsAsking, IsHandOut, running_on, with_task}
 use Rattle.sc_core.specs.Tells.{released}
 use Rattle.sc_core.specs.declared.events.Outcome.{Outcome}
-use Rattle.sc_core.specs.declared.running.Phase.TheVariants as phases
 use Rattle.sc_core.specs.declared.running.Running.{Running}
 use Rattle.sc_core.proofs.GrantLemmas.{holds_is}
 use Rattle.sc_core.proofs.HeldLemmas.{handed_held, lost_held}
-use Rattle.sc_core.proofs.LookupLemmas.{is_itself, same_is}
+use Rattle.sc_core.proofs.LookupLemmas.{same_is}
 use Rattle.sc_core.proofs.LossLemmas.{lost_loses, lost_results}
 use Rattle.sc_core.proofs.MoveLemmas.{Moves, state_results}
 use Rattle.sc_core.proofs.OfferLemmas.{IsOffered, handed_out_moves, offered, offered_new}
-use Rattle.sc_core.proofs.SaveLemmas.{SavesBut, Stays, freed, is_among, save_now, saves_now, saves_others, saves_released, saves_stay}
+use Rattle.sc_core.proofs.SaveLemmas.{SavesBut, freed, is_among, save_now, saves_now, saves_others, saves_released, saves_stay}
 use Rattle.sc_core.proofs.SaveTellLemmas.{none_left, stays_same}
 use Rattle.sc_core.proofs.ShelfLemmas.{all_left, find_in, offered_fresh}
 

@@ -1,7 +1,7 @@
 -- Who may commit, once a report of a running attempt was told that wins no result.
-use Rattle.std.proofs.Common.{◌≡◌, ◌≢◌, ℕ, ◌==◌, ◌&&◌, ◌||◌, not, All, Bool, true, false, cond, List, [], ◌∷◌, Option, Some, None, find, get_or, length, ◌-◌, slice_get, refl, ap, sym, subst, ◌∙◌, arith, rules, true≢false}
+use Rattle.std.proofs.Common.{◌≡◌, ◌≢◌, ℕ, ◌&&◌, ◌||◌, not, All, Bool, true, false, cond, List, [], ◌∷◌, Some, None, find, get_or, length, ◌-◌, slice_get, refl, ap, sym, subst, ◌∙◌, rules}
 use Rattle.std.specs.List.{filter}
-use Rattle.std.proofs.lemmas.List.Elements.{All-filter, All-weaker}
+use Rattle.std.proofs.lemmas.List.Elements.{All-filter}
 use Rattle.sc_base.specs.Lists.{at_or}
 use Rattle.sc_ids.specs.Graphs.{StageData}
 use Rattle.sc_ids.specs.declared.attempts.AttemptId.{AttemptId}
@@ -9,7 +9,7 @@ use Rattle.sc_ids.specs.declared.blocks.Loc.{Loc}
 use Rattle.sc_ids.specs.declared.failures.FailureCause.{FailureCause}
 use Rattle.sc_ids.specs.declared.failures.FailureCause.TheVariants as causes
 use Rattle.sc_commit.specs.Committers.{committer_at}
-use Rattle.sc_commit.specs.Committing.{holds, is_same}
+use Rattle.sc_commit.specs.Committing.{is_same}
 use Rattle.sc_commit.specs.declared.committers.Ending.TheVariants as endings
 use Rattle.sc_taskset.specs.declared.tasks.Verdict.{Verdict}
 use Rattle.sc_taskset.specs.declared.tasks.Verdict.TheVariants as verdicts
@@ -22,17 +22,17 @@ use Rattle.sc_dag.specs.Submission.{is_map, this_stage}
 use Rattle.sc_dag.specs.declared.reports.Success.{Success}
 use Rattle.sc_dag.specs.declared.reports.Success.TheVariants as successes
 use Rattle.sc_dag.proofs.Tests.{both_left, clash}
-use Rattle.sc_core.specs.CoreData.{CoreData, ended, is_of, result_stage, running_of, taken_off, with_dag}
+use Rattle.sc_core.specs.CoreData.{CoreData, ended, is_of, result_stage, taken_off, with_dag}
 use Rattle.sc_core.specs.Posts.{fits, is_save}
-use Rattle.sc_core.specs.Sound.{IsSoundJob, IsSoundSave, SavesWell, has_grant, was_given}
-use Rattle.sc_core.specs.Tells.{FailsBy, FailsOrAborts, FollowsUp, IsGone, LooksAgain, Misses, MissesIf, TellsFailure, TellsFailureIf, TellsMap, after_failure, is_zombie_in, limit_of, released}
+use Rattle.sc_core.specs.Sound.{IsSoundJob, IsSoundSave, SavesWell, has_grant}
+use Rattle.sc_core.specs.Tells.{FailsBy, FailsOrAborts, FollowsUp, IsGone, LooksAgain, Misses, MissesIf, TellsFailure, TellsFailureIf, TellsMap, after_failure, is_zombie_in}
 use Rattle.sc_core.specs.declared.answers.Answer.{Answer}
 use Rattle.sc_core.specs.declared.answers.JobState.{JobState}
 use Rattle.sc_core.specs.declared.events.Outcome.TheVariants as outcomes
 use Rattle.sc_core.specs.declared.running.Running.{Running}
 use Rattle.sc_core.proofs.GrantLemmas.{holds_is}
 use Rattle.sc_core.proofs.HeldLemmas.{SameHeld, completes_held, failed_held, fails_held, held_then, map_held, submitted_held}
-use Rattle.sc_core.proofs.LeftLemmas.{Left, cause_left, tells_left}
+use Rattle.sc_core.proofs.LeftLemmas.{tells_left}
 use Rattle.sc_core.proofs.MoveLemmas.{Calm, SameResults, results_then}
 use Rattle.sc_core.proofs.RunningLemmas.{found_beside, same_sym}
 use Rattle.sc_core.proofs.SaveLemmas.{SavesBut, Stays, freed, save_now, saves_now, saves_others, saves_released, saves_stay, saves_without}

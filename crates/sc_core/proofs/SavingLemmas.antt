@@ -1,12 +1,12 @@
 -- Attempts that ask whether they may commit.
-use Rattle.std.proofs.Common.{◌≡◌, ℕ, ◌<◌, ◌≤◌, Bool, true, false, if◌then◌else◌, List, Option, Some, None, length, get_or, slice_get, refl, rules, ◌⊎◌, inl, inr}
+use Rattle.std.proofs.Common.{◌≡◌, ◌<◌, ◌≤◌, Bool, true, false, if◌then◌else◌, List, Some, None, length, get_or, slice_get, rules, ◌⊎◌, inl, inr}
 use Rattle.std.proofs.lemmas.Option.{slice_get_cases}
 use Rattle.sc_ids.specs.declared.attempts.AttemptId.{AttemptId}
 use Rattle.sc_ids.proofs.ChangeLemmas.{change_at_past}
 use Rattle.sc_commit.specs.declared.committers.Committer.{Committer}
 use Rattle.sc_commit.specs.declared.committers.Committer.TheVariants.{Nobody, Holder, Winner}
 use Rattle.sc_commit.specs.declared.committers.Permission.TheVariants.{Granted, Denied, Over}
-use Rattle.sc_commit.specs.Committing.{after_ask, answer_to, asked, is_same, permitted, permitted_at}
+use Rattle.sc_commit.specs.Committing.{after_ask, answer_to, asked, is_same, permitted}
 
 -- where there is no place for an attempt, its asking changes nothing
 pub asks_past : (committers : List Committer) (a : AttemptId)

@@ -1,17 +1,15 @@
 -- What happens beside the reports is always answered, in one way.
-use Rattle.std.proofs.Common.{◌≡◌, ℕ, Bool, true, false, refl, ap, sym, ◌∙◌}
+use Rattle.std.proofs.Common.{◌≡◌, Bool, true, false, refl, ap, sym, ◌∙◌}
 use Rattle.sc_commit.specs.Committing.{answer_to}
 use Rattle.sc_commit.specs.declared.committers.Permission.{Permission}
 use Rattle.sc_commit.specs.declared.committers.Permission.TheVariants as permissions
-use Rattle.sc_ids.specs.declared.attempts.AttemptId.{AttemptId}
-use Rattle.sc_core.specs.CoreData.{CoreData, is_running_job, job_runs}
+use Rattle.sc_core.specs.CoreData.{CoreData, job_runs}
 use Rattle.sc_core.specs.Saving.{AsksBy, AsksIf, MovesIf, StagesIf, asked, come_to, held_back, is_given, is_granted, is_staged, move_answer, moved_by, saver_phase, stage_answer, staged_by}
 use Rattle.sc_core.specs.Sides.{LeavesIf, Sides, StepsAside, TicksIf, with_leaver, with_tick}
 use Rattle.sc_core.specs.declared.answers.Answer.{Answer}
 use Rattle.sc_core.specs.declared.answers.Answer.TheVariants as says
 use Rattle.sc_core.specs.declared.answers.SideAnswer.{SideAnswer}
 use Rattle.sc_core.specs.declared.answers.SideAnswer.TheVariants as sides
-use Rattle.sc_core.specs.declared.events.FileOutcome.{FileOutcome}
 use Rattle.sc_core.specs.declared.events.SideEvent.{SideEvent}
 use Rattle.sc_core.specs.declared.events.SideEvent.TheVariants.{Ask, Leave, Move, Stage, Tick}
 use Rattle.sc_core.specs.declared.running.Phase.TheVariants as phases

@@ -8,13 +8,11 @@ use Rattle.std.proofs.lemmas.List.Folds.{find-append}
 use Rattle.std.proofs.lemmas.List.Quantifiers.{all_pairs_push}
 use Rattle.sc_ids.specs.declared.attempts.AttemptId.{AttemptId}
 use Rattle.sc_commit.specs.Committing.{is_same}
-use Rattle.sc_taskset.specs.Lookups.{copy_at}
-use Rattle.sc_taskset.specs.declared.tasks.RunningCopy as taskset
 use Rattle.sc_dag.specs.DagData.{DagData}
 use Rattle.sc_dag.specs.Laws.{CallsKeepSound, OthersGoOn}
-use Rattle.sc_dag.specs.Offers.{handed_out, newest_number}
+use Rattle.sc_dag.specs.Offers.{handed_out}
 use Rattle.sc_dag.specs.Outputs.{is_complete}
-use Rattle.sc_dag.specs.Sound.{runner_among, runner_in, runner_of}
+use Rattle.sc_dag.specs.Sound.{runner_of}
 use Rattle.sc_dag.proofs.Tests.{clash, not_false}
 use Rattle.sc_core.specs.CoreData.{CoreData, ended, is_of, is_out_on, is_running_job, job_runs, result_stage, running_of}
 use Rattle.sc_core.specs.HandOuts.{HandOutData}
@@ -25,7 +23,7 @@ use Rattle.sc_core.specs.declared.answers.Abort.TheVariants as aborts
 use Rattle.sc_core.specs.declared.answers.Answer.{Answer}
 use Rattle.sc_core.specs.declared.answers.JobState.TheVariants as jobs
 use Rattle.sc_core.specs.declared.running.Running.{Running}
-use Rattle.sc_core.proofs.LookupLemmas.{is_itself, same_is, set_of_newest}
+use Rattle.sc_core.proofs.LookupLemmas.{is_itself, same_is}
 use Rattle.sc_core.proofs.MoveLemmas.{Moves, state_results}
 use Rattle.sc_core.proofs.OfferLemmas.{IsOffered, handed_out_moves, offered, offered_may, offered_new}
 use Rattle.sc_core.proofs.RunningLemmas.{none_passes, same_sym}

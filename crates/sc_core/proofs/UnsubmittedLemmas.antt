@@ -1,5 +1,5 @@
 -- The core of a job before its result stage is submitted.
-use Rattle.std.proofs.Common.{◌≡◌, ◌-◌, Bool, true, false, List, [], Option, length, replicate, refl, ap, sym, ◌∙◌}
+use Rattle.std.proofs.Common.{◌≡◌, ◌-◌, Bool, true, false, List, Option, length, replicate, refl, ap, sym, ◌∙◌}
 use Rattle.sc_base.specs.Lists.{at_or}
 use Rattle.sc_commit.specs.declared.committers.Committer.TheVariants.{Nobody}
 use Rattle.sc_ids.specs.Graphs.{StageData}

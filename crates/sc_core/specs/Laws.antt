@@ -1,5 +1,5 @@
 -- Laws of cores: what holds whatever happens to them.
-use Rattle.std.specs.Prelude.{ℕ, ◌+◌, ◌-◌, ◌*◌, ◌<◌, ◌≤◌, ◌≡◌, ◌≢◌, List, Bool, true, false, not, Option, Some, None, IfSome, filter, length}
+use Rattle.std.specs.Prelude.{ℕ, ◌+◌, ◌-◌, ◌*◌, ◌<◌, ◌≤◌, ◌≡◌, ◌≢◌, ◌↔◌, List, Bool, true, false, not, Option, Some, None, IfSome, filter, length}
 use Rattle.std.specs.List.{AllPairs}
 use Rattle.sc_dag.specs.DagData.{DagData, stage_at}
 use Rattle.sc_dag.specs.Offers.{HasNone}
@@ -7,6 +7,7 @@ use Rattle.sc_dag.specs.Openings.{FitsJob, IsJob}
 use Rattle.sc_dag.specs.Outputs.{is_done}
 use Rattle.sc_dag.specs.Reports.{has_failed_often, set_of}
 use Rattle.sc_ids.specs.Graphs.{StageData}
+use Rattle.sc_ids.specs.declared.attempts.AttemptId.{AttemptId}
 use Rattle.sc_ids.specs.declared.limits.Limits.{Limits}
 use Rattle.sc_plan.specs.declared.lines.PlanLine.{PlanLine}
 use Rattle.sc_plan.specs.declared.lines.PlanLine.TheVariants as lines
@@ -17,6 +18,7 @@ use Rattle.sc_tracker.specs.Trust.{are_lost}
 use Rattle.sc_core.specs.CoreData.{CoreData, job_runs, result_stage, running_of, under_way}
 use Rattle.sc_core.specs.Journals.{Replays}
 use Rattle.sc_core.specs.Openings.{IsOpening, tracker_behind}
+use Rattle.sc_core.specs.Saving.{is_staged, saver_phase}
 use Rattle.sc_core.specs.Sides.{IsAside}
 use Rattle.sc_core.specs.Sound.{HasLive, IsSoundCore}
 use Rattle.sc_core.specs.Steps.{Steps, is_enabled}
@@ -24,11 +26,13 @@ use Rattle.sc_core.specs.Takes.{IsAsking}
 use Rattle.sc_core.specs.declared.answers.Abort.TheVariants.{Budget, NoExecutor, StageLimit, TaskLimit}
 use Rattle.sc_core.specs.declared.answers.Answer.{Answer}
 use Rattle.sc_core.specs.declared.answers.Answer.TheVariants as says
+use Rattle.sc_core.specs.declared.answers.SideAnswer.TheVariants as sides
 use Rattle.sc_core.specs.declared.answers.JobState.TheVariants as jobs
 use Rattle.sc_core.specs.declared.entries.Entry.{Entry}
 use Rattle.sc_core.specs.declared.events.Event.{Event}
 use Rattle.sc_core.specs.declared.events.Event.TheVariants.{Post, Side, Take}
 use Rattle.sc_core.specs.declared.events.SideEvent.{SideEvent}
+use Rattle.sc_core.specs.declared.events.SideEvent.TheVariants.{Ask}
 use Rattle.sc_core.specs.declared.running.Running.{Running}
 
 -- an event has one answer in a state, and leaves one state
@@ -180,6 +184,13 @@ StepsAreSpent =
     (c after : CoreData) (event : Event) (answer : Answer) → IsSoundCore c
     → Steps c event answer after → spends_nothing c event answer ≡ false → job_runs after ≡ true
     → left_to_do after < left_to_do c
+
+-- an attempt of a save that asks whether it may commit is over exactly where it doesn't come next
+abbrev pub AsksAreOver : Type 0
+AsksAreOver =
+    (c after : CoreData) (a : AttemptId) (answer : Answer) → IsSoundCore c
+    → Steps c (Side (Ask a)) answer after
+    → (answer ≡ says.Side sides.Over) ↔ (is_staged (saver_phase c a) ≡ false)
 
 -- What happens beside the reports changes nothing else, and leaves as much to do.
 abbrev pub SideEventsStayAside : Type 0

@@ -1,7 +1,7 @@
 //! Laws of cores, as functions that do nothing.
 #![tactic(auto)]
 
-ghost use Rattle.sc_core.specs.Laws.{DoneJobsAreWhole, EventsAreAnswered, FirstHasLive, NeverStuck, NoExecutorsAreLeft, OpeningsAreSound, ReplaysAgree, ReplaysKeepSound, SideEventsStayAside, StageLimitsAreReached, StepsAgree, StepsAreSpent, StepsKeepSound, TaskLimitsAreReached, WaitsHaveCause};
+ghost use Rattle.sc_core.specs.Laws.{AsksAreOver, DoneJobsAreWhole, EventsAreAnswered, FirstHasLive, NeverStuck, NoExecutorsAreLeft, OpeningsAreSound, ReplaysAgree, ReplaysKeepSound, SideEventsStayAside, StageLimitsAreReached, StepsAgree, StepsAreSpent, StepsKeepSound, TaskLimitsAreReached, WaitsHaveCause};
 ghost use Rattle.sc_core.specs.Openings.{OpeningsAreSubmissions};
 ghost use Rattle.sc_core.specs.Waits.{WaitsAreForOthers};
 
@@ -43,6 +43,11 @@ pub fn ends_are_as_told()
     ensures task_limit { TaskLimitsAreReached }
     ensures stage_limit { StageLimitsAreReached }
     ensures no_executor { NoExecutorsAreLeft }
+{}
+
+/// In a save who asks is over exactly where it doesn't come next. A call does nothing.
+pub fn asks_are_over()
+    ensures { AsksAreOver }
 {}
 
 /// What happens beside the reports changes none of what they rest on. A call does nothing.

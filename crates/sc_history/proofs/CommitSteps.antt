@@ -1,8 +1,7 @@
 -- What each event does to grants and to who has won.
-use Rattle.std.proofs.Common.{◌≡◌, ◌≢◌, ◌⊎◌, inl, inr, ℕ, ◌<◌, ◌≤◌, ◌==◌, ◌||◌, not, Bool, true, false, if◌then◌else◌, List, [], ◌∷◌, Option, Some, None, get_or, length, slice_get, refl, ap, sym, subst, ◌∙◌, arith, rules, true≢false}
+use Rattle.std.proofs.Common.{◌≡◌, ◌≢◌, ◌⊎◌, inl, inr, ℕ, ◌<◌, ◌≤◌, ◌==◌, ◌||◌, not, Bool, true, false, if◌then◌else◌, List, [], ◌∷◌, Some, None, get_or, length, slice_get, refl, ap, sym, subst, ◌∙◌, rules, true≢false}
 use Rattle.std.proofs.lemmas.Option.{slice_get_cases}
 use Rattle.sc_ids.specs.declared.attempts.AttemptId.{AttemptId}
-use Rattle.sc_ids.specs.declared.failures.FailureCause.{FailureCause}
 use Rattle.sc_ids.proofs.ChangeLemmas.{at_or_change_same, at_or_slice_get, change_at_past}
 use Rattle.sc_commit.specs.CommitFacts.{IsSoundCommit}
 use Rattle.sc_commit.specs.CommitLaws.{holder_of, winner_of}
@@ -21,13 +20,13 @@ use Rattle.sc_dag.specs.Reports.{is_repeat, reaches_limit_in, result_success_of,
 use Rattle.sc_dag.specs.Submission.{is_map}
 use Rattle.sc_dag.specs.declared.reports.Success.{Success}
 use Rattle.sc_dag.specs.declared.reports.Success.TheVariants as successes
-use Rattle.sc_dag.proofs.Tests.{both_left, both_right, clash}
+use Rattle.sc_dag.proofs.Tests.{both_right}
 use Rattle.sc_core.specs.CoreData.{CoreData, job_runs, running_of, with_dag}
 use Rattle.sc_core.specs.HandOuts.{HandOutData}
 use Rattle.sc_core.specs.Losses.{LosesOrAborts, all_released, attempts_on, without_executor}
 use Rattle.sc_core.specs.Posts.{fits, has_moved, is_save}
 use Rattle.sc_core.specs.Saving.{AsksBy, AsksIf, MovesIf, StagesIf, is_given, is_granted, is_staged, saver_phase}
-use Rattle.sc_core.specs.Sides.{LeavesIf, Sides, StepsAside, TicksIf}
+use Rattle.sc_core.specs.Sides.{LeavesIf, Sides, TicksIf}
 use Rattle.sc_core.specs.Sound.{IsSoundCore}
 use Rattle.sc_core.specs.Steps.{Steps}
 use Rattle.sc_core.specs.Tells.{Tells, TellsFailureIf, TellsResult, after_failure, after_result, done_if, is_zombie_in, released, success_answer, with_result_of}

@@ -1,30 +1,25 @@
 -- Who holds a grant was granted it, and who has won was committed.
-use Rattle.std.proofs.Common.{◌≡◌, ◌≢◌, ◌⊎◌, inl, inr, ℕ, Bool, true, false, List, [], ◌∷◌, ◌++◌, All, map, Option, Some, None, if◌then◌else◌, ◌&&◌, append-nil, append_assoc, refl, ap, sym, subst, ◌∙◌, arith, rules, true≢false}
+use Rattle.std.proofs.Common.{◌≡◌, ◌≢◌, ◌⊎◌, inl, inr, ℕ, Bool, true, false, List, [], ◌∷◌, ◌++◌, All, map, Some, if◌then◌else◌, append-nil, append_assoc, refl, ap, sym, subst, ◌∙◌, rules}
 use Rattle.std.proofs.lemmas.List.Elements.{All-map, All-nil, All-weaker}
 use Rattle.sc_ids.specs.declared.attempts.AttemptId.{AttemptId}
-use Rattle.sc_commit.specs.CommitFacts.{IsSoundCommit}
 use Rattle.sc_commit.specs.CommitLaws.{holder_of, winner_of}
 use Rattle.sc_commit.specs.Committers.{committer_at, holder_in, winner_in}
-use Rattle.sc_commit.specs.Committing.{answer_to, holds}
+use Rattle.sc_commit.specs.Committing.{answer_to}
 use Rattle.sc_commit.specs.declared.committers.Committer.TheVariants.{Nobody}
 use Rattle.sc_commit.specs.declared.committers.Permission.{Permission}
 use Rattle.sc_commit.specs.declared.committers.Permission.TheVariants as permissions
 use Rattle.sc_taskset.proofs.FindLemmas.{found_is, found_passes}
 use Rattle.sc_dag.proofs.Tests.{both_left, clash}
-use Rattle.sc_core.specs.CoreData.{CoreData, is_of, job_runs, running_of}
+use Rattle.sc_core.specs.CoreData.{CoreData, is_of, job_runs}
 use Rattle.sc_core.specs.HandOuts.{HandOutData}
 use Rattle.sc_core.specs.Journals.{Replays}
-use Rattle.sc_core.specs.Openings.{IsOpening}
 use Rattle.sc_core.specs.Saving.{AsksBy, AsksIf, MovesIf, StagesIf, as_far, is_given, is_granted, is_out_of, is_staged, move_answer, moved_by, saver_phase, staged_by}
 use Rattle.sc_core.specs.Sides.{LeavesIf, Sides, StepsAside, TicksIf}
 use Rattle.sc_core.specs.Sound.{IsAsFar, IsSoundCore, IsSoundSave, SavesWell, has_grant}
 use Rattle.sc_core.specs.Steps.{Steps}
-use Rattle.sc_core.specs.declared.answers.Answer.{Answer}
 use Rattle.sc_core.specs.declared.answers.Answer.TheVariants as says
 use Rattle.sc_core.specs.declared.answers.SideAnswer.{SideAnswer}
-use Rattle.sc_core.specs.declared.answers.SideAnswer.TheVariants as sides
 use Rattle.sc_core.specs.declared.entries.Entry.{Entry}
-use Rattle.sc_core.specs.declared.events.Event.{Event}
 use Rattle.sc_core.specs.declared.events.Event.TheVariants.{Side}
 use Rattle.sc_core.specs.declared.events.FileOutcome.{FileOutcome}
 use Rattle.sc_core.specs.declared.events.FileOutcome.TheVariants as files

@@ -2,7 +2,6 @@
 use Rattle.std.proofs.Common.{◌≡◌, inl, inr, ℕ, Bool, true, false, List, [], ◌∷◌, refl, ap, sym, subst, ◌∙◌, rules}
 use Rattle.sc_ids.specs.declared.attempts.AttemptId.{AttemptId}
 use Rattle.sc_tracker.specs.Trust.{are_lost}
-use Rattle.sc_dag.specs.DagData.{DagData}
 use Rattle.sc_dag.specs.Losses.{after_lost}
 use Rattle.sc_dag.proofs.Tests.{both_left}
 use Rattle.sc_tracker.specs.TrackerData.{TrackerData}

@@ -1,5 +1,5 @@
 -- What stands of an attempt's output is a function of the entries.
-use Rattle.std.proofs.Common.{◌≡◌, ◌≢◌, ◌⊎◌, inl, inr, ℕ, ◌&&◌, Bool, true, false, cond, if◌then◌else◌, List, [], ◌∷◌, ◌++◌, All, find, map, Option, Some, None, option_map, refl, ap, sym, subst, ◌∙◌, arith, rules, true≢false}
+use Rattle.std.proofs.Common.{◌≡◌, ◌⊎◌, inl, inr, ℕ, ◌&&◌, Bool, true, false, cond, if◌then◌else◌, List, [], ◌∷◌, ◌++◌, All, find, map, Option, Some, None, option_map, refl, ap, sym, subst, ◌∙◌, rules, true≢false}
 use Rattle.std.proofs.lemmas.List.Elements.{All-map, All-nil, All-weaker}
 use Rattle.sc_ids.specs.declared.attempts.AttemptId.{AttemptId}
 use Rattle.sc_commit.specs.CommitLaws.{winner_of}
@@ -32,13 +32,13 @@ use Rattle.sc_core.specs.declared.running.Phase.TheVariants as phases
 use Rattle.sc_core.specs.declared.running.Running.{Running}
 use Rattle.sc_core.proofs.LawLemmas.{steps_keep_sound}
 use Rattle.sc_core.proofs.LookupLemmas.{is_itself, same_is}
-use Rattle.sc_core.proofs.RunningLemmas.{none_passes, same_sym}
+use Rattle.sc_core.proofs.RunningLemmas.{same_sym}
 use Rattle.sc_core.proofs.SaveAsideLemmas.{given_is, granted_is, saver_of, staged_is}
 use Rattle.sc_core.proofs.SaveOpenLemmas.{free_at}
 use Rattle.sc_core.proofs.SaveLemmas.{saves_now}
 use Rattle.sc_core.specs.declared.events.Outcome.TheVariants as outcomes
 use Rattle.sc_history.specs.Tellings.{telling, tellings_in}
-use Rattle.sc_history.specs.Stands.{Stand, StandsAreTold, StandsAsFar, committed, nothing, stand_after, stand_from, stand_of, stand_with, staged, unknown}
+use Rattle.sc_history.specs.Stands.{Stand, StandsAreTold, StandsAsFar, committed, nothing, stand_after, stand_from, stand_of, stand_with, staged}
 use Rattle.sc_history.proofs.Closing.{ended_stays}
 use Rattle.sc_history.proofs.CommitSteps.{Finishes, steps_winners}
 use Rattle.sc_history.proofs.Events.{is_aside}

@@ -1,18 +1,16 @@
 -- An executor that is lost in the end was lost where the job began, or an entry tells it.
-use Rattle.std.proofs.Common.{◌≡◌, ◌⊎◌, inl, inr, ℕ, ◌==◌, Bool, true, false, List, [], ◌∷◌, refl, ap, sym, ◌∙◌, arith}
+use Rattle.std.proofs.Common.{◌≡◌, ◌⊎◌, inl, inr, ℕ, ◌==◌, Bool, true, false, [], ◌∷◌, refl, ap, sym, ◌∙◌, arith}
 use Rattle.std.proofs.lemmas.Bool.Decides.{nat_tests}
 use Rattle.sc_tracker.specs.TrackerData.{TrackerData, trust_of}
 use Rattle.sc_dag.specs.DagData.{DagData}
 use Rattle.sc_plan.proofs.MemberLemmas.{contains_first, contains_more}
 use Rattle.sc_core.proofs.SideLemmas.{held_tracker}
 use Rattle.sc_core.specs.CoreData.{CoreData}
-use Rattle.sc_core.specs.Journals.{Replays}
 use Rattle.sc_core.specs.Losses.{Loses}
 use Rattle.sc_core.specs.Sound.{IsSoundCore}
 use Rattle.sc_core.specs.Steps.{Steps}
 use Rattle.sc_core.specs.Takes.{Takes}
 use Rattle.sc_core.specs.declared.answers.Answer.{Answer}
-use Rattle.sc_core.specs.declared.entries.Entry.{Entry}
 use Rattle.sc_core.specs.declared.events.Event.{Event}
 use Rattle.sc_core.specs.declared.events.Event.TheVariants.{Post, Release, Side, Take, TellLost}
 use Rattle.sc_core.proofs.LeftLemmas.{tells_left}

@@ -1,5 +1,5 @@
 -- What stands of the output of an attempt of a save, as the entries tell.
-use Rattle.std.specs.Prelude.{ℕ, ◌≡◌, List, [], ◌∷◌, Bool, true, false, All, Option, Some, if◌then◌else◌}
+use Rattle.std.specs.Prelude.{ℕ, ◌≡◌, List, [], ◌∷◌, Bool, All, Option, Some, if◌then◌else◌}
 use Rattle.sc_commit.specs.CommitLaws.{winner_of}
 use Rattle.sc_commit.specs.Committing.{is_same}
 use Rattle.sc_ids.specs.Graphs.{StageData}
@@ -20,7 +20,6 @@ use Rattle.sc_core.specs.declared.events.Event.TheVariants.{Side}
 use Rattle.sc_core.specs.declared.events.SideEvent.TheVariants.{Move, Stage}
 use Rattle.sc_core.specs.declared.running.Phase.{Phase}
 use Rattle.sc_core.specs.declared.running.Phase.TheVariants as phases
-use Rattle.sc_core.specs.declared.running.Running.{Running}
 
 -- what stands of an output: nothing, all of it aside, all of it where it counts, or, once a call on
 -- the files failed, nobody knows what
