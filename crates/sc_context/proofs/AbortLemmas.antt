@@ -143,7 +143,8 @@ module _ (known_causes : AreCauses) (work : WorkData) (sound : IsSoundWork work)
     -- a job that saves is that of the action
     saves_itself : (g : Goal) → IsNext work p g → saves work g ≡ true
         → saves work (goals.Action p.actions) ≡ true
-    saves_itself (goals.Action number) next e = ap (λ n. saves work (goals.Action n)) (sym next.0) ∙ e
+    saves_itself (goals.Action number) next e =
+        ap (λ n. saves work (goals.Action n)) (sym next.0) ∙ e
     saves_itself (goals.Bounds sort) next e = absurd (false≢true e)
 
     -- a failure that counts is a raise, or one of a call on the files

@@ -27,7 +27,8 @@ impl Core {
         !self.state.stages.dag().tracker().is_live(exec)
     }
 
-    /// Whether an attempt of a save comes next to stage: it was handed out, is out, and did no more.
+    /// Whether an attempt of a save comes next to stage: it was handed out, is out, and did no
+    /// more.
     pub fn may_stage(&self, attempt: AttemptId) -> bool
         ensures { result ≡ is_given (saver_phase self.now attempt) }
     {

@@ -18,9 +18,9 @@ use sc_work::Naming;
 use std::alloc::AllocError;
 
 impl<W: Naming> Desk<W> {
-    /// Something happens beside the reports: an executor leaves, the clock is read, or an attempt of
-    /// a save asks. It is entered with what the core answers. What tells of a call on the files that
-    /// failed comes only where a count rose over that call. A refused call changes nothing.
+    /// Something happens beside the reports: an executor leaves, the clock is read, or an attempt
+    /// of a save asks. It is entered with what the core answers. What tells of a call on the files
+    /// that failed comes only where a count rose over that call. A refused call changes nothing.
     pub fn note(&mut self, by: Mark, event: SideEvent) -> Result<Noted, AllocError>
         requires evident { IsEvidentAside event }
         ensures noted { IfOk result (λ n. Notes self.old by event n self.new) }

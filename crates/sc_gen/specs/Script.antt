@@ -1,5 +1,5 @@
 -- The generator's script, and the files that it stands for.
-use Rattle.std.specs.Prelude.{ℕ, ◌≡◌, List, [], ◌∷◌, Some, None, codes}
+use Rattle.std.specs.Prelude.{ℕ, ◌≡◌, List, [], ◌∷◌, ◌++◌, Some, None, codes}
 use Rattle.sc_base.specs.Outside.{Files, SourceState}
 use Rattle.sc_input.specs.declared.source.ReadAnswer.{ReadAnswer}
 use Rattle.sc_input.specs.declared.source.ReadAnswer.TheVariants.{Bytes, NoFile, Failed, OutOfMemory}
@@ -8,7 +8,12 @@ use Rattle.sc_gen.specs.Workload.{workload}
 -- the script
 abbrev pub gen_script : List ℕ
 gen_script =
-    codes "l = text \"gen\" 8\np = map l (pair (nth (words x) 0) (int (nth (words x) 1)))\nc = reduceByKey p 4 (+ a b)\ns = sortByKey c 3\ncollect s\ncount p\n"
+    codes "l = text \"gen\" 8\n"
+    ++ codes "p = map l (pair (nth (words x) 0) (int (nth (words x) 1)))\n"
+    ++ codes "c = reduceByKey p 4 (+ a b)\n"
+    ++ codes "s = sortByKey c 3\n"
+    ++ codes "collect s\n"
+    ++ codes "count p\n"
 
 -- the name under which it reads the lines
 abbrev pub gen_input : List ℕ

@@ -84,5 +84,11 @@ fn given(bytes: &Octets) -> ReadAnswer
 pub fn gen_script() -> &'static str
     ensures { result.now ≡ gen_script }
 {
-    "l = text \"gen\" 8\np = map l (pair (nth (words x) 0) (int (nth (words x) 1)))\nc = reduceByKey p 4 (+ a b)\ns = sortByKey c 3\ncollect s\ncount p\n"
+    "l = text \"gen\" 8
+p = map l (pair (nth (words x) 0) (int (nth (words x) 1)))
+c = reduceByKey p 4 (+ a b)
+s = sortByKey c 3
+collect s
+count p
+"
 }

@@ -11,7 +11,7 @@ loop-preserved c =
     let two = c.next_number-second.ensures in (
       two_more c.args.seed c.loop.counter _ _ _ before.0 one two,
       c.in_ok-push_line.ensures
-          ∙ ap (λ bytes. bytes
-          ++ line (c.next_number-first.result / 65536) (c.next_number-second.result / 65536)) before.1
+          ∙ ap (λ bytes. bytes ++ line (c.next_number-first.result / 65536)
+          (c.next_number-second.result / 65536)) before.1
           ∙ line_more c.args.seed c.loop.counter _ _ _ before.0 one two,
     )
