@@ -173,11 +173,14 @@ results_of_job law work d goal job places results sound is_job is same goal_is a
 -- ---- what they give
 
 -- an action gives what its rows settle, by the sequential meaning
-pub evaluates : (work : WorkData) (action : ActionData) (rows : List Datum) (value : Evaluated)
+pub evaluates : (work : WorkData) (action : ActionData) (rows : List (List Datum))
+    (value : Evaluated)
     → outcome_of_results action (local_results work action) ≡ action_outcome work action
     → Settles (outcome_of_rows action rows) value → Gives work action value
     → Evaluates work action value
 evaluates work action rows (evaluated.Prints text) same settles gives = sym same ∙ gives
+evaluates work action rows evaluated.Saves same settles gives =
+    (gives.0, gives.1, sym same ∙ gives.2)
 evaluates work action rows (evaluated.Faults fault) same settles gives = sym same ∙ gives
 evaluates work action rows (evaluated.Never p) same settles gives = settles
 

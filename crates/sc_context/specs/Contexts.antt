@@ -2,6 +2,7 @@
 use Rattle.std.specs.Prelude.{ℕ, ◌+◌, ◌≡◌, ◌≤◌, List, [], ◌∷◌, ◌++◌, Option, Some, length}
 use Rattle.sc_base.specs.declared.refusals.OrMemory.{OrMemory}
 use Rattle.sc_base.specs.declared.refusals.OrMemory.TheVariants.{Fault, OutOfMemory}
+use Rattle.sc_compute.specs.Evaluations.{IsOfSave}
 use Rattle.sc_compute.specs.declared.results.TaskResult.{TaskResult}
 use Rattle.sc_lineage.specs.Actions.{action_outcome, faults, prints}
 use Rattle.sc_lineage.specs.ScriptData.{ActionData, WorkData}
@@ -77,6 +78,7 @@ pub record IsEnded (work : WorkData) (c : ContextData) (goal : Goal) (passed : P
 -- an action gives this, by the sequential meaning
 abbrev pub Evaluates : WorkData → ActionData → Evaluated → Type 0
 Evaluates work action (evaluated.Prints text) = action_outcome work action ≡ prints text
+Evaluates work action evaluated.Saves = IsOfSave (action_outcome work action)
 Evaluates work action (evaluated.Faults fault) = action_outcome work action ≡ faults fault
 Evaluates work action (evaluated.Never p) = ⊥
 

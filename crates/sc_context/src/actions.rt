@@ -23,7 +23,7 @@ use std::alloc::{AllocError, Global};
 pub struct Given<W: Naming> {
     /// The context.
     pub context: Context<W>,
-    /// What the action gave: its text, or the fault of the driver.
+    /// What the action gave: its text, a saved directory, or the fault of the driver.
     pub value: Evaluated,
 }
 

@@ -119,6 +119,6 @@ fn node_of(action: &Action) -> NodeId
     match action {
         Action::Collect { node } => *node,
         Action::Count { node } => *node,
-        Action::Reduce { node, .. } => *node,
+        Action::Reduce { node, .. } | Action::Save { node, .. } => *node,
     }
 }

@@ -1,4 +1,4 @@
-use Rattle.std.proofs.Common.{◌∙◌, IfOk, ap, flat_map, subst, sym}
+use Rattle.std.proofs.Common.{◌∙◌, IfOk, ap, subst, sym}
 use Rattle.sc_compute.specs.Evaluations.{Gives, Settles}
 use Rattle.sc_compute.specs.Results.{AreResultsOf}
 use Rattle.sc_compute.proofs.ResultLemmas.{all_for}
@@ -41,9 +41,8 @@ returns g c =
     let known = node_within work read k c.index-actions-number.result sound are c.requires.within
     c.index-actions-number.is in
     let own = subst (λ a. AreResultsOf work a results) at c.requires.results in
-    let all = flat_map (λ rs. rs) own.rows in
     subst (λ a. IfOk c.settle.result (Evaluates work a)) (sym at)
-    (both_ok c.settle.result (Settles (outcome_of_rows action all)) (Gives work action)
+    (both_ok c.settle.result (Settles (outcome_of_rows action own.rows)) (Gives work action)
     (Evaluates work action)
-    (λ v. evaluates work action all v (c.outcome_law.ensures work action sound known))
+    (λ v. evaluates work action own.rows v (c.outcome_law.ensures work action sound known))
     (c.settle.ensures.settles own.rows own.told) (c.settle.ensures.gives work own))
