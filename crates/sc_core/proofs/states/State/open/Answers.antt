@@ -1,4 +1,6 @@
-use Rattle.std.proofs.Common.{◌∙◌}
+use Rattle.std.proofs.Common.{◌∙◌, subst, sym}
+use Rattle.sc_dag.specs.Openings.{FitsJob}
+use Rattle.sc_tracker.specs.TrackerData.{TrackerData}
 use Rattle.sc_core.proofs.OpenLemmas.{opening_is}
 use Rattle.sc_core.proofs.states.State.open.Goals as goal
 
@@ -11,3 +13,9 @@ returns c =
     c.in_ok-tracker.ensures c.in_ok-stages.ensures c.told_before-told.ensures
     c.now_before-tick.ensures c.in_ok-commit.ensures
     (c.in_ok-plan.ensures ∙ c.plan_behind.ensures))
+
+-- src/openings.rt:40:22
+pub submitted-requires-clause-fits : goal.submitted-requires-clause-fits
+submitted-requires-clause-fits c =
+    subst (λ (t : TrackerData). FitsJob t c.args.graph.now) (sym c.in_ok-tracker.ensures)
+    c.requires.fits
