@@ -128,10 +128,10 @@ told_tasks flags p denied (t ∷ tasks) rising within held =
         (All-head (IsHeldBy flags) t tasks held)) h
 
 -- a set told of one partition, where its flag is changed alike
-pub told_held :
+pub told_flags :
     (set : TaskSetData) (flags : List Bool) (p : ℕ) (denied : Bool)
     → AreRising (partitions_of set) → All (λ t. t.partition < length flags) set.tasks
     → AreHeldBy flags (Some set)
     → AreHeldBy (change_at flags p (λ _. denied)) (Some (after_held set p denied))
-told_held set flags p denied rising within held =
+told_flags set flags p denied rising within held =
     told_tasks flags p denied set.tasks rising within held

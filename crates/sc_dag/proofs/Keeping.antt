@@ -15,8 +15,7 @@ use Rattle.sc_dag.specs.Reports.{after_failed, after_hold, completed, ended_in_o
 use Rattle.sc_dag.specs.Sound.{AreHeldBy, IsAttemptOf, IsSetOf, IsSoundDag}
 use Rattle.sc_dag.specs.declared.attempts.StageAttempt.{StageAttempt}
 use Rattle.sc_dag.proofs.Births.{births_changed, births_mapped}
-use Rattle.sc_dag.proofs.Holding.{holds_end, holds_failure, holds_handed, holds_zombie}
-use Rattle.sc_dag.proofs.Holding as holding
+use Rattle.sc_dag.proofs.Holding.{holds_end, holds_failure, holds_handed, holds_zombie, told_flags}
 use Rattle.sc_dag.proofs.Items.{all_at}
 use Rattle.sc_dag.proofs.Moving.{newest_among}
 use Rattle.sc_dag.proofs.Sets.{KeepsSet, SameFinish, keeps_end, keeps_failure, keeps_handed, keeps_hold, keeps_zombie, same_end, same_failure, same_handed, same_hold, same_zombie}
@@ -124,7 +123,7 @@ hold_sound d s p denied sound =
         let of : IsSetOf (stage_at d s) x.set =
         (all_at (IsAttemptOf (stage_at d s)) state.attempts (length state.attempts - 1) x
         is.attempts.each e).set in
-        holding.told_held x.set state.held p denied of.sound.rising
+        told_flags x.set state.held p denied of.sound.rising
         (rw (is.flags.many) of.within) held
 
 -- a stage attempt that failed

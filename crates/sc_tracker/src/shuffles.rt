@@ -176,8 +176,8 @@ fn forget_each(shuffles: &mut [ShuffleOutputs])
     }
 }
 
-/// The place of a shuffle among others, or their number where it isn't there. They are looked at
-/// one by one only where the guess is wrong.
+/// The place of a shuffle among others, or their number where it isn't there. Only where the guess
+/// is wrong they are looked at one by one.
 fn place_of(shuffles: &[ShuffleOutputs], guess: usize, shuffle: ShuffleId) -> usize
     requires { AreApart shuffles.now }
     ensures { result ≡ place_of shuffles.now shuffle }
