@@ -10,7 +10,7 @@ use Rattle.sc_taskset.specs.TaskSetData.{TaskData, TaskSetData}
 use Rattle.sc_taskset.proofs.FindLemmas.{found_is, found_passes}
 use Rattle.sc_dag.specs.DagData.{DagData, StageState, changed_newest, changed_set, newest_at, set_in, stage_at, with_set, with_state}
 use Rattle.sc_dag.specs.Outputs.{is_complete, results_in}
-use Rattle.sc_dag.specs.Reports.{after_hold, after_result_success, completed, ended_in_own, is_of_newest, is_repeat, set_of, succeeded_in_both, succeeded_in_own, wants_in, with_result}
+use Rattle.sc_dag.specs.Reports.{after_hold, after_result_success, completed, ended_in_own, is_of_newest, is_repeat, set_of, succeeded_in_both, succeeded_in_own, told_held, wants_in, with_result}
 use Rattle.sc_dag.specs.Sound.{IsSoundDag, runner_among, runner_in, runner_of}
 use Rattle.sc_dag.specs.declared.attempts.StageAttempt.{StageAttempt}
 use Rattle.sc_dag.proofs.Moving.{newest_among}
@@ -70,7 +70,7 @@ pub hold_wants :
     → wants_in (newest_at (after_hold d s p denied) s) q ≡ wants_in (newest_at d s) q
 hold_wants d s p q denied =
     ap (λ o. wants_in (newest_among o) q)
-    (slice_get_change_same d.states s (changed_newest hold))
+    (slice_get_change_same d.states s (told_held p denied))
     ∙ by (slice_get d.states s)
   where
     hold : TaskSetData → TaskSetData
@@ -82,7 +82,7 @@ hold_wants d s p q denied =
     one (Some a) = (same_hold a.set p denied).wants q
 
     by : (o : Option StageState)
-        → wants_in (newest_among (option_map (changed_newest hold) o)) q
+        → wants_in (newest_among (option_map (told_held p denied) o)) q
         ≡ wants_in (newest_among o) q
     by None = refl
     by (Some state) =

@@ -1,3 +1,4 @@
+pub mod AsideLemmas
 pub mod OrderLemmas
 pub mod DueLemmas
 pub mod RoomLemmas

@@ -46,7 +46,7 @@ use Rattle.sc_core.proofs.ResultLemmas.{runs_results}
 use Rattle.sc_core.proofs.SetLemmas.{nothing}
 use Rattle.sc_core.proofs.StageCallLemmas.{completes_calm, completes_results, fails_calm, fails_results, submitted_calm, submitted_results}
 use Rattle.sc_core.proofs.StepLemmas.{posted}
-use Rattle.sc_core.proofs.TaskCallLemmas.{ended_moves, ended_results, failed_moves, failed_results, hold_free, hold_results, map_moves, map_results, result_moves, seen_calm}
+use Rattle.sc_core.proofs.TaskCallLemmas.{ended_moves, ended_results, failed_moves, failed_results, hold_calms, hold_results, map_moves, map_results, result_moves, seen_calm}
 use Rattle.sc_history.specs.Tellings.{Telling, telling, tellings_in, told_late}
 use Rattle.sc_history.proofs.Events.{Comes, losses_come, posts_come, releases_come}
 use Rattle.sc_history.proofs.StageRoomLemmas.{result_tracker}
@@ -62,6 +62,20 @@ left_with c after d h is = subst (λ x. Leaves c.dag x) (sym is) h
 left_as : (c after x : CoreData) → x.dag ≡ c.dag → after ≡ x → Leaves c.dag after.dag
 left_as c after x same is =
     left_with c after c.dag (leaves_itself c.dag) (ap (λ (y : CoreData). y.dag) is ∙ same)
+
+-- ---- partitions that are held back
+
+-- whether a partition is held back is no result
+may_leave : (c after : CoreData) → MayHold c.dag after.dag → Leaves c.dag after.dag
+may_leave c after (inl same) = left_with c after c.dag (leaves_itself c.dag) same
+may_leave c after (inr (s, p, denied, same)) =
+    left_with c after (after_hold c.dag s p denied)
+    (leaves_of nothing None c.dag (after_hold c.dag s p denied) (hold_calms c.dag s p denied)
+    refl (hold_results c.dag s p denied)) same
+
+-- what happens beside the reports
+pub aside_leaves : (c after : CoreData) → IsAside c after → Leaves c.dag after.dag
+aside_leaves c after is = may_leave c after is.dag
 
 -- ---- successes
 
@@ -125,7 +139,8 @@ freed_leaves c a how = by (holds a (committer_at c.committers a.partition))
         → Leaves c.dag (if b then after_hold c.dag a.stage a.partition false else c.dag)
     by true =
         leaves_of nothing None c.dag (after_hold c.dag a.stage a.partition false)
-        (hold_free c.dag a.stage a.partition) refl (hold_results c.dag a.stage a.partition)
+        (hold_calms c.dag a.stage a.partition false) refl
+        (hold_results c.dag a.stage a.partition false)
     by false = leaves_itself c.dag
 
 freed_repeat : (c : CoreData) (a : AttemptId) (how : Ending)
@@ -416,8 +431,7 @@ tells_win c mid after r outcome sound same runs fit tells = of outcome fit tells
 comes_leave :
     (c after : CoreData) (event : Event) (answer : Answer) → Comes c after event answer
     → answer ≢ says.Finished → Leaves c.dag after.dag
-comes_leave c after event answer (inl quiet) other =
-    left_with c after c.dag (leaves_itself c.dag) quiet.dag
+comes_leave c after event answer (inl quiet) other = may_leave c after quiet.dag
 comes_leave c after event answer (inr heard) other =
     subst (λ d. Leaves d after.dag) heard.dag
     (tells_leave heard.mid after heard.one heard.outcome answer heard.tells other)
@@ -534,15 +548,3 @@ losses_leave c after exec answer step =
     })
     (freed_all (attempts_on exec c.running) (with_dag c (after_lost c.dag exec))))
     (losses_come c after exec answer step).dag
-
--- ---- what happens beside the reports
-
-pub aside_leaves : (c after : CoreData) → IsAside c after → Leaves c.dag after.dag
-aside_leaves c after is = by is.dag
-  where
-    by : MayHold c.dag after.dag → Leaves c.dag after.dag
-    by (inl same) = left_with c after c.dag (leaves_itself c.dag) same
-    by (inr (s, p, denied, same)) =
-        left_with c after (after_hold c.dag s p denied)
-        (leaves_of nothing None c.dag (after_hold c.dag s p denied) (hold_free c.dag s p denied)
-        refl (hold_results c.dag s p denied)) same

@@ -4,6 +4,7 @@
 ghost use Rattle.std.specs.Prelude.{◌≡◌, ◌<◌, ◌++◌, [], ◌∷◌, IfOk, OnErr};
 ghost use Rattle.sc_core.specs.Journals.{entry};
 ghost use Rattle.sc_core.specs.Steps.{Steps};
+ghost use Rattle.sc_core.specs.declared.events.Event.TheVariants as events;
 ghost use Rattle.sc_desk.specs.Asides.{IsSaidAside, Notes};
 ghost use Rattle.sc_desk.specs.Shelves.{shelf_in};
 ghost use Rattle.sc_desk.specs.Sound.{IsEvidentAside};
@@ -43,10 +44,10 @@ pub(crate) fn enter_aside<W: Naming>(
     event: SideEvent,
 ) -> SideAnswer
     requires room { 0 < journal.old.1 }
-    ensures step { Steps journal.old.0.core (Event.Side event) (Answer.Side result)
+    ensures step { Steps journal.old.0.core (events.Side event) (Answer.Side result)
         journal.new.0.core }
     ensures entry { journal.new.0.entries
-        ≡ journal.old.0.entries ++ entry by (Event.Side event) (Answer.Side result) ∷ [] }
+        ≡ journal.old.0.entries ++ entry by (events.Side event) (Answer.Side result) ∷ [] }
     ensures opening { journal.new.0.opening ≡ journal.old.0.opening }
     ensures shelf { shelf.new.items ≡ shelf_in journal.new.0.core shelf.old.items }
 {

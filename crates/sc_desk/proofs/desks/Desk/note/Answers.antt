@@ -1,26 +1,20 @@
-use Rattle.std.proofs.Common.{◌≡◌, refl, subst}
+use Rattle.std.proofs.Common.{◌≡◌, refl, subst, sym}
 use Rattle.sc_core.specs.Sound.{IsSoundCore}
 use Rattle.sc_desk.specs.DeskData.{desk_data}
-use Rattle.sc_desk.specs.Shelves.{shelf_in}
-use Rattle.sc_desk.proofs.ReleaseLemmas.{noted_keeps}
+use Rattle.sc_desk.proofs.AsideLemmas.{aside_keeps}
 use Rattle.sc_desk.proofs.desks.Desk.note.Goals as goal
 
-pub invariant_of-self : goal.invariant_of-self
-invariant_of-self g c =
-    let d = desk_data c.self.inside.job c.self.inside.carried c.self.inside.journal
+pub invariant_of-self-2 : goal.invariant_of-self-2
+invariant_of-self-2 g c =
+    let d = desk_data c.self.inside.job c.self.inside.carried c.self.inside.journal.0
     c.self.inside.results.items c.self.inside.shelf.items c.self.inside.ordered in
-    let after = desk_data c.self.inside.job c.self.inside.carried c.enter.new.self
-    c.self.inside.results.items c.clear_after_end.new.shelf.items c.self.inside.ordered in
-    noted_keeps g.W.Naming.work d after c.args.by c.args.event c.in-Ok.answer c.self.invariant
+    let after = desk_data c.self.inside.job c.self.inside.carried
+    c.enter_aside-answer.new.journal.0 c.self.inside.results.items
+    c.enter_aside-answer.new.shelf.items c.self.inside.ordered in
+    aside_keeps g.W.Naming.work d after c.args.by c.args.event c.enter_aside-answer.result
+    c.reserve.new.self.0 c.reserve.ensures.same c.self.invariant
     (subst IsSoundCore c.core.ensures c.is_sound.ensures) c.is_replay.ensures
-    (record {
-      step = c.in-Ok.ensures.step;
-      entries = c.in-Ok.ensures.entry;
-      opening = c.in-Ok.ensures.opening;
-      job = refl;
-      carried = refl;
-      ordered = refl;
-    })
-    c.requires refl
-    (subst (λ core. c.clear_after_end.new.shelf.items ≡ shelf_in core c.self.inside.shelf.items)
-    c.core-in-Ok.ensures c.clear_after_end.ensures)
+    c.enter_aside-answer.ensures.step c.enter_aside-answer.ensures.entry
+    c.enter_aside-answer.ensures.opening refl refl refl
+    c.requires.evident refl
+    c.enter_aside-answer.ensures.shelf
