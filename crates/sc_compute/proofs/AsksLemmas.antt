@@ -1,8 +1,8 @@
 -- What is asked for, where some partitions are had.
-use Rattle.std.proofs.Common.{◌≡◌, ◌∙◌, ℕ, zero, suc, ◌+◌, ◌*◌, ◌^◌, ◌<◌, ◌⊎◌, inl, inr, Bool, true, false, ◌&&◌, ◌||◌, List, [], ◌∷◌, ◌++◌, All, Contains, length, map, drop, get_or, nat_eq, true≢false, ap, ap₂, refl, sym, subst, arith}
+use Rattle.std.proofs.Common.{◌≡◌, ◌∙◌, ℕ, suc, ◌+◌, ◌*◌, ◌^◌, ◌<◌, ◌⊎◌, inl, inr, Bool, true, false, ◌&&◌, ◌||◌, List, [], ◌∷◌, ◌++◌, All, Contains, length, map, drop, get_or, nat_eq, true≢false, ap, ap₂, refl, sym, subst, arith}
 use Rattle.std.proofs.Math.Seq.{drop-cons}
 use Rattle.std.proofs.lemmas.Cmp.{ranked}
-use Rattle.std.proofs.lemmas.List.Elements.{All-append, All-cons, All-contains, All-contains_itself, All-head, All-map, All-nil, All-tail, All-weaker, Contains-append_cases, Contains-append_right, Contains-push_cases}
+use Rattle.std.proofs.lemmas.List.Elements.{All-cons, All-contains, All-contains_itself, All-head, All-map, All-nil, All-tail, All-weaker, Contains-append_cases, Contains-append_right, Contains-push_cases}
 use Rattle.std.proofs.lemmas.List.Folds.{list_any-append}
 use Rattle.std.specs.BTreeSet.{insert_key}
 use Rattle.std.specs.Cmp.{unsigned_Decides}
@@ -259,6 +259,9 @@ module _ (work : WorkData) (had : PlaceData → Bool) (from : PlaceData) (given 
   abbrev P : ℕ → Type 0
   P n = Needs work had from (place_of_number n)
 
+  abbrev reads_of : PlaceData → List PlaceData
+  reads_of one = direct_reads work one.node one.partition
+
   abbrev IsPut : PlaceData → Type 0
   IsPut q = (n : ℕ) × Contains after.left.keys n × (place_of_number n ≡ q)
 
@@ -282,17 +285,16 @@ module _ (work : WorkData) (had : PlaceData → Bool) (from : PlaceData) (given 
       back q small = number_back q.node q.partition (place_number q) small refl
 
       needed : All (λ q. Needs work had from (place_data_of q)) places
-      needed = found_all (Needs work had from) places (direct_reads work one.node one.partition) read
-          (All-weaker (Contains (direct_reads work one.node one.partition)) (Needs work had from)
+      needed = found_all (Needs work had from) places (reads_of one) read
+          (All-weaker (Contains (reads_of one)) (Needs work had from)
           (λ via is. needed_on work had from one via asks.needed lacks is)
-          (direct_reads work one.node one.partition)
-          (All-contains_itself (direct_reads work one.node one.partition)))
+          (reads_of one) (All-contains_itself (reads_of one)))
 
       small : All IsSmall places
-      small = found_all (λ q. q.partition < 2 ^ 32) places (direct_reads work one.node one.partition) read
+      small = found_all (λ q. q.partition < 2 ^ 32) places (reads_of one) read
           (small_direct work one.node one.partition sound known within)
 
-      put : All IsPut (direct_reads work one.node one.partition)
+      put : All IsPut (reads_of one)
       put = subst (All IsPut) read
           (All-map IsPut place_data_of places
           (All-weaker
@@ -303,14 +305,15 @@ module _ (work : WorkData) (had : PlaceData → Bool) (from : PlaceData) (given 
             subst (λ ks. Contains ks (place_number q)) (sym keys) both.0,
             back q both.1,
           ))
-          places (both_of (λ q. Contains (with_numbers before.left.keys places) (place_number q)) IsSmall
+          places
+          (both_of (λ q. Contains (with_numbers before.left.keys places) (place_number q)) IsSmall
           places (numbers_put before.left.keys places) small)))
 
       on : (at : PlaceData) → had at ≡ true → (path : List PlaceData)
           → LeadsPast work had one path at → IsBehind work had after.left.keys at
       on at there [] same = never (had at) there (subst (λ q. had q ≡ false) same lacks)
       on at there (via ∷ path) leads =
-          let found = All-contains IsPut (direct_reads work one.node one.partition) via put leads.1 in (
+          let found = All-contains IsPut (reads_of one) via put leads.1 in (
             found.0,
             found.1,
             subst (λ q. Needs work had q at) (sym found.2) (path, leads.2),

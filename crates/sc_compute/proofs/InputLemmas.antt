@@ -210,7 +210,8 @@ module _ (work : WorkData) (sound : IsSoundScript work.script) where
     where
       by : HasMade before k ⊎ TakesIn work parent k → made_in after k ≡ None
       by (inl made) = absurd (not_there (made_in before k) made none)
-      by (inr takes) = let reach = taken_before parent k takes in absurd (omega (arith, below, reach))
+      by (inr takes) =
+          let reach = taken_before parent k takes in absurd (omega (arith, below, reach))
 
       at : (o : Option Sides) → made_in after k ≡ o → made_in after k ≡ None
       at None is = is
@@ -247,7 +248,8 @@ module _ (work : WorkData) where
   pub grows_on : (node : ℕ) (first second third : ShuffleInputs) → Grows work node first second
       → Grows work node second third → Grows work node first third
   grows_on node first second third low high = record {
-    kept = λ k made. high.kept k (still_made first second k (low.kept k made) made) ∙ low.kept k made;
+    kept = λ k made.
+        high.kept k (still_made first second k (low.kept k made) made) ∙ low.kept k made;
     only = λ k made. by k (high.only k made);
     handed = high.handed ∙ low.handed;
     told = high.told ∙ low.told;

@@ -1,5 +1,5 @@
 -- What an attempt takes from the cache of a store, and what it keeps there.
-use Rattle.std.proofs.Common.{◌≡◌, ◌∙◌, ℕ, zero, suc, ◌+◌, ◌<◌, Bool, true, false, ◌&&◌, ◌||◌, List, [], ◌∷◌, ◌++◌, Option, Some, None, All, length, map, get_or, slice_get, take, true≢false, refl, ap, ap₂, sym, subst, arith}
+use Rattle.std.proofs.Common.{◌≡◌, ◌∙◌, ℕ, zero, suc, ◌+◌, ◌<◌, Bool, true, false, ◌&&◌, ◌||◌, List, [], ◌∷◌, ◌++◌, Option, Some, None, All, length, get_or, take, true≢false, refl, ap, ap₂, sym, subst, arith}
 use Rattle.std.proofs.lemmas.Bool.{and_parts}
 use Rattle.std.proofs.lemmas.List.{map-append, take_more}
 use Rattle.std.proofs.lemmas.List.Elements.{All-append, All-cons, All-nil}
@@ -9,16 +9,16 @@ use Rattle.sc_value.specs.Datum.{Datum}
 use Rattle.sc_lineage.specs.Dependencies.{PlaceData}
 use Rattle.sc_lineage.specs.NodeData.{NodeData, cache_node}
 use Rattle.sc_lineage.specs.ScriptData.{IsSoundScript, WorkData}
-use Rattle.sc_lineage.specs.Targets.{TargetData, map_target, result_target}
+use Rattle.sc_lineage.specs.Targets.{TargetData}
 use Rattle.sc_lineage.specs.Views.{place_data_of}
 use Rattle.sc_lineage.specs.declared.dependencies.Place.{Place}
 use Rattle.sc_base.specs.Lists.{at_or}
 use Rattle.sc_cache.specs.Caches.{CacheData, with_kept, with_used}
 use Rattle.sc_cache.specs.declared.names.CachedId.{CachedId}
-use Rattle.sc_compute.specs.Asking.{AreAllGiven, AreOfCaches, AsksFor, AsksNext, AsksPast, IsTakenFor, place_taken}
+use Rattle.sc_compute.specs.Asking.{AreOfCaches, AsksFor, AsksNext, AsksPast, IsTakenFor, place_taken}
 use Rattle.sc_compute.specs.Caching.{IsOwnPart, is_cache}
-use Rattle.sc_compute.specs.Needs.{is_among, places_in}
-use Rattle.sc_compute.specs.Stages.{local_count, node_at}
+use Rattle.sc_compute.specs.Needs.{places_in}
+use Rattle.sc_compute.specs.Stages.{node_at}
 use Rattle.sc_compute.specs.Tasks.{IsTargetOf}
 use Rattle.sc_compute.specs.declared.asking.Asking.{Asking}
 use Rattle.sc_compute.specs.declared.caching.CachedPart.{CachedPart}

@@ -1,6 +1,6 @@
 -- What was read of a task's blocks is what was handed in of them.
 use Rattle.std.specs.declared.alloc.Global.{Global}
-use Rattle.std.proofs.Common.{◌≡◌, ◌∙◌, ℕ, zero, suc, ◌+◌, ◌<◌, true, List, [], ◌∷◌, ◌++◌, Option, Some, None, Vec, All, IfSome, length, map, slice_get, refl, ap, ap₂, sym, subst, arith}
+use Rattle.std.proofs.Common.{◌≡◌, ◌∙◌, ℕ, zero, suc, ◌+◌, ◌<◌, true, List, [], ◌∷◌, Option, Some, None, Vec, All, IfSome, length, map, slice_get, refl, ap, ap₂, sym, subst, arith}
 use Rattle.std.proofs.lemmas.List.Elements.{All-append, All-cons, All-head, All-map, All-nil, All-tail}
 use Rattle.std.specs.List.{AllZip, flat_map}
 use Rattle.std.specs.Option.{is_some}
@@ -18,14 +18,14 @@ use Rattle.sc_lineage.specs.declared.streams.Stream.{Stream}
 use Rattle.sc_lineage.proofs.PlaceLemmas.{slice_get-at_or}
 use Rattle.sc_dag.specs.Outputs.{block_of}
 use Rattle.sc_compute.specs.Keeping.{same_place}
-use Rattle.sc_compute.specs.Stages.{AreOutputs, AreRight, HasOutputs, handed_in}
+use Rattle.sc_compute.specs.Stages.{AreOutputs, AreRight, handed_in}
 use Rattle.sc_compute.specs.declared.stages.ShuffleInputs.{ShuffleInputs}
 use Rattle.sc_store.specs.OwnBlocks.{IsOwnBlock}
 use Rattle.sc_jobs.specs.JobData.{JobData, blocks_by, blocks_left, parents_in, stage_in}
 use Rattle.sc_jobs.specs.Plans.{IsJobFor}
 use Rattle.sc_net.specs.Tasks.{TaskData, blocks_of_task, stage_of_task}
 use Rattle.sc_task.specs.Handing.{AreHanded, AreHandedIn, IsHanded, IsHandedBy, IsHandedIn}
-use Rattle.sc_task.specs.States.{AreOf, HasReadAll}
+use Rattle.sc_task.specs.States.{HasReadAll}
 use Rattle.sc_task.proofs.HandingLemmas.{found_of_work}
 use Rattle.std.specs.HashMap.{get}
 

@@ -53,8 +53,7 @@ FailsAs work t (findings.Raised r) =
 FailsAs work t finding = ⊥
 
 -- What an attempt does that has read all, where some partitions are known: it fails, or computes
--- what doesn't raise; then the fresh ones are exactly the partitions of cache nodes that it
--- computed.
+-- what doesn't raise. Then what is fresh is exactly what it computed of cache nodes.
 abbrev pub Computes : {W : _} → WorkData → TaskData → List CachedPart → Did W → Type 0
 Computes work t known (dids.Computed computed) =
     (is_planned work t ≡ false) × ((own_value work (target_of_task work t)).raise ≡ None)

@@ -1,7 +1,6 @@
-use Rattle.std.proofs.Common.{◌≡◌, ◌∙◌, [], Option, Some, None, All, ap, refl, subst, sym}
+use Rattle.std.proofs.Common.{◌≡◌, ◌∙◌, [], All, ap, refl, subst, sym}
 use Rattle.std.proofs.lemmas.List.Elements.{All-nil}
 use Rattle.std.specs.Option.{option_map}
-use Rattle.sc_lineage.specs.Views.{place_data_of}
 use Rattle.sc_compute.specs.Asking.{AsksNext, IsAsked, place_taken}
 use Rattle.sc_compute.specs.Caching.{IsOwnPart}
 use Rattle.sc_compute.specs.Needs.{places_in}
