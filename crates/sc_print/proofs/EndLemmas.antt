@@ -5,7 +5,7 @@ use Rattle.sc_base.specs.Counts.{Rose}
 use Rattle.sc_base.specs.Outside.{SinkState, with_more}
 use Rattle.sc_base.specs.declared.refusals.OrMemory.{OrMemory}
 use Rattle.sc_base.specs.declared.refusals.OrMemory.TheVariants.{Fault, OutOfMemory}
-use Rattle.sc_lineage.specs.Actions.{texts_by}
+use Rattle.sc_lineage.specs.Actions.{text_of_outcome, texts_by}
 use Rattle.sc_lineage.specs.ScriptData.{WorkData, collect_action}
 use Rattle.sc_compute.specs.declared.evaluation.Evaluated.{Evaluated}
 use Rattle.sc_compute.specs.declared.evaluation.Evaluated.TheVariants as evaluated
@@ -20,7 +20,7 @@ use Rattle.sc_context.specs.Progress.{first_progress}
 use Rattle.sc_print.specs.declared.faults.PrintFault.{PrintFault}
 use Rattle.sc_print.specs.declared.faults.PrintFault.TheVariants.{Aborted, Driver, Write}
 use Rattle.sc_print.specs.Printing.{HasPrinted, Prints, PrintsNext, StopsAtDriver, StopsNext, WritesValue, fault_of}
-use Rattle.sc_print.proofs.PrintLemmas.{printed-all, printed-none, slice_get-at, with_more-append}
+use Rattle.sc_print.proofs.PrintLemmas.{printed-all, printed-none, slice_get-at, with_more-append, with_more-none}
 
 -- nothing is printed, and no job has run
 pub nothing_done : (work : WorkData) (state : SinkState) (histories : List JobHistory)
@@ -122,8 +122,21 @@ module _ (work : WorkData) (before after : SinkState) (c next : ContextData)
           text = text;
           action = goal_action work (goals.Action c.progress.actions);
           is_action = there;
-          prints_so = gives.evaluates;
+          prints_so = ap text_of_outcome gives.evaluates;
           printed = writes;
+          one_more = gives.one_more;
+        }
+    next-printed evaluated.Saves gives done writes =
+        record {
+          text = [];
+          action = goal_action work (goals.Action c.progress.actions);
+          is_action = there;
+          prints_so = ap text_of_outcome gives.evaluates.2;
+          printed = record {
+            pieces = ap (λ (s : SinkState). s.pieces) writes.1
+                ∙ sym (with_more-none before.pieces);
+            quiet = ap (λ (s : SinkState). s.faults) writes.1;
+          };
           one_more = gives.one_more;
         }
     next-printed (evaluated.Faults fault) gives done writes = absurd (search (rules, writes.0))
@@ -149,6 +162,7 @@ module _ (work : WorkData) (before after : SinkState) (c next : ContextData)
         omega (arith, gives.one_more),
       ),
     )
+    next-stops evaluated.Saves gives come why writes = absurd (search (rules, writes.0))
     next-stops (evaluated.Faults fault) gives come why writes =
         let e : why ≡ Fault (Driver number fault) = search (rules, writes.0) in
         subst (λ w. StopsNext work before after c.progress.actions w next.histories) (sym e) (

@@ -8,7 +8,7 @@ use Rattle.std.proofs.lemmas.List.Elements.{All-nil, All-cons, All-append}
 use Rattle.std.proofs.lemmas.Option.{slice_get_within, get_or_from_slice_get}
 use Rattle.sc_base.specs.Lists.{at_or}
 use Rattle.sc_base.specs.Outside.{SinkState, with_more}
-use Rattle.sc_lineage.specs.Actions.{action_outcome, action_text, prints, some_text, text_of_outcome, texts_by, HasText}
+use Rattle.sc_lineage.specs.Actions.{action_text, some_text, texts_by, HasText}
 use Rattle.sc_lineage.specs.ScriptData.{ActionData, WorkData}
 use Rattle.sc_context.specs.Contexts.{ContextData}
 use Rattle.sc_print.specs.Printing.{HasPrinted, PrintsAll, PrintsNext, PrintsText}
@@ -27,7 +27,7 @@ with_more-append None xs ys = refl
 with_more-append (Some before) xs ys = ap Some (append_assoc before xs ys)
 
 -- nothing more
-with_more-none : {A : Type 0} (shown : Option (List A)) → with_more shown [] ≡ shown
+pub with_more-none : {A : Type 0} (shown : Option (List A)) → with_more shown [] ≡ shown
 with_more-none None = refl
 with_more-none (Some before) = ap Some (append-nil before)
 
@@ -48,11 +48,6 @@ filter_map-append h (y ∷ xs) x = put (h y) (filter_map h (xs ++ x ∷ [])) (fi
     put None ys zs ws e = e
     put (Some z) ys zs ws e = ap (λ vs. z ∷ vs) e
 
--- the text of an action that prints one
-text_of_action : (work : WorkData) (action : ActionData) (text : List ℕ)
-    → action_outcome work action ≡ prints text → action_text work action ≡ Some text
-text_of_action work action text is = ap text_of_outcome is
-
 -- an item that there is
 pub slice_get-at : {X : Type 0} (xs : List X) (k : ℕ) (other : X) → k < length xs
     → slice_get xs k ≡ Some (at_or xs k other)
@@ -64,17 +59,16 @@ module _ (work : WorkData) (start now after : SinkState) (k : ℕ) (action : Act
     (is : slice_get work.script.actions k ≡ Some action) (so_far : HasPrinted work start now k)
   where
     -- the texts of one action more
-    texts-next : (text : List ℕ) → action_outcome work action ≡ prints text
+    texts-next : (text : List ℕ) → action_text work action ≡ Some text
         → texts_by work (k + 1) ≡ texts_by work k ++ option_to_list (some_text (Some text))
     texts-next text printed =
         let found : ActionData → Option (List ℕ) = λ a. some_text (action_text work a) in
         ap (filter_map found) (take-next work.script.actions k action is)
         ∙ filter_map-append found (take k work.script.actions) action
-        ∙ ap (λ t. texts_by work k ++ option_to_list (some_text t))
-        (text_of_action work action text printed)
+        ∙ ap (λ t. texts_by work k ++ option_to_list (some_text t)) printed
 
     -- one action more is printed
-    printed-next : (text : List ℕ) → action_outcome work action ≡ prints text
+    printed-next : (text : List ℕ) → action_text work action ≡ Some text
         → PrintsText text now after → HasPrinted work start after (k + 1)
     printed-next text printed one =
         record {

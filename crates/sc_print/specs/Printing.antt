@@ -6,7 +6,7 @@ use Rattle.sc_base.specs.Counts.{Rose}
 use Rattle.sc_base.specs.Outside.{SinkState, with_more}
 use Rattle.sc_base.specs.declared.refusals.OrMemory.{OrMemory}
 use Rattle.sc_base.specs.declared.refusals.OrMemory.TheVariants.{Fault, OutOfMemory}
-use Rattle.sc_lineage.specs.Actions.{action_outcome, faults, prints, some_text, texts_by, HasText}
+use Rattle.sc_lineage.specs.Actions.{action_outcome, action_text, faults, prints, some_text, texts_by, HasText}
 use Rattle.sc_lineage.specs.ScriptData.{ActionData, WorkData}
 use Rattle.sc_lineage.specs.declared.nodes.DriverFault.{DriverFault}
 use Rattle.sc_compute.specs.declared.evaluation.Evaluated.{Evaluated}
@@ -99,17 +99,19 @@ Writes text before after (Err (Fault (Driver k fault))) = ⊥
 Writes text before after (Err (Fault Write)) = FailsInText text before after
 Writes text before after (Err OutOfMemory) = after ≡ before
 
--- what an action gave that is done: a text, or a fault of the driver
+-- what an action gave that is done: a text, a saved directory, or a fault of the driver
 abbrev pub IsValue : Evaluated → Type 0
 IsValue (evaluated.Prints text) = Unit {0}
+IsValue evaluated.Saves = Unit {0}
 IsValue (evaluated.Faults fault) = Unit {0}
 IsValue (evaluated.Never p) = ⊥
 
--- what the writing of what the action of a number gave answers: a fault is told, and nothing is
--- written
+-- what the writing of what the action of a number gave answers: of a save nothing is written, and
+-- of a fault, which is told, neither
 abbrev pub WritesValue : ℕ → Evaluated → SinkState → SinkState
     → Result (Unit {0}) (OrMemory PrintFault) → Type 0
 WritesValue k (evaluated.Prints text) before after answer = Writes text before after answer
+WritesValue k evaluated.Saves before after answer = (answer ≡ Ok tt) × (after ≡ before)
 WritesValue k (evaluated.Faults fault) before after answer =
     (answer ≡ Err (Fault (Driver k fault))) × (after ≡ before)
 WritesValue k (evaluated.Never p) before after answer = ⊥
@@ -120,7 +122,7 @@ pub record PrintsNext (work : WorkData) (before after : SinkState) (c next : Con
   pub text : List ℕ
   pub action : ActionData
   pub is_action : slice_get work.script.actions c.progress.actions ≡ Some action
-  pub prints_so : action_outcome work action ≡ prints text
+  pub prints_so : action_text work action ≡ Some text
   pub printed : PrintsText text before after
   pub one_more : next.progress.actions ≡ c.progress.actions + 1
 

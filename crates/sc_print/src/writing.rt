@@ -22,6 +22,7 @@ pub(crate) fn write_value<K: Sink>(
 {
     match value {
         Evaluated::Prints(text) => write(text, sink),
+        Evaluated::Saves => Ok(()),
         Evaluated::Faults(fault) => Err(OrMemory::Fault(PrintFault::Driver {
             action,
             fault: *fault,
