@@ -1,5 +1,5 @@
 -- An action without a text is told.
-use Rattle.std.proofs.Common.{◌≡◌, ◌∙◌, ℕ, zero, suc, ◌<◌, List, [], ◌∷◌, ◌++◌, length, take, subst, sym, ap, refl, arith, inl, inr, Some}
+use Rattle.std.proofs.Common.{◌≡◌, ◌∙◌, ℕ, zero, suc, ◌<◌, List, [], ◌∷◌, ◌++◌, length, take, subst, sym, ap, refl, arith, inl, inr, None, Some}
 use Rattle.std.specs.Prelude.{◌⊎◌, slice_get}
 use Rattle.std.specs.List.{All}
 use Rattle.std.specs.Str.{IsUtf8}
@@ -7,7 +7,7 @@ use Rattle.std.proofs.lemmas.List.Elements.{All-get_or}
 use Rattle.std.proofs.lemmas.Option.{slice_get_within, get_or_from_slice_get}
 use Rattle.sc_base.specs.Outside.{Files}
 use Rattle.sc_core.specs.declared.journals.JobHistory.{JobHistory}
-use Rattle.sc_lineage.specs.Actions.{action_outcome, faults, never, HasText}
+use Rattle.sc_lineage.specs.Actions.{action_outcome, faults, never, text_of_outcome, HasText}
 use Rattle.sc_lineage.specs.ScriptData.{ActionData, ScriptData, WorkData}
 use Rattle.sc_lineage.specs.declared.nodes.DriverFault.{DriverFault}
 use Rattle.sc_plan.specs.Plans.{PlansHaveOneReading}
@@ -73,11 +73,13 @@ one_first work k i a b texts is bare texts' is' bare' = by_order (in_order k i)
 
 never_without : (work : WorkData) (a : ActionData) → action_outcome work a ≡ never
     → HasText work a → ⊥
-never_without work a is text = let e = text.1 in cc
+never_without work a is text =
+    let e : None ≡ Some text.0 = sym (ap text_of_outcome is) ∙ text.1 in cc
 
 faults_without : (work : WorkData) (a : ActionData) (f : DriverFault)
     → action_outcome work a ≡ faults f → HasText work a → ⊥
-faults_without work a f is text = let e = text.1 in cc
+faults_without work a f is text =
+    let e : None ≡ Some text.0 = sym (ap text_of_outcome is) ∙ text.1 in cc
 
 module _ (law : HaveOneReading) (plans : PlansHaveOneReading) (run : RunData) (work : WorkData)
     (k : ℕ) (action : ActionData)
