@@ -90,7 +90,7 @@ fn node_of(action: &Action) -> NodeId
     match action {
         Action::Collect { node } => *node,
         Action::Count { node } => *node,
-        Action::Reduce { node, .. } => *node,
+        Action::Reduce { node, .. } | Action::Save { node, .. } => *node,
     }
 }
 
