@@ -1,5 +1,5 @@
 -- What an action gives by rows alone, where no partition raises.
-use Rattle.std.proofs.Common.{◌≡◌, ◌∙◌, ◌+◌, ℕ, List, [], ◌∷◌, ◌++◌, None, map, flat_map, refl, ap, sym}
+use Rattle.std.proofs.Common.{◌≡◌, ◌∙◌, ◌+◌, ℕ, List, [], ◌∷◌, None, map, refl, ap, sym}
 use Rattle.std.specs.List.{position_from}
 use Rattle.sc_base.specs.Trees.{Path}
 use Rattle.sc_value.specs.Datum.{Datum}
