@@ -30,7 +30,8 @@ result_at work action p d within =
     ∙ ap (result_of action) (sym (at_or-get_or streams p (ended_stream None)))
 
 -- an action of which no result raises
-pub gives-settled : (work : WorkData) (action : ActionData) (rows : List (List Datum)) (e : Evaluated)
+pub gives-settled : (work : WorkData) (action : ActionData) (rows : List (List Datum))
+    (e : Evaluated)
     → first_raise (local_results work action) ≡ None
     → rows ≡ rows_of_each (local_results work action) → Settles (outcome_of_rows action rows) e
     → Gives work action e

@@ -1,13 +1,15 @@
 -- What an action gives by rows alone, where no partition raises.
-use Rattle.std.proofs.Common.{◌≡◌, ◌∙◌, ◌+◌, ℕ, List, [], ◌∷◌, ◌++◌, None, map, flat_map, refl, ap, sym}
+use Rattle.std.proofs.Common.{◌≡◌, ◌∙◌, ◌+◌, ℕ, List, [], ◌∷◌, None, map, refl, ap, sym}
 use Rattle.std.specs.List.{position_from}
+use Rattle.sc_base.specs.Trees.{Path}
 use Rattle.sc_value.specs.Datum.{Datum}
-use Rattle.sc_lineage.specs.Actions.{first_raise, local_results, outcome_of_rows, rows_of_each}
+use Rattle.sc_value.specs.Printing.{printed_lines}
+use Rattle.sc_lineage.specs.Actions.{first_raise, local_results, outcome_of_results, outcome_of_rows, rows_of_each, saves, unless_never}
 use Rattle.sc_lineage.specs.Meaning.{bounds_between, bounds_step, known_of, local_streams, meanings_by}
 use Rattle.sc_lineage.specs.NodeData.{shuffle_node, sort_by_key}
-use Rattle.sc_lineage.specs.ScriptData.{ActionData, WorkData}
+use Rattle.sc_lineage.specs.ScriptData.{ActionData, WorkData, save_action}
 use Rattle.sc_lineage.specs.Streams.{raises, whole_stream}
-use Rattle.sc_compute.specs.Evaluations.{Gives, Settles}
+use Rattle.sc_compute.specs.Evaluations.{Gives, Settles, local_outcome}
 use Rattle.sc_compute.specs.Stages.{bounds_at, node_at}
 use Rattle.sc_compute.specs.declared.evaluation.Evaluated.{Evaluated}
 use Rattle.sc_compute.proofs.OutcomeLemmas.{gives-settled}
@@ -31,6 +33,17 @@ gives-rows work action results e are settles =
     gives-settled work action results e
     (ap first_raise are ∙ none_raises 0 results)
     (sym (ap rows_of_each are ∙ rows_of_whole results)) settles
+
+-- what a save gives, where no result raises: the lines of the rows of each
+pub saved_parts : (work : WorkData) (node : ℕ) (dir : Path) (results : List (List Datum))
+    → local_results work (save_action node dir) ≡ map whole_stream results
+    → local_outcome work (save_action node dir) ≡ saves dir (map printed_lines results)
+saved_parts work node dir results are =
+    let streams = map whole_stream results in
+    ap (outcome_of_results (save_action node dir)) are
+    ∙ ap (λ raised. unless_never raised (saves dir (map printed_lines (rows_of_each streams))))
+    (none_raises 0 results)
+    ∙ ap (λ rows. saves dir (map printed_lines rows)) (rows_of_whole results)
 
 -- the bounds of a sort are those between the rows of its parent
 pub bounds_of_sort : (work : WorkData) (node parent n : ℕ) (results : List (List Datum))

@@ -1,5 +1,5 @@
 -- What saves leave, one behind another.
-use Rattle.std.proofs.Common.{◌≡◌, ◌≢◌, ◌∙◌, ◌⊎◌, inl, inr, ℕ, zero, suc, ◌+◌, true, false, true≢false, All, List, [], ◌∷◌, Option, Some, None, Ok, Err, map, refl, ap, sym, subst, arith}
+use Rattle.std.proofs.Common.{◌≡◌, ◌≢◌, ◌∙◌, ◌⊎◌, inl, inr, ℕ, zero, suc, ◌+◌, false, true≢false, All, List, [], ◌∷◌, Option, Some, None, Ok, Err, map, refl, ap, sym, subst, arith}
 use Rattle.std.specs.Prelude.{slice_get, take, unwrap_or}
 use Rattle.std.specs.List.{IsDistinct, cons_option}
 use Rattle.std.specs.Str.{bytes_eq}

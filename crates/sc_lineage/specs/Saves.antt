@@ -4,8 +4,8 @@ use Rattle.std.specs.List.{All, IsDistinct, filter_map}
 use Rattle.std.specs.Str.{bytes_eq}
 use Rattle.sc_base.specs.Saves.{IsApart, saved_tree}
 use Rattle.sc_base.specs.Trees.{Tree, Path, has_dir, lies_under}
-use Rattle.sc_lineage.specs.Actions.{ActionOutcome, prints, saves, faults, never, action_outcome}
-use Rattle.sc_lineage.specs.ScriptData.{ActionData, collect_action, count_action, reduce_action, save_action, ScriptData, WorkData}
+use Rattle.sc_lineage.specs.Actions.{ActionOutcome, saves, action_outcome}
+use Rattle.sc_lineage.specs.ScriptData.{ActionData, save_action, ScriptData, WorkData}
 
 -- the directory that an action saves to, if it saves
 abbrev pub dir_of_action : ActionData → Option Path

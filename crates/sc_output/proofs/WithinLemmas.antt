@@ -1,14 +1,11 @@
 -- What a commit leaves as it was.
-use Rattle.std.proofs.Common.{◌≡◌, ◌≢◌, ◌∙◌, ◌⊎◌, inl, inr, ℕ, suc, ◌&&◌, ◌||◌, Bool, true, false, true≢false, cond, not, List, [], ◌∷◌, ◌++◌, bytes_eq, refl, ap, sym, subst}
-use Rattle.std.specs.Prelude.{codes, Some, None}
-use Rattle.std.specs.Cmp.Lexicographic.{nat_list_cmp_total}
-use Rattle.std.specs.FinMap as maps
-use Rattle.std.specs.FinSet as sets
+use Rattle.std.proofs.Common.{◌≡◌, ◌≢◌, ◌∙◌, ◌⊎◌, inl, inr, ℕ, ◌&&◌, ◌||◌, Bool, true, false, true≢false, cond, not, List, [], ◌∷◌, ◌++◌, bytes_eq, refl, ap, sym, subst}
+use Rattle.std.specs.Prelude.{codes, None}
 use Rattle.sc_base.specs.Saves.{final_path, five_digits, success_path}
 use Rattle.sc_base.specs.Trees.{Tree, Path, file_at, has_dir, is_in, lies_under, moved, with_file, without_file, without_tree}
 use Rattle.sc_base.proofs.PathLemmas.{lies_under-child, lies_under-deeper}
 use Rattle.sc_base.proofs.SaveLemmas.{outside-not}
-use Rattle.sc_base.proofs.TreeLemmas.{file_at-moved_other, file_at-with_file_other, file_at-without_file_other, file_at-without_tree, has_dir-without_tree, ties-other}
+use Rattle.sc_base.proofs.TreeLemmas.{file_at-moved_other, file_at-with_file_other, file_at-without_file_other, file_at-without_tree, has_dir-without_tree}
 use Rattle.sc_ids.specs.declared.attempts.AttemptId.{AttemptId}
 use Rattle.sc_output.specs.Calls.{Call, IsAfterFailed, IsPartOfTheWay, IsStoppedAt, after_call, after_calls, remove_call, rename_call, write_call}
 use Rattle.sc_output.specs.Commits.{commit_calls}

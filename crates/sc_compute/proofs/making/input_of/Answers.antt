@@ -1,4 +1,4 @@
-use Rattle.std.proofs.Common.{◌∙◌, [], List, Bor, Option, Some, Vec, length, ap, sym, subst, arith}
+use Rattle.std.proofs.Common.{◌∙◌, [], List, Bor, Option, Vec, length, ap, sym, subst, arith}
 use Rattle.std.specs.Option.{option_map}
 use Rattle.std.specs.declared.alloc.Global.{Global}
 use Rattle.sc_base.specs.Lists.{at_or}

@@ -13,6 +13,7 @@ returns-clause-settles c = λ rows are.
 pub returns-clause-gives : goal.returns-clause-gives
 returns-clause-gives c = λ work are.
     let action = action_data_of c.args.action.now in
-    IfOk-weaker c.outcome.result _ _ (λ e settles. gives-rows work action are.rows e are.whole settles)
+    IfOk-weaker c.outcome.result _ _
+    (λ e settles. gives-rows work action are.rows e are.whole settles)
     (gathered_settles action c.args.results.items are.rows c.in_ok-gathered.gathered
     c.outcome.result are.told c.in_ok-gathered.ensures (c.outcome.ensures action))
