@@ -14,7 +14,8 @@ invariant_of-self-2 g c =
     let after = desk_data c.self.inside.job c.self.inside.carried
     c.enter_aside-answer.new.journal.0 c.self.inside.results.items
     c.enter_aside-answer.new.shelf.items c.self.inside.ordered in
-    aside_keeps g.W.Naming.work d after c.args.by (Move c.args.attempt c.told_of-renamed.result) c.enter_aside-answer.result
+    aside_keeps g.W.Naming.work d after c.args.by (Move c.args.attempt c.told_of-renamed.result)
+    c.enter_aside-answer.result
     c.reserve.new.self.0 c.reserve.ensures.same c.self.invariant
     (subst IsSoundCore c.core-2.ensures c.is_sound.ensures) c.is_replay.ensures
     c.enter_aside-answer.ensures.step c.enter_aside-answer.ensures.entry
