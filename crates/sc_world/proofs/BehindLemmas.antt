@@ -94,6 +94,18 @@ learnt_tied stores t task (findings.Metadata last) after tied says learns =
     nothing : (o : Option BlockId) → Learns t o (outcome_of (findings.Metadata last)) after → ⊥
     nothing None l = l
     nothing (Some b) l = l
+learnt_tied stores t task (findings.Device fault) after tied says learns =
+    absurd (nothing (block_of_task task) learns)
+  where
+    nothing : (o : Option BlockId) → Learns t o (outcome_of (findings.Device fault)) after → ⊥
+    nothing None l = l
+    nothing (Some b) l = l
+learnt_tied stores t task findings.Denied after tied says learns =
+    absurd (nothing (block_of_task task) learns)
+  where
+    nothing : (o : Option BlockId) → Learns t o (outcome_of findings.Denied) after → ⊥
+    nothing None l = l
+    nothing (Some b) l = l
 
 -- ---- cores
 

@@ -103,6 +103,8 @@ is_received work d by report (posted.Early back due) after known in_time (of, ea
     in_both findings.Planned le bad = bad
     in_both (findings.Raised r) le bad = bad
     in_both (findings.Metadata last) le bad = bad
+    in_both (findings.Device fault) le bad = bad
+    in_both findings.Denied le bad = bad
 
 -- one that an executor of a world has to tell is
 pub posts_received : {W : _} (work : WorkData) (w : WorldData) (exec : ℕ) (report : ReportData)

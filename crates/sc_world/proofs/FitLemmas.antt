@@ -142,6 +142,8 @@ report_fits work c r t finding numbered task same true_of from no_save =
     by (findings.Metadata last) given from =
         any_there (was_last last) t.hand_out.inputs (locations.Missing (Some last)) given
         (same_loc last)
+    by (findings.Device fault) is bad = absurd bad
+    by findings.Denied is bad = absurd bad
 
 -- ---- what is handed out stands
 

@@ -55,6 +55,8 @@ says_later before after later t (findings.Gone on wanted found) h =
     let le : found ≤ generation_at before on = h in
     omega (arith, up, le)
 says_later before after later t (findings.Metadata last) h = h
+says_later before after later t (findings.Device fault) h = h
+says_later before after later t findings.Denied h = h
 
 brings_later : (before after : List StoreData) → AreLater before after → (exec : ℕ)
     (a : AttemptData) → Brings before exec a → Brings after exec a

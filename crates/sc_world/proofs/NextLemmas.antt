@@ -113,3 +113,5 @@ report_in_time work w exec t finding sound held = by finding right.brings.0
         let due : generation_at w.stores on ≤ wipes_due work (core_in w).told on = sound.due on in
         omega (arith, le, due)
     by (findings.Metadata last) says = tt
+    by (findings.Device fault) says = tt
+    by findings.Denied says = tt

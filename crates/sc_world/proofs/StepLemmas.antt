@@ -82,6 +82,8 @@ computes_on work stores exec t next makes =
     fails (findings.Result given) f = absurd f
     fails (findings.Gone at wanted found) f = absurd f
     fails (findings.Metadata last) f = absurd f
+    fails (findings.Device fault) f = absurd f
+    fails findings.Denied f = absurd f
 
     made : (next : AttemptData) → HasMade work t next
         → (task_of next ≡ t) × Brings stores exec next
@@ -92,6 +94,8 @@ computes_on work stores exec t next makes =
     made (reported u (findings.Raised r)) bad = absurd bad
     made (reported u (findings.Gone at wanted found)) bad = absurd bad
     made (reported u (findings.Metadata last)) bad = absurd bad
+    made (reported u (findings.Device fault)) bad = absurd bad
+    made (reported u findings.Denied) bad = absurd bad
     made (assigned u got) bad = absurd bad
     made (stored u loc) bad = absurd bad
 

@@ -37,9 +37,11 @@ Says stores t (findings.Map loc) = HasPut stores t loc
 Says stores t (findings.Gone on wanted found) = found ≤ generation_at stores on
 Says stores t finding = Unit {0}
 
--- a map output is told of by the executor that has it
+-- a map output is told of by the executor that has it, and no attempt of a world writes files
 abbrev pub IsFrom : ℕ → Finding → Type 0
 IsFrom exec (findings.Map loc) = loc.exec ≡ exec
+IsFrom exec (findings.Device fault) = ⊥
+IsFrom exec findings.Denied = ⊥
 IsFrom exec finding = Unit {0}
 
 -- what an attempt says of stores
