@@ -22,9 +22,8 @@ use Rattle.sc_core.specs.declared.answers.JobState.TheVariants as jobs
 use Rattle.sc_core.specs.declared.running.Running.{Running}
 use Rattle.sc_core.proofs.LookupLemmas.{is_itself, same_is, set_of_newest}
 use Rattle.sc_core.proofs.MoveLemmas.{Moves}
-use Rattle.sc_core.proofs.OfferLemmas.{IsOffered, handed_out_moves, offered}
+use Rattle.sc_core.proofs.OfferLemmas.{IsOffered, handed_out_moves, offered, offered_new}
 use Rattle.sc_core.proofs.ShelfLemmas.{runs_given}
-use Rattle.sc_core.proofs.TakeLemmas.{offered_new}
 use Rattle.sc_lineage.specs.ScriptData.{WorkData}
 use Rattle.sc_net.specs.Reports.{ReportData}
 use Rattle.sc_net.specs.Tasks.{task_data}

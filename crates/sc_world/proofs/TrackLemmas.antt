@@ -17,7 +17,7 @@ use Rattle.sc_base.specs.Lists.{at_or}
 use Rattle.sc_dag.specs.DagData.{DagData, StageState, changed_newest, changed_set, no_stage, stage_at, with_state}
 use Rattle.sc_dag.specs.Losses.{after_seen}
 use Rattle.sc_dag.specs.Outputs.{is_complete}
-use Rattle.sc_dag.specs.Reports.{CompletesMap, FailsStage, after_failed, after_map_success, after_result_success, block_by, completed, completed_if, ended_in_own, in_own_set, is_finished_short, is_of_newest, is_repeat, map_success_of, reaches_limit_in, result_success_of, set_of, succeeded_in_both, succeeded_in_own, with_failed, with_output, with_result}
+use Rattle.sc_dag.specs.Reports.{CompletesMap, FailsStage, after_failed, after_map_success, after_result_success, block_by, completed, completed_if, ended_in_own, in_own_set, is_finished_short, is_of_newest, is_repeat, map_success_of, reaches_limit_in, result_success_of, set_of, succeeded_in_both, succeeded_in_own, told_held, with_failed, with_output, with_result}
 use Rattle.sc_dag.specs.Submission.{IsSubmitted, this_stage, waiting_stages}
 use Rattle.sc_dag.specs.declared.reports.Success.{Success}
 use Rattle.sc_dag.specs.declared.reports.Success.TheVariants as successes
@@ -27,7 +27,7 @@ use Rattle.sc_core.specs.declared.answers.Answer.{Answer}
 use Rattle.sc_core.specs.declared.events.Outcome.{Outcome}
 use Rattle.sc_core.specs.declared.events.Outcome.TheVariants as outcomes
 use Rattle.sc_core.specs.declared.running.Running.{Running}
-use Rattle.sc_taskset.specs.Reports.{after_end, after_held, after_success}
+use Rattle.sc_taskset.specs.Reports.{after_end, after_success}
 use Rattle.sc_taskset.specs.Reports.{after_failure as after_failure_of}
 use Rattle.sc_taskset.specs.TaskSetData.{TaskSetData}
 use Rattle.sc_world.specs.Tracks.{Learns, ReportsMoveTrackers, Tracks, own_block}
@@ -237,7 +237,7 @@ released_frees c a how =
     by : (b : Bool) → holds a (committer_at c.committers a.partition) ≡ b
         → Same c.dag (released c a how).dag
     by true e =
-        rw e (one_same c.dag a.stage (changed_newest (λ set. after_held set a.partition false)))
+        rw e (one_same c.dag a.stage (told_held a.partition false))
     by false e = rw e (itself c.dag)
 
 pub frees_itself : (c : CoreData) → Frees c c
