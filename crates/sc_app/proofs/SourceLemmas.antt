@@ -1,11 +1,12 @@
 -- What holds of a run over what it read from.
-use Rattle.std.proofs.Common.{◌≡◌, ℕ, List, Option, Some, None, subst, sym, ap}
+use Rattle.std.proofs.Common.{◌≡◌, ℕ, List, Option, Some, None, option_map, refl, subst, sym, ap}
 use Rattle.sc_base.specs.Outside.{SourceState}
 use Rattle.sc_gen.specs.Script.{GeneratedData, shown_files}
 use Rattle.sc_words.specs.Words.{command_of}
 use Rattle.sc_words.specs.declared.commands.Command.{Command}
+use Rattle.sc_words.specs.declared.commands.Workload.{Workload}
 use Rattle.std.specs.Prelude.{option_and_then}
-use Rattle.sc_app.specs.Sources.{Over, OverMade, files_made, files_of_words}
+use Rattle.sc_app.specs.Sources.{Over, OverMade, RunsOver, files_for, files_made, files_of_words}
 
 -- what follows of it wherever it was read from holds likewise
 made_weaker : (made : Option GeneratedData) (P Q : SourceState → SourceState → Type 0)
@@ -45,3 +46,17 @@ pub over_none : (words : List (List ℕ)) (P : SourceState → SourceState → T
     (s s' : SourceState) → command_of words ≡ None → P s s' → Over words P s s'
 over_none words P s s' is h =
     subst (λ made. OverMade made P s s') (ap (λ c. option_and_then files_made c) (sym is)) h
+
+-- a command that asks for a workload has the files of it made, and one that doesn't has none
+pub over_workload : (command : Command) (workload : Workload)
+    (P : SourceState → SourceState → Type 0) (s : SourceState)
+    → command.workload ≡ Some workload → RunsOver (files_for command.script workload) P
+    → OverMade (files_made command) P s s
+over_workload command workload P s is h =
+    subst (λ made. OverMade made P s s) (ap (option_map (files_for command.script)) (sym is))
+    (refl, h)
+
+pub over_source : (command : Command) (P : SourceState → SourceState → Type 0)
+    (s s' : SourceState) → command.workload ≡ None → P s s' → OverMade (files_made command) P s s'
+over_source command P s s' is h =
+    subst (λ made. OverMade made P s s') (ap (option_map (files_for command.script)) (sym is)) h

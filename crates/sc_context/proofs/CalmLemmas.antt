@@ -55,7 +55,7 @@ use Rattle.sc_desk.proofs.TrackLemmas.{SeenWithin, ShowsWithin}
 use Rattle.sc_context.proofs.ReadyLemmas.{opened_tracker, sized_all_trust}
 use Rattle.sc_context.proofs.WholeLemmas.{IsThere, IsWhole, all_there}
 use Rattle.sc_core.proofs.TakeCases.{TakesSo, takes_so}
-use Rattle.sc_core.specs.Sides.{IsAside}
+use Rattle.sc_core.specs.Sides.{IsAside, MayHold}
 use Rattle.sc_core.proofs.SideLemmas.{steps_aside}
 
 -- what is heard is not ignored
@@ -191,6 +191,13 @@ pub record IsCalm (c : CoreData) : Type 0 where
   pub unseen : SeenWithin (λ exec. 0) c.dag
   pub inputs : All HasInputs c.running
 
+-- where a partition may be held back, nothing is seen of executors
+held_unseen : (d after : DagData) → MayHold d after → SeenWithin (λ exec. 0) d
+    → SeenWithin (λ exec. 0) after
+held_unseen d after (inl is) h = subst (λ (x : DagData). SeenWithin (λ exec. 0) x) (sym is) h
+held_unseen d after (inr (s, p, denied, is)) h =
+    subst (λ (x : DagData). SeenWithin (λ exec. 0) x) (sym is) h
+
 -- a report that is heard misses no input
 abbrev IsCalmTelling : Telling → Type 0
 IsCalmTelling t = is_heard t.answer ≡ true → misses t.outcome ≡ false
@@ -320,7 +327,7 @@ module _ (work : WorkData) (job : JobData) (empty : work.plan ≡ [])
             sound = steps_keep_sound c after (Post a outcome) answer calm.sound step;
             plan = (posts_pass bound c after a outcome answer calm.sound.told
                 (within_greatest outcome) step).passes.plan ∙ calm.plan;
-            unseen = subst (λ (d : DagData). SeenWithin (λ exec. 0) d) (sym quiet.dag) calm.unseen;
+            unseen = held_unseen c.dag after.dag quiet.dag calm.unseen;
             inputs = inputs;
           }
       by (inr heard) =
