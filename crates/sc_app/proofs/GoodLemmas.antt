@@ -9,7 +9,7 @@ use Rattle.sc_lineage.specs.ScriptData.{input_names}
 use Rattle.sc_read.specs.Reads.{IsMissing, Taken}
 use Rattle.sc_app.specs.declared.ran.Status.{Status}
 use Rattle.sc_app.specs.declared.ran.Status.TheVariants as statuses
-use Rattle.sc_app.specs.Promises.{Ends}
+use Rattle.sc_app.specs.Promises.{Ends, ZeroMeansText}
 use Rattle.sc_app.specs.Good.{AreAllThere, EndsWell, IsGood}
 use Rattle.sc_app.specs.Runs.{RunData, IsNextName}
 use Rattle.sc_app.proofs.ReadingLemmas.{AreTexts-last}
@@ -65,3 +65,8 @@ ends_well run history (statuses.NotText name) ends good =
       plan = ends.read.plan_bytes;
       inputs = ends.inputs ++ (name, ends.bytes) ∷ [];
     }) ends.read.is))
+
+-- and one that is done has printed the meaning
+pub zero_means_text : (run : RunData) (history : List JobHistory) (status : Status)
+    → Ends run history status → ZeroMeansText run status
+zero_means_text run history status ends = λ done. subst (λ s. Ends run history s) done ends

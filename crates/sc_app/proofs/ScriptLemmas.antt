@@ -1,5 +1,5 @@
 -- A script that was read saves nothing: no line is written so yet.
-use Rattle.std.proofs.Common.{◌≡◌, ◌∙◌, ℕ, Bool, true, false, not, if◌then◌else◌, nat_le, nat_lt, List, [], ◌∷◌, ◌++◌, length, Option, Some, None, is_some, Result, Ok, Err, option_map, refl, ap, sym, subst, rules}
+use Rattle.std.proofs.Common.{◌≡◌, ℕ, Bool, true, false, not, if◌then◌else◌, nat_le, nat_lt, List, [], ◌∷◌, length, Option, Some, None, is_some, Result, Ok, Err, option_map, refl, sym, subst}
 use Rattle.std.specs.List.{All}
 use Rattle.std.proofs.lemmas.List.Elements.{All-append, All-cons, All-nil}
 use Rattle.sc_value.specs.Types.{TypeData, type_size}
@@ -9,14 +9,15 @@ use Rattle.sc_lineage.specs.ScriptData.{ActionData, ScriptData, collect_action, 
 use Rattle.sc_expr.specs.ExprData.{ExprData}
 use Rattle.sc_jobs.specs.JobData.{is_saving}
 use Rattle.sc_script.specs.Fitting.{all_heads_known, fits_kinds}
-use Rattle.sc_script.specs.Items.{Two, action_from, expr_arg_at, node_arg_at, node_from, number_of, of_two}
+use Rattle.sc_script.specs.Items.{action_from, expr_arg_at, node_arg_at, node_from, number_of, of_two}
 use Rattle.sc_script.specs.Limits.{action_limit, type_limit}
-use Rattle.sc_script.specs.Lines.{DefinedData, ReadsLine, added_by, checked_action, checked_definition, definition_fits, known_action, known_node, named_action, named_definition, then_added, typed_action, typed_node, with_action, with_node}
+use Rattle.sc_script.specs.Lines.{DefinedData, definition_fits, known_action, known_node, named_action, named_definition, then_added, typed_action, typed_node, with_node}
 use Rattle.sc_script.specs.Scripts.{ReadsLines, ReadsScript, at_fault, behind_adding, behind_skipped, no_line}
 use Rattle.sc_script.specs.Tables.{action_kinds, actions, found_in, operation_kinds, operations}
 use Rattle.sc_script.specs.Trees.{ArgsData, LineData, action_line, definition_line}
+use Rattle.sc_script.specs.declared.arguments.Place.TheVariants.{Two}
 use Rattle.sc_script.specs.declared.faults.FaultKind.{FaultKind}
-use Rattle.sc_script.specs.declared.faults.FaultKind.TheVariants.{IllTyped, Limit, Syntax, Twice, UnknownName}
+use Rattle.sc_script.specs.declared.faults.FaultKind.TheVariants.{Limit, Syntax, Twice, UnknownName}
 use Rattle.sc_script.specs.declared.faults.ScriptFault.{ScriptFault}
 use Rattle.sc_script.specs.declared.tables.ActionName.{ActionName}
 use Rattle.sc_script.specs.declared.tables.ActionName.TheVariants as to

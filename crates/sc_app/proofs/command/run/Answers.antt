@@ -1,10 +1,7 @@
-use Rattle.std.proofs.Common.{subst}
-use Rattle.sc_app.specs.Promises.{Ends}
-use Rattle.sc_app.specs.declared.ran.Status.{Status}
 use Rattle.sc_app.proofs.AbortLemmas.{tells_no_failure}
 use Rattle.sc_app.proofs.ExactlyLemmas.{tells_fault, tells_not_text, tells_plan_fault}
 use Rattle.sc_app.proofs.WithoutTextLemmas.{tells_driver_fault, tells_never}
-use Rattle.sc_app.proofs.GoodLemmas.{ends_well}
+use Rattle.sc_app.proofs.GoodLemmas.{ends_well, zero_means_text}
 use Rattle.sc_app.proofs.JobLemmas.{zero_shows_jobs}
 use Rattle.sc_app.proofs.SourceLemmas.{over_out, over_weaker}
 use Rattle.sc_app.proofs.command.run.Goals as goal
@@ -19,8 +16,7 @@ returns-clause-asked g c =
 
 pub returns-clause-headline : goal.returns-clause-headline
 returns-clause-headline g c =
-    over_weaker _ _ _
-    (λ before after is done. subst (λ (status : Status). Ends _ _ status) done is.ends) _ _
+    over_weaker _ _ _ (λ before after is. zero_means_text _ _ _ is.ends) _ _
     c.run_words-status.ensures.run
 
 pub returns-clause-histories : goal.returns-clause-histories
