@@ -37,8 +37,7 @@ pub runs_over : (made before after : GeneratedData) (P : SourceState → SourceS
 runs_over made before after P is later h =
     let shown : Some after.files ≡ Some before.files = later.shown in
     let same : after.files ≡ made.files =
-    search (rules, shown) ∙ ap (λ (g : GeneratedData). g.files) is in
-    (
+    search (rules, shown) ∙ ap (λ (g : GeneratedData). g.files) is in (
       after.misses,
       subst (λ s. P (shown_files made) s)
           (ap (λ (files : Files). shown_files (record { files = files; misses = after.misses }))

@@ -1,5 +1,5 @@
 -- What happens beside the reports leaves what holds of every desk.
-use Rattle.std.proofs.Common.{◌≡◌, inl, inr, [], ◌∷◌, ◌++◌, ap, sym, subst}
+use Rattle.std.proofs.Common.{◌≡◌, inl, inr, [], ◌∷◌, ◌++◌, sym, subst}
 use Rattle.sc_base.specs.Counts.{Rose}
 use Rattle.sc_base.specs.Outside.{FilesState}
 use Rattle.sc_ids.specs.Failures.{HasRisen}

@@ -1,5 +1,5 @@
 -- One line more.
-use Rattle.std.proofs.Common.{◌≡◌, ℕ, suc, ◌+◌, ◌*◌, ◌++◌, ◌/◌, refl, ap, sym, subst, ◌∙◌, arith}
+use Rattle.std.proofs.Common.{◌≡◌, ℕ, suc, ◌+◌, ◌*◌, ◌++◌, ◌/◌, ap, ◌∙◌, arith}
 use Rattle.sc_gen.specs.Workload.{line, next_number, number_after, workload}
 
 one_more : (k : ℕ) → suc (suc (2 * k)) ≡ 2 * (k + 1)

@@ -1,7 +1,6 @@
 -- Tasks, as plain data.
 use Rattle.std.specs.Prelude.{ℕ, ◌≡◌, Bool, false, List, Option, Some, None, length, refl}
 use Rattle.std.specs.Coded.{Coded, code_by, coded×}
-use Rattle.std.specs.Option.{option_map}
 use Rattle.sc_ids.specs.Graphs.{StageData}
 use Rattle.sc_ids.specs.declared.blocks.BlockId.{BlockId}
 use Rattle.sc_ids.specs.declared.blocks.Target.{Target}

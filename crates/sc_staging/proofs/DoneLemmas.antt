@@ -1,11 +1,11 @@
 -- Which files of attempts stand, by what they did.
-use Rattle.std.proofs.Common.{◌≡◌, ◌≢◌, ◌∙◌, ◌⊎◌, inl, inr, ℕ, ◌&&◌, Bool, true, false, List, [], ◌∷◌, ◌++◌, take, refl, ap, sym, subst}
-use Rattle.std.specs.Prelude.{Some, None, IfSome, is_some}
+use Rattle.std.proofs.Common.{◌≡◌, ◌≢◌, ◌∙◌, ◌⊎◌, inl, inr, ℕ, ◌&&◌, Bool, true, List, [], ◌∷◌, ◌++◌, take, refl, ap, sym, subst}
+use Rattle.std.specs.Prelude.{IfSome, is_some}
 use Rattle.sc_base.specs.Outside.{FilesState}
-use Rattle.sc_base.specs.Trees.{Tree, Path, file_at, has_dir, has_place, moved, with_file, without_file}
+use Rattle.sc_base.specs.Trees.{Tree, Path, file_at, has_dir, has_place, moved, with_file}
 use Rattle.sc_base.proofs.ChangeLemmas.{changes-after}
 use Rattle.sc_base.proofs.TreeLemmas.{file_at-moved, file_at-moved_other, file_at-with_file, file_at-with_file_other, file_at-without_file_other}
-use Rattle.sc_files.specs.Calls.{IsAllOrNothing, IsHalfWritten, can_move}
+use Rattle.sc_files.specs.Calls.{IsAllOrNothing, IsHalfWritten}
 use Rattle.sc_ids.specs.declared.attempts.AttemptId.{AttemptId}
 use Rattle.sc_output.specs.Calls.{IsOpen}
 use Rattle.sc_output.specs.Commits.{AreCommitted, AreWinnersFrom}
@@ -13,9 +13,7 @@ use Rattle.sc_output.specs.Names.{IsWithinTypes, committed_path, staged_path, st
 use Rattle.sc_output.proofs.NameLemmas.{committed-injective, staged-committed, staged-injective}
 use Rattle.sc_staging.specs.Done.{Deed, DidLast, DidNone, Done, HasFiles, HaveRenamed, StandsBy, broke, done_by, rename_deed, renamed, text_of, write_deed, wrote}
 use Rattle.sc_staging.specs.Laws.{FilesStand}
-use Rattle.sc_staging.specs.Opening.{opened_tree}
 use Rattle.sc_staging.specs.Parts.{EndsPart, part_rename, part_write}
-use Rattle.sc_staging.specs.Renewal.{renewed_tree}
 use Rattle.sc_staging.specs.StagingData.{AreThere}
 use Rattle.sc_staging.specs.declared.parts.Written.{Written}
 use Rattle.sc_staging.specs.declared.parts.Written.TheVariants as ends

@@ -1,5 +1,5 @@
 -- Two directories that are made one behind the other.
-use Rattle.std.proofs.Common.{◌≡◌, ◌≢◌, ◌∙◌, inl, inr, true, false, true≢false, refl, ap, sym, subst}
+use Rattle.std.proofs.Common.{◌≡◌, ◌≢◌, ◌∙◌, inr, true, false, true≢false, ap, sym, subst}
 use Rattle.std.specs.Prelude.{Option, Some, None, IfSome}
 use Rattle.sc_base.specs.Counts.{Rose}
 use Rattle.sc_base.specs.Outside.{FilesState, Changes, IsQuietFiles}

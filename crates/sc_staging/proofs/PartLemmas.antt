@@ -1,8 +1,6 @@
 -- Calls for the parts of attempts.
-use Rattle.std.proofs.Common.{◌≡◌, ◌∙◌, ℕ, append-nil, true, List, [], ◌∷◌, refl, ap, sym, subst}
-use Rattle.std.specs.Prelude.{codes, decimal, Option, Some, None, IfSome, IfOk, Result}
-use Rattle.std.specs.declared.alloc.AllocError.{AllocError}
-use Rattle.sc_base.specs.Outside.{FilesState}
+use Rattle.std.proofs.Common.{◌≡◌, ◌∙◌, ℕ, append-nil, true, List, [], ◌∷◌, refl, ap, subst}
+use Rattle.std.specs.Prelude.{codes, decimal, Option, Some, None, IfSome}
 use Rattle.sc_base.specs.Trees.{Tree, Path, dir_part, dir_step, has_place}
 use Rattle.sc_base.proofs.ChangeLemmas.{if_some-weaker}
 use Rattle.sc_base.proofs.PathLemmas.{dir_part-append}

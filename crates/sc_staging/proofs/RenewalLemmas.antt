@@ -1,13 +1,12 @@
 -- A staging area that is removed and made anew.
 use Rattle.std.proofs.Common.{◌≡◌, ◌∙◌, ◌&&◌, Bool, true, false, true≢false, not, inl, inr, refl, ap, sym, subst}
 use Rattle.std.specs.Prelude.{Option, Some, None}
-use Rattle.sc_base.specs.Counts.{Rose}
-use Rattle.sc_base.specs.Outside.{FilesState, Changes, IsQuietFiles}
-use Rattle.sc_base.specs.Trees.{Tree, Path, has_dir, is_in, with_dir, without_tree}
+use Rattle.sc_base.specs.Outside.{FilesState, Changes}
+use Rattle.sc_base.specs.Trees.{Tree, Path, has_dir, with_dir, without_tree}
 use Rattle.sc_base.proofs.ChangeLemmas.{changes-after, changes-compose}
 use Rattle.sc_base.proofs.PathLemmas.{is_in-itself}
 use Rattle.sc_base.proofs.TreeLemmas.{has_dir-with_dir, has_dir-without_tree}
-use Rattle.sc_files.specs.Calls.{CountsClash, IsMakeCause, IsRemoveCause, Turns}
+use Rattle.sc_files.specs.Calls.{IsMakeCause, IsRemoveCause}
 use Rattle.sc_files.specs.declared.files.FileAnswer.TheVariants as ends
 use Rattle.sc_files.specs.declared.files.MakeAnswer.TheVariants as makes
 use Rattle.sc_output.specs.Calls.{IsNotDone}

@@ -1,8 +1,7 @@
 -- What a commit leaves of what attempts did.
-use Rattle.std.proofs.Common.{◌≡◌, ◌∙◌, ℕ, zero, suc, ◌+◌, List, [], ◌∷◌, length, refl, ap, sym, subst, arith}
+use Rattle.std.proofs.Common.{◌≡◌, ◌∙◌, ℕ, suc, ◌+◌, List, [], ◌∷◌, length, ap, sym, arith}
 use Rattle.std.specs.Prelude.{Option, Some, None, IfSome}
 use Rattle.sc_base.specs.Lists.{at_or}
-use Rattle.sc_base.specs.Outside.{FilesState}
 use Rattle.sc_base.specs.Trees.{Tree, Path}
 use Rattle.sc_base.proofs.ChangeLemmas.{changes-after}
 use Rattle.sc_ids.specs.declared.attempts.AttemptId.{AttemptId}

@@ -1,14 +1,12 @@
 -- A save under way, call by call.
-use Rattle.std.proofs.Common.{◌≡◌, ◌≢◌, ◌∙◌, inl, inr, true, false, true≢false, refl, ap, sym}
+use Rattle.std.proofs.Common.{◌≡◌, ◌≢◌, ◌∙◌, inr, false, true≢false, refl, ap, sym}
 use Rattle.sc_base.specs.Outside.{FilesState, Changes}
 use Rattle.sc_base.specs.Trees.{Tree, Path, file_at, lies_under, moved, with_dir, with_file}
 use Rattle.sc_base.proofs.ChangeLemmas.{changes-weaker}
-use Rattle.sc_base.proofs.PathLemmas.{lies_under-append}
 use Rattle.sc_base.proofs.TreeLemmas.{file_at-with_file_other}
 use Rattle.sc_files.specs.Calls.{IsAllOrNothing, IsHalfWritten}
 use Rattle.sc_ids.specs.declared.attempts.AttemptId.{AttemptId}
-use Rattle.sc_output.specs.Names.{committed_path, dashed, staged_path, staging_path}
-use Rattle.sc_output.specs.Saved.{IsUnderWay}
+use Rattle.sc_output.specs.Names.{committed_path, staged_path, staging_path}
 use Rattle.sc_output.proofs.NameLemmas.{committed-under, names_lie_within}
 use Rattle.sc_output.proofs.SavedLemmas.{aborted_is_empty}
 use Rattle.sc_staging.specs.Laws.{StaysUnderWay, WaysGoOn}

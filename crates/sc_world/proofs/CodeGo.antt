@@ -21,7 +21,7 @@ use Rattle.sc_task.specs.declared.next.Next.TheVariants.{Complete, Fetch, Missin
 use Rattle.sc_world.specs.Places.{AreInOrder, ComputesAt, FetchStands, FetchesTo, NextStands}
 use Rattle.sc_world.specs.Steps.{HasMade, Makes, ReadsAt, ReadsNext, phase_of, phase_reading}
 use Rattle.sc_world.specs.declared.places.AttemptState.TheVariants as phases
-use Rattle.sc_world.specs.Ties.{StandsAt, StandsIn}
+use Rattle.sc_world.specs.Ties.{StandsIn}
 
 got_is : {A : Type 0} (xs : List A) (i : ℕ) (x d : A) → slice_get xs i ≡ Some x → get_or xs i d ≡ x
 got_is [] zero x d e = absurd (search (rules, e))

@@ -1,5 +1,5 @@
 -- Orders of a fault plan that wipe.
-use Rattle.std.proofs.Common.{◌≡◌, ℕ, ◌+◌, ◌<◌, ◌≤◌, true, List, Option, Some, length, refl, sym, ◌∙◌, arith, rules, true≢false}
+use Rattle.std.proofs.Common.{◌≡◌, ℕ, ◌≤◌, true, List, Some, length, sym, arith, rules, true≢false}
 use Rattle.sc_plan.specs.Orders.{Due, due_count, nth_order, wipes_of}
 use Rattle.sc_plan.specs.declared.lines.PlanLine.{PlanLine}
 use Rattle.sc_plan.specs.declared.orders.Order.{Order}

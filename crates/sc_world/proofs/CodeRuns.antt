@@ -15,7 +15,7 @@ use Rattle.sc_desk.specs.Entries.{Enters}
 use Rattle.sc_world.specs.Runs.{Reaches, Runs}
 use Rattle.sc_world.specs.Serial.{GoesOn, IsSameJob}
 use Rattle.sc_world.specs.Steps.{Computes, EvictsOne, Goes, HandsOrder, LosesOne, Posts, Puts, Reads, ReleasesOne, Takes, WipesOne, given_to}
-use Rattle.sc_world.specs.WorldData.{WorldData, with_desk}
+use Rattle.sc_world.specs.WorldData.{WorldData}
 use Rattle.sc_world.specs.declared.steps.Applied.{Applied}
 use Rattle.sc_world.specs.declared.steps.Applied.TheVariants as applied
 use Rattle.sc_world.specs.declared.steps.Step.{Step}

@@ -1,5 +1,5 @@
 -- What the calls on places and stores do, as steps of a world.
-use Rattle.std.proofs.Common.{◌≡◌, ◌≢◌, ℕ, zero, suc, ◌<◌, ◌≤◌, Bool, true, false, List, [], ◌∷◌, Option, Some, None, IfSome, length, slice_get, refl, ap, ap₂, sym, subst, ◌∙◌, arith, rules}
+use Rattle.std.proofs.Common.{◌≡◌, ℕ, true, List, Option, Some, None, IfSome, slice_get, refl, ap, ap₂, subst, ◌∙◌}
 use Rattle.sc_base.specs.Lists.{at_or}
 use Rattle.sc_ids.specs.Changes.{change_at}
 use Rattle.sc_ids.specs.declared.attempts.Mark.TheVariants.{Driver}
@@ -15,10 +15,7 @@ use Rattle.sc_store.specs.declared.answers.WipeAnswer.{WipeAnswer}
 use Rattle.sc_net.specs.Reports.{loc_at, report_data}
 use Rattle.sc_net.specs.Tasks.{TaskData}
 use Rattle.sc_net.specs.declared.findings.Finding.{Finding}
-use Rattle.sc_task.specs.Attempts.{AttemptData, assigned, computed, stored, reported}
-use Rattle.sc_task.specs.Nexts.{next_of}
-use Rattle.sc_task.specs.declared.next.Next.{Next}
-use Rattle.sc_task.specs.declared.next.Next.TheVariants.{Complete, Fetch, Missing}
+use Rattle.sc_task.specs.Attempts.{AttemptData, assigned, reported}
 use Rattle.sc_desk.specs.DeskData.{DeskData}
 use Rattle.sc_desk.specs.Orders.{IsDueAmong}
 use Rattle.sc_desk.specs.Posts.{Receives}
@@ -27,10 +24,8 @@ use Rattle.sc_desk.specs.declared.receipts.Receipt.{Receipt}
 use Rattle.sc_desk.specs.declared.takes.Taken.{Taken}
 use Rattle.sc_desk.specs.declared.takes.Taken.TheVariants as takes
 use Rattle.sc_world.specs.Places.{ComputesAmong, EvictsAmong, PutsAmong, ReadsAmong, WipesAmong, held_with}
-use Rattle.sc_world.specs.Steps.{Computes, EvictsOne, Posts, Puts, Reads, Takes, WipesOne, given_to, phase_of}
-use Rattle.sc_world.specs.WorldData.{WorldData, core_in, held_at, with_desk, world_data}
-use Rattle.sc_world.specs.declared.places.AttemptState.{AttemptState}
-use Rattle.sc_world.specs.declared.places.AttemptState.TheVariants as phases
+use Rattle.sc_world.specs.Steps.{Computes, EvictsOne, Posts, Puts, Reads, Takes, WipesOne, given_to}
+use Rattle.sc_world.specs.WorldData.{WorldData, core_in, world_data}
 
 -- ---- steps
 

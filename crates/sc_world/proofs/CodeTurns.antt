@@ -1,5 +1,5 @@
 -- What turns leave: who rests, and how much is left to do.
-use Rattle.std.proofs.Common.{◌≡◌, ◌≢◌, inl, inr, ℕ, ◌+◌, ◌-◌, ◌<◌, ◌≤◌, ◌==◌, ◌&&◌, Bool, true, false, not, Contains, List, [], ◌∷◌, Option, Some, None, IfSome, cond, get_or, is_some, length, nat_le, slice_get, refl, ap, sym, subst, ◌∙◌, arith, rules}
+use Rattle.std.proofs.Common.{◌≡◌, ◌≢◌, inl, inr, ℕ, ◌+◌, ◌<◌, ◌≤◌, ◌==◌, ◌&&◌, Bool, true, false, not, Contains, List, [], ◌∷◌, Option, Some, None, IfSome, cond, get_or, is_some, length, nat_le, slice_get, refl, ap, sym, subst, ◌∙◌, arith, rules}
 use Rattle.std.specs.List.{find}
 use Rattle.std.specs.Option.{option_map}
 use Rattle.std.proofs.lemmas.Bool.Decides.{nat_tests}
@@ -14,7 +14,6 @@ use Rattle.sc_ids.specs.declared.blocks.Loc.{Loc}
 use Rattle.sc_ids.proofs.ChangeLemmas.{at_or_change_other, at_or_change_same}
 use Rattle.sc_taskset.proofs.FindLemmas.{found_is, found_passes}
 use Rattle.sc_tracker.specs.declared.outputs.Location.{Location}
-use Rattle.sc_tracker.specs.declared.outputs.Location.TheVariants as locations
 use Rattle.sc_dag.specs.Offers.{HasNone}
 use Rattle.sc_dag.proofs.Tests.{clash}
 use Rattle.sc_core.specs.CoreData.{CoreData, has_key, held_by, is_out_on, job_runs, running_of, shelved_of, under_way}
@@ -24,7 +23,6 @@ use Rattle.sc_core.specs.Releases.{has_no_shelved}
 use Rattle.sc_core.specs.Sound.{IsSoundCore}
 use Rattle.sc_core.specs.Steps.{Steps}
 use Rattle.sc_core.specs.Takes as taking
-use Rattle.sc_core.specs.declared.answers.Abort.TheVariants as aborts
 use Rattle.sc_core.specs.declared.answers.Answer.{Answer}
 use Rattle.sc_core.specs.declared.answers.Answer.TheVariants as says
 use Rattle.sc_core.specs.declared.events.Event.{Event}

@@ -1,5 +1,5 @@
 -- What holds of every world.
-use Rattle.std.specs.Prelude.{ℕ, ◌≡◌, ◌≤◌, true, List, [], Option, Some, None, IfSome, length, slice_get, Contains}
+use Rattle.std.specs.Prelude.{ℕ, ◌≡◌, ◌≤◌, true, List, [], Some, None, IfSome, length, slice_get, Contains}
 use Rattle.std.specs.List.{All, AllZip}
 use Rattle.sc_ids.specs.declared.blocks.BlockId.{BlockId}
 use Rattle.sc_ids.specs.declared.blocks.Loc.{Loc}

@@ -1,5 +1,5 @@
 -- What ties what the tracker knows to what lies in the stores.
-use Rattle.std.specs.Prelude.{ℕ, ◌≤◌, ◌≡◌, ◌≢◌, List, Option, Some, None, IfSome, IsSomeAnd, slice_get}
+use Rattle.std.specs.Prelude.{ℕ, ◌≤◌, ◌≢◌, List, Option, Some, None, IfSome, IsSomeAnd, slice_get}
 use Rattle.sc_ids.specs.declared.blocks.BlockId.{BlockId}
 use Rattle.sc_ids.specs.declared.blocks.Loc.{Loc}
 use Rattle.sc_tracker.specs.TrackerData.{TrackerData, output_of, trust_of}

@@ -1,4 +1,4 @@
-use Rattle.std.proofs.Common.{◌≡◌, ap, ◌∙◌, ◌++◌, ◌/◌}
+use Rattle.std.proofs.Common.{ap, ◌∙◌, ◌++◌, ◌/◌}
 use Rattle.sc_gen.proofs.DrawLemmas.{line_more, two_more}
 use Rattle.sc_gen.specs.Workload.{line}
 use Rattle.sc_gen.proofs.lines.workload.Goals as goal

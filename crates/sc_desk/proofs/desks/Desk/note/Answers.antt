@@ -1,4 +1,4 @@
-use Rattle.std.proofs.Common.{◌≡◌, refl, subst, sym}
+use Rattle.std.proofs.Common.{refl, subst}
 use Rattle.sc_core.specs.Sound.{IsSoundCore}
 use Rattle.sc_desk.specs.DeskData.{desk_data}
 use Rattle.sc_desk.proofs.AsideLemmas.{aside_keeps}

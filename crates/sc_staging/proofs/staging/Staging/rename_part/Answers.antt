@@ -1,4 +1,4 @@
-use Rattle.std.proofs.Common.{subst, sym}
+use Rattle.std.proofs.Common.{subst}
 use Rattle.std.specs.Prelude.{IfOk}
 use Rattle.sc_output.specs.Calls.{rename_call}
 use Rattle.sc_output.specs.Names.{committed_path}

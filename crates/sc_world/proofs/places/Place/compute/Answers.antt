@@ -1,6 +1,6 @@
-use Rattle.std.proofs.Common.{◌≡◌, Option, Some, ap, refl, rules, subst, sym, ◌∙◌}
+use Rattle.std.proofs.Common.{Some, ap, sym, ◌∙◌}
 use Rattle.std.specs.Option.{option_map}
-use Rattle.sc_task.specs.Attempts.{AttemptData, assigned, attempt_data_of}
+use Rattle.sc_task.specs.Attempts.{attempt_data_of}
 use Rattle.sc_world.proofs.CodeGo.{computes_at}
 use Rattle.sc_world.proofs.places.Place.compute.Goals as goal
 

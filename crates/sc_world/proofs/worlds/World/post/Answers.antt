@@ -1,4 +1,4 @@
-use Rattle.std.proofs.Common.{◌≡◌, subst, sym, ◌∙◌}
+use Rattle.std.proofs.Common.{subst, sym, ◌∙◌}
 use Rattle.sc_world.specs.Runs.{IsWorld}
 use Rattle.sc_world.specs.Steps.{Posts}
 use Rattle.sc_world.specs.WorldData.{WorldData, world_data}

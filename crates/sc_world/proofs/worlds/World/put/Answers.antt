@@ -1,6 +1,6 @@
 use Rattle.std.proofs.Common.{◌≡◌, ap₂, subst, sym}
 use Rattle.sc_world.specs.Runs.{IsWorld}
-use Rattle.sc_world.specs.WorldData.{WorldData, world_data}
+use Rattle.sc_world.specs.WorldData.{world_data}
 use Rattle.sc_world.proofs.CodeKeeps.{both_err, either_if, puts_keep}
 use Rattle.sc_world.proofs.worlds.World.put.Goals as goal
 
