@@ -1,6 +1,6 @@
 -- Which arguments are of which kinds: one definition for lines and for lists in parentheses.
-use Rattle.std.specs.Prelude.{ℕ, Bool, true, false, ◌&&◌, ◌==◌, not, List, [], ◌∷◌, length, is_some}
-use Rattle.std.specs.List.{list_any}
+use Rattle.std.specs.Prelude.{ℕ, Bool, true, false, ◌&&◌, ◌==◌, not, List, [], ◌∷◌, codes, length, is_some}
+use Rattle.std.specs.List.{ends_with, list_any}
 use Rattle.std.specs.Str.{chars}
 use Rattle.sc_script.specs.declared.tables.ArgKind.{ArgKind}
 use Rattle.sc_script.specs.declared.tables.ArgKind.TheVariants as kinds
@@ -11,6 +11,10 @@ use Rattle.sc_script.specs.Tables.{named_head, kinds_of}
 abbrev pub is_input_name : List ℕ → Bool
 is_input_name [] = false
 is_input_name (c ∷ cs) = not (list_any (λ d. d == 0) (c ∷ cs))
+
+-- likewise, and it doesn't end in a slash
+abbrev pub is_directory_name : List ℕ → Bool
+is_directory_name t = is_input_name t && not (ends_with (λ c d. c == d) t (codes "/"))
 
 -- a text of one character
 abbrev pub is_character : List ℕ → Bool
@@ -28,6 +32,7 @@ takes_int k = false
 -- this text may stand here
 abbrev pub takes_text : ArgKind → List ℕ → Bool
 takes_text kinds.Input t = is_input_name t
+takes_text kinds.Directory t = is_directory_name t
 takes_text kinds.Literals t = true
 takes_text kinds.Texts t = true
 takes_text kinds.Expr t = true

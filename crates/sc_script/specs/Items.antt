@@ -8,7 +8,7 @@ use Rattle.sc_expr.specs.declared.exprs.Head.{Head}
 use Rattle.sc_expr.specs.declared.exprs.Variable.TheVariants.{X, A, B}
 use Rattle.sc_expr.specs.ExprData.{ExprData, int_expr, bool_expr, text_expr, variable_expr, call_expr, ExprsData, no_exprs, more_exprs}
 use Rattle.sc_lineage.specs.NodeData.{ShufflingData, reduce_by_key, group_by_key, sort_by_key, repartition, NodeData, text_node, parallelize_node, each_node, union_node, coalesce_node, cache_node, shuffle_node, meet_node}
-use Rattle.sc_lineage.specs.ScriptData.{ActionData, collect_action, count_action, reduce_action}
+use Rattle.sc_lineage.specs.ScriptData.{ActionData, collect_action, count_action, reduce_action, save_action}
 use Rattle.sc_script.specs.declared.arguments.Place.{Place}
 use Rattle.sc_script.specs.declared.arguments.Place.TheVariants.{Row, Two}
 use Rattle.sc_script.specs.declared.tables.Operation.{Operation}
@@ -183,3 +183,5 @@ action_from names to.Collect args = option_map collect_action (node_arg_at names
 action_from names to.Count args = option_map count_action (node_arg_at names args 0)
 action_from names to.Reduce args =
     of_two reduce_action (node_arg_at names args 0) (expr_arg_at Two args 1)
+action_from names to.Save args =
+    of_two save_action (node_arg_at names args 0) (text_arg_at args 1)

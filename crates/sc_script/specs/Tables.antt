@@ -49,6 +49,7 @@ actions =
     (codes "collect", to.Collect)
     ∷ (codes "count", to.Count)
     ∷ (codes "reduce", to.Reduce)
+    ∷ (codes "save", to.Save)
     ∷ []
 
 -- the heads that are signs
@@ -109,6 +110,7 @@ abbrev pub action_kinds : ActionName → List ArgKind
 action_kinds to.Collect = kinds.Node ∷ []
 action_kinds to.Count = kinds.Node ∷ []
 action_kinds to.Reduce = kinds.Node ∷ kinds.Expr ∷ []
+action_kinds to.Save = kinds.Node ∷ kinds.Directory ∷ []
 
 -- what a head takes
 abbrev pub head_kinds : Head → List ArgKind

@@ -2,7 +2,7 @@
 #![tactic(auto)]
 
 ghost use Rattle.std.specs.Prelude.{◌≡◌, ◌<◌, length, map};
-ghost use Rattle.sc_script.specs.Fitting.{all_behind, all_heads_known, fits_kinds, is_character, is_input_name, is_of_kind, may_end, takes_int, takes_list, takes_text, takes_word};
+ghost use Rattle.sc_script.specs.Fitting.{all_behind, all_heads_known, fits_kinds, is_character, is_directory_name, is_input_name, is_of_kind, may_end, takes_int, takes_list, takes_text, takes_word};
 ghost use Rattle.sc_script.specs.Views.{args_of, arg_data_of};
 
 use crate::tables::{ArgKind, head_named, head_takes};
@@ -75,6 +75,7 @@ fn takes_text(kind: ArgKind, text: &str) -> bool
 {
     match kind {
         ArgKind::Input => is_input_name(text),
+        ArgKind::Directory => is_directory_name(text),
         ArgKind::Character => is_character(text),
         ArgKind::Literals | ArgKind::Texts | ArgKind::Expr | ArgKind::Exprs => true,
         ArgKind::Count | ArgKind::Ints | ArgKind::Node => false,
@@ -125,6 +126,13 @@ fn is_input_name(text: &str) -> bool
     ensures { result ≡ is_input_name text.now }
 {
     !text.is_empty() && !text.as_bytes().contains(&0)
+}
+
+/// Whether a text may name a directory: likewise, and it doesn't end in a slash.
+fn is_directory_name(text: &str) -> bool
+    ensures { result ≡ is_directory_name text.now }
+{
+    is_input_name(text) && !text.as_bytes().ends_with(b"/")
 }
 
 /// Whether a text is one character.

@@ -158,5 +158,10 @@ pub(crate) fn action_of(
             let expr = expr_arg(alloc, Place::Two, &mut args)?;
             Ok(Action::Reduce { node, expr })
         }
+        ActionName::Save => {
+            let dir = text_arg(&mut args)?;
+            let dir = Name::new(alloc, dir.as_str())?;
+            Ok(Action::Save { node, dir })
+        }
     }
 }

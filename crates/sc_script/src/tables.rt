@@ -45,6 +45,8 @@ pub enum ActionName {
     Count,
     /// Its rows, put together by an expression.
     Reduce,
+    /// Its rows, saved in a directory.
+    Save,
 }
 
 /// What may stand at a place among arguments.
@@ -52,6 +54,8 @@ pub enum ActionName {
 pub enum ArgKind {
     /// The name of an input.
     Input,
+    /// The name of a directory.
+    Directory,
     /// A number of partitions.
     Count,
     /// Literals of one kind to the end, one or more.
@@ -103,6 +107,7 @@ pub fn action_named(word: &str) -> Option<ActionName>
         "collect" => Some(ActionName::Collect),
         "count" => Some(ActionName::Count),
         "reduce" => Some(ActionName::Reduce),
+        "save" => Some(ActionName::Save),
         _ => None,
     }
 }
@@ -183,6 +188,7 @@ pub fn action_takes(action: ActionName) -> &'static [ArgKind]
     match action {
         ActionName::Collect | ActionName::Count => &[ArgKind::Node],
         ActionName::Reduce => &[ArgKind::Node, ArgKind::Expr],
+        ActionName::Save => &[ArgKind::Node, ArgKind::Directory],
     }
 }
 
