@@ -1,8 +1,9 @@
 //! The core.
 #![tactic(auto)]
 
-ghost use Rattle.std.specs.Prelude.{◌≡◌, IfOk, IfSome, OnErr, false, true};
+ghost use Rattle.std.specs.Prelude.{◌≡◌, IfOk, IfSome, OnErr, false, length, true};
 ghost use Rattle.std.specs.Option.{option_map};
+ghost use Rattle.sc_commit.specs.CommitLaws.{winner_of};
 ghost use Rattle.sc_dag.specs.DagData.{stage_at};
 ghost use Rattle.sc_dag.specs.Openings.{FitsJob, IsJob};
 ghost use Rattle.sc_core.specs.CoreData.{job_runs, result_stage};
@@ -17,7 +18,7 @@ use crate::events::{Event, SideEvent};
 use crate::running::{Running, Shelved};
 use crate::states::State;
 use sc_base::OrMemory;
-use sc_ids::{Limits, StageGraph, StageId};
+use sc_ids::{AttemptId, Limits, StageGraph, StageId};
 use sc_plan::Plan;
 use std::alloc::{AllocError, Global};
 use std::marker::Model;
@@ -142,6 +143,20 @@ impl Core {
         ensures { result ≡ (stage_at self.now.dag stage).tasks }
     {
         self.state.stages.dag().tasks(stage)
+    }
+
+    /// How many partitions its job saves: none where it saves nothing.
+    pub fn saved_partitions(&self) -> usize
+        ensures { result ≡ length self.now.committers }
+    {
+        self.state.commit.partitions()
+    }
+
+    /// The attempt of a save that has won a partition: its part is the one that counts.
+    pub fn winner(&self, partition: u32) -> Option<AttemptId>
+        ensures { result ≡ winner_of self.now.committers partition }
+    {
+        self.state.commit.winner(partition)
     }
 
     /// What every core keeps.

@@ -69,7 +69,7 @@ IsTrueReport work t (findings.Gone exec wanted found) =
     WasGiven t (locations.Here (loc_at exec wanted)) × (wanted < found)
 IsTrueReport work t (findings.Metadata last) = WasGiven t (locations.Missing (Some last))
 IsTrueReport work t (findings.Device fault) = HasRisen fault × (saves work t.job.goal ≡ true)
-IsTrueReport work t findings.Denied = Unit {0}
+IsTrueReport work t findings.Denied = saves work t.job.goal ≡ true
 
 -- what the scheduler is told of a finding
 abbrev pub outcome_of : Finding → Outcome

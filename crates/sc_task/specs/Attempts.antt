@@ -18,6 +18,10 @@ pub data AttemptData : Type 0 where
   computed : TaskData → AttemptData
   -- its block was put there
   stored : TaskData → Loc → AttemptData
+  -- its part was written, and it is to ask whether it may commit
+  staged : TaskData → AttemptData
+  -- it may commit, and is to move its part
+  granted : TaskData → AttemptData
   -- it reports this
   reported : TaskData → Finding → AttemptData
 
@@ -26,6 +30,8 @@ abbrev pub task_of : AttemptData → TaskData
 task_of (assigned t got) = t
 task_of (computed t) = t
 task_of (stored t loc) = t
+task_of (staged t) = t
+task_of (granted t) = t
 task_of (reported t finding) = t
 
 -- an attempt as contracts see it
@@ -33,28 +39,38 @@ abbrev pub attempt_data_of : {W : _} → Attempt W → AttemptData
 attempt_data_of (attempts.Assigned a) = assigned a.task a.got
 attempt_data_of (attempts.Computed c) = computed c.task
 attempt_data_of (attempts.Stored s) = stored s.task s.loc
+attempt_data_of (attempts.Staged s) = staged s.task
+attempt_data_of (attempts.Granted g) = granted g.task
 attempt_data_of (attempts.Reported r) = reported r.task r.finding
 
 -- the code of an attempt, by which proofs tell two of them apart
 abbrev pub AttemptParts : Type 0
-AttemptParts = (TaskData × ℕ) ⊎ (TaskData ⊎ ((TaskData × Loc) ⊎ (TaskData × Finding)))
+AttemptParts =
+    (TaskData × ℕ) ⊎ (TaskData ⊎ ((TaskData × Loc) ⊎ ((TaskData × Finding)
+    ⊎ (TaskData ⊎ TaskData))))
 
 abbrev pub attempt_parts : AttemptData → AttemptParts
 attempt_parts (assigned t got) = inl (t, got)
 attempt_parts (computed t) = inr (inl t)
 attempt_parts (stored t loc) = inr (inr (inl (t, loc)))
-attempt_parts (reported t finding) = inr (inr (inr (t, finding)))
+attempt_parts (reported t finding) = inr (inr (inr (inl (t, finding))))
+attempt_parts (staged t) = inr (inr (inr (inr (inl t))))
+attempt_parts (granted t) = inr (inr (inr (inr (inr t))))
 
 abbrev pub attempt_from : AttemptParts → AttemptData
 attempt_from (inl p) = assigned p.0 p.1
 attempt_from (inr (inl t)) = computed t
 attempt_from (inr (inr (inl p))) = stored p.0 p.1
-attempt_from (inr (inr (inr p))) = reported p.0 p.1
+attempt_from (inr (inr (inr (inl p)))) = reported p.0 p.1
+attempt_from (inr (inr (inr (inr (inl t))))) = staged t
+attempt_from (inr (inr (inr (inr (inr t))))) = granted t
 
 pub attempt_from-parts : (a : AttemptData) → attempt_from (attempt_parts a) ≡ a
 attempt_from-parts (assigned t got) = refl
 attempt_from-parts (computed t) = refl
 attempt_from-parts (stored t loc) = refl
+attempt_from-parts (staged t) = refl
+attempt_from-parts (granted t) = refl
 attempt_from-parts (reported t finding) = refl
 
 abbrev pub attempt_code : Coded AttemptData
@@ -62,5 +78,6 @@ attempt_code =
     code_by AttemptParts
     (coded⊎ (coded× task_code coded_ℕ)
     (coded⊎ task_code
-    (coded⊎ (coded× task_code loc_row.coded) (coded× task_code finding_row.coded))))
+    (coded⊎ (coded× task_code loc_row.coded)
+    (coded⊎ (coded× task_code finding_row.coded) (coded⊎ task_code task_code)))))
     attempt_parts attempt_from attempt_from-parts

@@ -6,6 +6,7 @@ ghost use Rattle.sc_task.specs.Attempts.{attempt_data_of, task_of};
 
 use crate::assigned::Assigned;
 use crate::computed::Computed;
+use crate::saving::{Granted, Staged};
 use crate::stored::Stored;
 use sc_net::{Report, Task};
 use sc_work::Naming;
@@ -19,6 +20,10 @@ pub enum Attempt<W: Naming> {
     Computed(Computed<W>),
     /// Its block was put.
     Stored(Stored<W>),
+    /// Its part was written, and it is to ask whether it may commit.
+    Staged(Staged<W>),
+    /// It may commit, and is to move its part.
+    Granted(Granted<W>),
     /// It has something to report.
     Reported(Report<W>),
 }
@@ -32,6 +37,8 @@ impl<W: Naming> Attempt<W> {
             Attempt::Assigned(assigned) => assigned.task(),
             Attempt::Computed(computed) => computed.task(),
             Attempt::Stored(stored) => stored.task(),
+            Attempt::Staged(staged) => staged.task(),
+            Attempt::Granted(granted) => granted.task(),
             Attempt::Reported(report) => report.task(),
         }
     }

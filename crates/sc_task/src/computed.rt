@@ -3,24 +3,28 @@
 
 ghost use Rattle.std.specs.Prelude.{◌≡◌, [], All, IfErr, IfOk, OnErr, OnOk, false, true};
 ghost use Rattle.sc_compute.specs.Caching.{IsCachedPart};
+ghost use Rattle.sc_ids.specs.Failures.{HasRisen};
+ghost use Rattle.sc_jobs.specs.JobData.{saves};
 ghost use Rattle.sc_net.specs.Reports.{loc_at, report_data};
 ghost use Rattle.sc_net.specs.Tasks.{is_map_task, is_planned};
 ghost use Rattle.sc_net.specs.declared.findings.Finding.{Finding};
 ghost use Rattle.sc_store.specs.Storing.{Puts};
 ghost use Rattle.sc_task.specs.Caches.{IsSameButCache, KeepsEach, KeepsSome};
-ghost use Rattle.sc_task.specs.States.{IsMade, computed_data, stored_data};
+ghost use Rattle.sc_task.specs.States.{IsMade, IsOfPart, IsPartText, computed_data, saver_data, stored_data};
 ghost use Rattle.sc_task.specs.Steps.{PutsOwn};
 ghost use Rattle.sc_compute.specs.declared.results.TaskResult.{TaskResult};
 
 use crate::keeping::keep_all;
 use crate::made::Made;
+use crate::saving::Staged;
 use crate::stored::Stored;
 use sc_compute::{CachedPart, TaskResult};
-use sc_ids::Loc;
+use sc_ids::{Fault, Loc};
 use sc_net::{Finding, Report, Task};
+use sc_output::part_text;
 use sc_store::{Block, PutReceipt, Store};
 use sc_work::Naming;
-use std::alloc::{AllocError, AllocFailed};
+use std::alloc::{AllocError, AllocFailed, Global};
 use std::marker::Model;
 
 /// An attempt that has computed what its task is to compute, without a raise.
@@ -134,17 +138,51 @@ impl<W: Naming> Computed<W> {
         }
     }
 
-    /// Reports what is handed over of a result.
+    /// Reports what is handed over of a result, where the job doesn't save.
     pub fn result(self) -> Report<W>
         requires result { is_map_task self.task ≡ false }
+        requires unsaved { saves W.work self.task.job.goal ≡ false }
         ensures { (given : TaskResult)
             × (result ≡ report_data self.task (Finding.Result given)) }
     {
         let Computed { task, made, .. } = self;
         match made {
             Made::Result(given) => Report::new(task, Finding::Result(given)),
-            Made::Block(_) => unreachable!(),
+            Made::Block(_) | Made::Part(_) => unreachable!(),
         }
+    }
+
+    /// The text of the part of a save: its rows, a line each.
+    pub fn part_text(&self, alloc: Global) -> Result<Vec<u8>, AllocError>
+        requires part { IsOfPart W.work self.now.task }
+        ensures { IfOk result (λ text. IsPartText W.work self.now.task text.items) }
+    {
+        match &self.made {
+            Made::Part(rows) => part_text(alloc, rows),
+            Made::Block(_) | Made::Result(_) => unreachable!(),
+        }
+    }
+
+    /// The attempt once its part is written.
+    pub fn staged(self) -> Staged<W>
+        requires part { IsOfPart W.work self.task }
+        ensures { result ≡ saver_data self.task }
+    {
+        let Computed { task, made, .. } = self;
+        match made {
+            Made::Part(_) => Staged::new(task),
+            Made::Block(_) | Made::Result(_) => unreachable!(),
+        }
+    }
+
+    /// Reports that the call on the files failed that was to write its part.
+    pub fn device(self, fault: Fault) -> Report<W>
+        requires part { IsOfPart W.work self.task }
+        requires risen { HasRisen fault }
+        ensures { result ≡ report_data self.task (Finding.Device fault) }
+    {
+        let Computed { task, .. } = self;
+        Report::new(task, Finding::Device(fault))
     }
 }
 

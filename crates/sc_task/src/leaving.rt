@@ -55,7 +55,7 @@ pub(crate) fn did<W: Naming>(
             match raise {
                 Some(raise) => Did::Failed(raised(task, raise)),
                 None => {
-                    let made = Made::Result(handed_over(&task, rows));
+                    let made = of_rows(&task, rows);
                     Did::Computed(Computed::new(task, made, used, fresh))
                 }
             }
@@ -71,6 +71,19 @@ fn of_output<W: Naming>(task: &Task<W>, output: MapOutput) -> Made<W>
     match task.block() {
         Some(id) => Made::Block(Block::new(id, output)),
         None => unreachable!(),
+    }
+}
+
+/// What the task of a result makes of its rows: they are a part where its job saves.
+fn of_rows<W: Naming>(task: &Task<W>, rows: Rows) -> Made<W>
+    requires own { own_value W.work (target_of_task W.work task.now) ≡ whole_stream rows }
+    requires result { is_map_task task.now ≡ false }
+    ensures { IsMade W.work task.now result }
+{
+    if task.job().saves(task.work()) {
+        Made::Part(rows)
+    } else {
+        Made::Result(handed_over(task, rows))
     }
 }
 
