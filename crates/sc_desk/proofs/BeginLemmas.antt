@@ -25,7 +25,7 @@ use Rattle.sc_core.proofs.MoveLemmas.{Calm}
 use Rattle.sc_core.proofs.StageCallLemmas.{submitted_calm, submitted_results}
 use Rattle.sc_history.proofs.OpeningLemmas.{openings_agree}
 use Rattle.sc_jobs.specs.Fitting.{FitsWork}
-use Rattle.sc_jobs.specs.JobData.{JobData}
+use Rattle.sc_jobs.specs.JobData.{JobData, saves}
 use Rattle.sc_jobs.specs.Plans.{IsJobFor}
 use Rattle.sc_jobs.proofs.TrackerLemmas.{new_trackers_fit, sized_trackers_fit, trackers_fit}
 use Rattle.sc_desk.specs.Begins.{FitsLast, IsFresh}
@@ -84,12 +84,12 @@ fits_job work limits job last is fits =
 
 -- two cores of one opening are one
 pub opened_alike :
-    (work : WorkData) (limits : Limits) (job : JobData) (last : Option CoreData)
+    (work : WorkData) (limits : Limits) (job : JobData) (saving : Bool) (last : Option CoreData)
     (x y : CoreData) → IsJobFor work job → FitsLast work last → IfSome last IsSoundCore
-    → IsOpening job.graph limits false work.plan last x
-    → IsOpening job.graph limits false work.plan last y → x ≡ y
-opened_alike work limits job last x y is fits sound a b =
-    openings_agree job.graph limits false work.plan last x y is.job
+    → IsOpening job.graph limits saving work.plan last x
+    → IsOpening job.graph limits saving work.plan last y → x ≡ y
+opened_alike work limits job saving last x y is fits sound a b =
+    openings_agree job.graph limits saving work.plan last x y is.job
     (fits_job work limits job last is fits) sound a b
 
 -- room for outputs changes nothing in who was heard of
@@ -145,7 +145,7 @@ blank_at last n (stage ∷ stages) (suc s) p = blank_at last (n + 1) stages s p
 pub fresh_sound :
     (work : WorkData) (d : DeskData) (last : Option CoreData)
     → IsJobFor work d.job → FitsLast work last → IsSoundCore (core_of d)
-    → IsFresh d.job.graph work.limits work.plan last d.journal
+    → IsFresh d.job.graph work.limits (saves work d.job.goal) work.plan last d.journal
     → d.results ≡ replicate (result_count (core_of d).dag) None
     → d.shelf ≡ [] → IsCarriedFor work.script.nodes d.carried → AreRightBounds work d.carried
     → length d.ordered ≡ work.limits.executors → IsSoundDesk work d
@@ -175,7 +175,8 @@ fresh_sound work d last is fits core fresh results shelf carried right many =
       many = many;
     }
   where
-    opens : IsOpening d.job.graph work.limits false work.plan last d.journal.opening
+    opens : IsOpening d.job.graph work.limits (saves work d.job.goal) work.plan last
+        d.journal.opening
     opens = fresh.opening_is
 
     trust : (core_of d).dag.tracker.trust ≡ (tracker_behind last work.limits).trust

@@ -16,3 +16,6 @@ pub mod EndLemmas
 pub mod PostLemmas
 pub mod ReleaseLemmas
 pub mod BeginLemmas
+pub mod DeedLemmas
+pub mod PartLemmas
+pub mod FilesLemmas

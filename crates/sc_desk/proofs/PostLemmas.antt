@@ -205,7 +205,7 @@ ended_for work told t (findings.Raised r) task is time =
 ended_for work told t (findings.Gone exec wanted found) task is time = time
 ended_for work told t (findings.Metadata last) task is time = tt
 ended_for work told t (findings.Device fault) task is time = is
-ended_for work told t findings.Denied task is time = tt
+ended_for work told t findings.Denied task is time = is
 
 -- and shows no generation above the wipes that are due
 pub shows_within :

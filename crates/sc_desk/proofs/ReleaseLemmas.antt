@@ -13,6 +13,7 @@ use Rattle.sc_core.specs.Sound.{IsSoundCore}
 use Rattle.sc_core.proofs.SideLemmas.{steps_aside}
 use Rattle.sc_core.specs.declared.answers.Answer.{Answer}
 use Rattle.sc_core.specs.declared.answers.Answer.TheVariants as says
+use Rattle.sc_core.specs.declared.events.Event.{Event}
 use Rattle.sc_core.specs.declared.events.Event.TheVariants.{Release, Side, Take, TellLost}
 use Rattle.sc_core.specs.declared.events.SideEvent.{SideEvent}
 use Rattle.sc_core.specs.declared.running.Shelved.{Shelved}
@@ -25,15 +26,38 @@ use Rattle.sc_desk.specs.Dues.{IsInTime}
 use Rattle.sc_desk.specs.Entries.{Enters}
 use Rattle.sc_desk.specs.Posts.{attempt_of}
 use Rattle.sc_desk.specs.Shelves.{IsShelvedOf, as_shelved, report_under, shelf_in, without_key}
-use Rattle.sc_desk.specs.Sound.{EndedFor, IsEvidentAside, IsSoundDesk}
+use Rattle.sc_desk.specs.Sound.{EndedFor, IsEvident, IsEvidentAside, IsSoundDesk}
 use Rattle.sc_desk.specs.Tellings.{results_with}
+use Rattle.sc_desk.proofs.DagLemmas.{Leaves}
 use Rattle.sc_desk.proofs.KeepLemmas.{Entered, KeepsShelf, bound_of, leaves_keep}
 use Rattle.sc_desk.proofs.PassLemmas.{ReleaseShows, Released, Telling, aside_pass, losses_pass, releases_pass, takes_pass}
 use Rattle.sc_desk.proofs.PostLemmas.{ended_for, shows_within, told_keeps}
 use Rattle.sc_desk.proofs.ShelfLemmas.{all_later, ends_so, keys_rise, same_keeps, shelf_keeps, under_alike, without_tie}
 use Rattle.sc_desk.proofs.StepLemmas.{IsWon, aside_leaves, losses_leave, releases_leave, releases_win, takes_leave}
 
--- ---- executors that ask, and losses
+-- ---- what tells no report
+
+-- an event that tells no report, and takes none off the shelf
+telling_keeps :
+    (work : WorkData) (d after : DeskData) (by : Mark) (event : Event) (answer : Answer)
+    → IsSoundDesk work d → IsSoundCore (core_of d)
+    → Replays d.journal.opening d.journal.entries (core_of d)
+    → Enters d by event answer after → IsEvident work d.job (core_of d) event answer
+    → Telling (bound_of work (core_of d)) (core_of d) (core_of after)
+    → Leaves (core_of d).dag (core_of after).dag → after.results ≡ d.results
+    → after.shelf ≡ shelf_in (core_of after) d.shelf → IsSoundDesk work after
+telling_keeps work d after by event answer sound core replays enters evident t leaves results
+    shelf =
+    leaves_keep work d after by event answer
+    (record {
+      sound = sound;
+      core = core;
+      replays = replays;
+      enters = enters;
+      passes = t.passes;
+      evident = evident;
+    })
+    leaves (same_keeps work d after sound t.passes.told t.passes.ends t.shelf shelf) results
 
 pub taken_keeps :
     (work : WorkData) (d after : DeskData) (by : Mark) (exec : ℕ) (answer : Answer)
@@ -42,20 +66,9 @@ pub taken_keeps :
     → Enters d by (Take exec) answer after → after.results ≡ d.results
     → after.shelf ≡ shelf_in (core_of after) d.shelf → IsSoundDesk work after
 taken_keeps work d after by exec answer sound core replays enters results shelf =
-    leaves_keep work d after by (Take exec) answer
-    (record {
-      sound = sound;
-      core = core;
-      replays = replays;
-      enters = enters;
-      passes = t.passes;
-      evident = tt;
-    })
-    (takes_leave (core_of d) (core_of after) exec answer enters.step)
-    (same_keeps work d after sound t.passes.told t.passes.ends t.shelf shelf) results
-  where
-    t : Telling (bound_of work (core_of d)) (core_of d) (core_of after)
-    t = takes_pass (bound_of work (core_of d)) (core_of d) (core_of after) exec answer enters.step
+    telling_keeps work d after by (Take exec) answer sound core replays enters tt
+    (takes_pass (bound_of work (core_of d)) (core_of d) (core_of after) exec answer enters.step)
+    (takes_leave (core_of d) (core_of after) exec answer enters.step) results shelf
 
 pub lost_keeps :
     (work : WorkData) (d after : DeskData) (by : Mark) (exec : ℕ) (answer : Answer)
@@ -64,22 +77,9 @@ pub lost_keeps :
     → Enters d by (TellLost exec) answer after → after.results ≡ d.results
     → after.shelf ≡ shelf_in (core_of after) d.shelf → IsSoundDesk work after
 lost_keeps work d after by exec answer sound core replays enters results shelf =
-    leaves_keep work d after by (TellLost exec) answer
-    (record {
-      sound = sound;
-      core = core;
-      replays = replays;
-      enters = enters;
-      passes = t.passes;
-      evident = tt;
-    })
-    (losses_leave (core_of d) (core_of after) exec answer enters.step)
-    (same_keeps work d after sound t.passes.told t.passes.ends t.shelf shelf) results
-  where
-    t : Telling (bound_of work (core_of d)) (core_of d) (core_of after)
-    t = losses_pass (bound_of work (core_of d)) (core_of d) (core_of after) exec answer enters.step
-
--- ---- what happens beside the reports
+    telling_keeps work d after by (TellLost exec) answer sound core replays enters tt
+    (losses_pass (bound_of work (core_of d)) (core_of d) (core_of after) exec answer enters.step)
+    (losses_leave (core_of d) (core_of after) exec answer enters.step) results shelf
 
 pub noted_keeps :
     (work : WorkData) (d after : DeskData) (by : Mark) (event : SideEvent) (answer : Answer)
@@ -89,23 +89,12 @@ pub noted_keeps :
     → after.results ≡ d.results
     → after.shelf ≡ shelf_in (core_of after) d.shelf → IsSoundDesk work after
 noted_keeps work d after by event answer sound core replays enters evident results shelf =
-    leaves_keep work d after by (Side event) answer
-    (record {
-      sound = sound;
-      core = core;
-      replays = replays;
-      enters = enters;
-      passes = t.passes;
-      evident = evident;
-    })
-    (aside_leaves (core_of d) (core_of after) is)
-    (same_keeps work d after sound t.passes.told t.passes.ends t.shelf shelf) results
+    telling_keeps work d after by (Side event) answer sound core replays enters evident
+    (aside_pass (bound_of work (core_of d)) (core_of d) (core_of after) is)
+    (aside_leaves (core_of d) (core_of after) is) results shelf
   where
     is : IsAside (core_of d) (core_of after)
     is = steps_aside (core_of d) (core_of after) event answer enters.step
-
-    t : Telling (bound_of work (core_of d)) (core_of d) (core_of after)
-    t = aside_pass (bound_of work (core_of d)) (core_of d) (core_of after) is
 
 -- ---- reports off the shelf
 

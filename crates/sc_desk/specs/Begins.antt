@@ -1,5 +1,5 @@
 -- How a desk begins.
-use Rattle.std.specs.Prelude.{◌≡◌, ◌⊎◌, [], None, false, Some, List, Option, length, replicate}
+use Rattle.std.specs.Prelude.{◌≡◌, ◌⊎◌, Bool, [], None, Some, List, Option, length, replicate}
 use Rattle.sc_ids.specs.Graphs.{StageData}
 use Rattle.sc_ids.specs.declared.limits.Limits.{Limits}
 use Rattle.sc_lineage.specs.ScriptData.{WorkData}
@@ -11,7 +11,7 @@ use Rattle.sc_core.specs.CoreData.{CoreData}
 use Rattle.sc_core.specs.Openings.{IsOpening}
 use Rattle.sc_core.specs.Journals.{JournalData}
 use Rattle.sc_jobs.specs.Fitting.{FitsWork}
-use Rattle.sc_jobs.specs.JobData.{JobData, goal_node}
+use Rattle.sc_jobs.specs.JobData.{JobData, goal_node, saves}
 use Rattle.sc_jobs.specs.declared.goals.Goal.{Goal}
 use Rattle.sc_desk.specs.DeskData.{DeskData, PassedData, core_of, desk_data}
 use Rattle.sc_desk.specs.Sound.{IsSeenDue, result_count}
@@ -30,7 +30,8 @@ pub record Begins (work : WorkData) (passed : PassedData) (last : Option CoreDat
   pub cut : IsCut work passed.carried (goal_node work goal) d.job.graph
   pub carried_on : d.carried ≡ after_job passed.carried d.job.graph
   pub ordered : d.ordered ≡ passed.ordered
-  pub opening : IsOpening d.job.graph work.limits false work.plan last d.journal.opening
+  pub opening : IsOpening d.job.graph work.limits (saves work goal) work.plan last
+      d.journal.opening
   pub entries : d.journal.entries ≡ []
   pub core : core_of d ≡ d.journal.opening
   pub results : d.results ≡ replicate (result_count (core_of d).dag) None
@@ -65,9 +66,9 @@ abbrev pub FitsLast : WorkData → Option CoreData → Type 0
 FitsLast work None = Unit {0}
 FitsLast work (Some last) = FitsRun work last
 
--- a journal of a job that begins: nothing has happened
-pub record IsFresh (graph : List StageData) (limits : Limits) (plan : List PlanLine)
-    (last : Option CoreData) (j : JournalData) : Type 0 where
-  pub opening_is : IsOpening graph limits false plan last j.opening
+-- a journal of a job that begins, which saves or doesn't: nothing has happened
+pub record IsFresh (graph : List StageData) (limits : Limits) (saving : Bool)
+    (plan : List PlanLine) (last : Option CoreData) (j : JournalData) : Type 0 where
+  pub opening_is : IsOpening graph limits saving plan last j.opening
   pub none : j.entries ≡ []
   pub core_is : j.core ≡ j.opening

@@ -10,3 +10,4 @@ pub mod Posts
 pub mod Tellings
 pub mod Asides
 pub mod Begins
+pub mod Files

@@ -1,6 +1,7 @@
 -- What an attempt of a save does at the desk with its files.
 use Rattle.std.specs.Prelude.{◌≡◌, Bool, true, false, List, ℕ}
 use Rattle.sc_base.specs.Outside.{FilesState, IsLaterFiles}
+use Rattle.sc_ids.specs.Failures.{HasRisen}
 use Rattle.sc_ids.specs.declared.attempts.AttemptId.{AttemptId}
 use Rattle.sc_ids.specs.declared.attempts.Mark.{Mark}
 use Rattle.sc_output.specs.Calls.{Call}
@@ -9,6 +10,8 @@ use Rattle.sc_staging.specs.StagingData.{StagingData}
 use Rattle.sc_staging.specs.declared.parts.Written.{Written}
 use Rattle.sc_staging.specs.declared.parts.Written.TheVariants as ends
 use Rattle.sc_core.specs.Saving.{is_given, is_granted, saver_phase}
+use Rattle.sc_core.specs.declared.answers.SideAnswer.{SideAnswer}
+use Rattle.sc_core.specs.declared.answers.SideAnswer.TheVariants.{Fault}
 use Rattle.sc_core.specs.declared.events.FileOutcome.{FileOutcome}
 use Rattle.sc_core.specs.declared.events.FileOutcome.TheVariants.{Done, Failed}
 use Rattle.sc_core.specs.declared.events.SideEvent.TheVariants.{Move, Stage}
@@ -25,7 +28,12 @@ told_of (ends.Failed fault) = Failed fault
 abbrev pub CallsIf : Bool → Call → FilesState → FilesState → FileOutcome → Type 0
 CallsIf true call before after Done = EndsPart call before after ends.Done
 CallsIf true call before after (Failed fault) = EndsPart call before after (ends.Failed fault)
-CallsIf false call before after outcome = after ≡ before
+CallsIf false call before after outcome = (outcome ≡ Done) × (after ≡ before)
+
+-- an answer has its evidence: that a call failed is told only where a count rose
+abbrev pub IsEvidentAnswer : SideAnswer → Type 0
+IsEvidentAnswer (Fault fault) = HasRisen fault
+IsEvidentAnswer said = Unit {0}
 
 -- An attempt that comes next to stage writes the part of its partition, and that is entered; where
 -- it doesn't, nothing is written, and that it is over is entered.

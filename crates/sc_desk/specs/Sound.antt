@@ -74,14 +74,14 @@ pub record HasRaised (work : WorkData) (job : JobData) (a : AttemptId) (raise : 
 
 -- The evidence of a failure that is posted once so many reports were told: its cause is the plan's,
 -- or the attempt's own, or a generation of a store that a wipe has brought; or the job saves, and
--- over a call on the files a count of theirs rose.
+-- over a call on the files a count of theirs rose, or the attempt was denied.
 abbrev pub FailedFor : WorkData → JobData → ℕ → AttemptId → FailureCause → Type 0
 FailedFor work job told a causes.Planned = is_failed work.plan (place_of a) ≡ true
 FailedFor work job told a (causes.Raised raise) = HasRaised work job a raise
 FailedFor work job told a (causes.Gone exec wanted found) = found ≤ wipes_due work told exec
 FailedFor work job told a (causes.Metadata last) = Unit {0}
 FailedFor work job told a (causes.Device fault) = HasRisen fault × (saves work job.goal ≡ true)
-FailedFor work job told a causes.Denied = Unit {0}
+FailedFor work job told a causes.Denied = saves work job.goal ≡ true
 
 abbrev pub EndedFor : WorkData → JobData → ℕ → AttemptId → Outcome → Type 0
 EndedFor work job told a (outcomes.Map loc) = Unit {0}
@@ -126,9 +126,10 @@ IsSeenDue work c =
 
 -- every desk
 pub record IsSoundDesk (work : WorkData) (d : DeskData) : Type 0 where
-  -- its job began behind another one or none, under the plan of the work, and saves nothing yet
+  -- its job began behind another one or none, under the plan of the work
   pub last : Option CoreData
-  pub opened : IsOpening d.job.graph work.limits false work.plan last d.journal.opening
+  pub opened : IsOpening d.job.graph work.limits (saves work d.job.goal) work.plan last
+      d.journal.opening
   -- with a core that is sound
   pub began : IsSoundCore d.journal.opening
   -- the core has the job's stages by their numbers, the work's limits and plan, and its executors

@@ -6,7 +6,7 @@ ghost use Rattle.std.specs.Option.{option_map};
 ghost use Rattle.sc_stagecut.specs.Carrying.{HasBounds};
 ghost use Rattle.sc_core.specs.Sound.{HasLive, IsSoundCore};
 ghost use Rattle.sc_core.specs.Openings.{tracker_behind};
-ghost use Rattle.sc_jobs.specs.JobData.{IsGoal, goal_node};
+ghost use Rattle.sc_jobs.specs.JobData.{IsGoal, goal_node, saves};
 ghost use Rattle.sc_desk.specs.Begins.{Begins, FitsLast, IsFresh, IsHandedBack, IsPassedFor, begun_desk};
 ghost use Rattle.sc_desk.specs.Sound.{IsSoundDesk, result_count};
 
@@ -117,8 +117,8 @@ fn begin_journal<W: Naming>(
 ) -> Result<Begun, AllocError>
     requires fits { FitsLast W.work (option_map (λ l. l.now) last) }
     requires live { HasLive (tracker_behind (option_map (λ l. l.now) last) W.work.limits) }
-    ensures fresh { IfOk result (λ b. IsFresh job.now.graph W.work.limits W.work.plan
-        (option_map (λ l. l.now) last.entry) b.journal.0) }
+    ensures fresh { IfOk result (λ b. IsFresh job.now.graph W.work.limits
+        (saves W.work job.now.goal) W.work.plan (option_map (λ l. l.now) last.entry) b.journal.0) }
     ensures sound { IfOk result (λ b. IsSoundCore b.journal.0.core) }
     ensures results { IfOk result (λ b. b.results.items
         ≡ replicate (result_count b.journal.0.core.dag) None) }
@@ -137,8 +137,8 @@ fn journal_of<W: Naming>(
 ) -> Result<Journal, AllocError>
     requires fits { FitsLast W.work (option_map (λ l. l.now) last) }
     requires live { HasLive (tracker_behind (option_map (λ l. l.now) last) W.work.limits) }
-    ensures fresh { IfOk result (λ j. IsFresh job.now.graph W.work.limits W.work.plan
-        (option_map (λ l. l.now) last.entry) j.0) }
+    ensures fresh { IfOk result (λ j. IsFresh job.now.graph W.work.limits
+        (saves W.work job.now.goal) W.work.plan (option_map (λ l. l.now) last.entry) j.0) }
     ensures sound { IfOk result (λ j. IsSoundCore j.0.core) }
 {
     work.is_named();
@@ -146,8 +146,9 @@ fn journal_of<W: Naming>(
     are_sound(last);
     let limits = work.get().limits();
     let plan = work.get().plan();
-    let opening = Core::open(alloc, job.graph(), limits, false, plan, last)?;
-    let core = Core::open(alloc, job.graph(), limits, false, plan, last)?;
+    let saving = job.saves(work);
+    let opening = Core::open(alloc, job.graph(), limits, saving, plan, last)?;
+    let core = Core::open(alloc, job.graph(), limits, saving, plan, last)?;
     core.is_sound();
     Ok(Journal::begin(alloc, opening, core))
 }

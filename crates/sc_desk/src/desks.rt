@@ -4,6 +4,7 @@
 ghost use Rattle.std.specs.Prelude.{◌≡◌};
 ghost use Rattle.sc_tracker.specs.TrackerData.{trust_of};
 ghost use Rattle.sc_desk.specs.DeskData.{core_of};
+ghost use Rattle.sc_desk.specs.Files.{HasReplay};
 ghost use Rattle.sc_desk.specs.Sound.{IsSoundDesk};
 
 use crate::orders::Orders;
@@ -100,5 +101,12 @@ impl<W: Naming> Desk<W> {
         ensures { IsSoundDesk W.work self.now }
     {
         let _ = &self.journal;
+    }
+
+    /// Its core is what the entries leave of how the job began.
+    pub fn is_replay(&self)
+        ensures { HasReplay self.now }
+    {
+        self.journal.is_replay();
     }
 }

@@ -1,10 +1,16 @@
-//! What holds of all orders.
+//! What holds of all orders, and of the files of all jobs.
 #![tactic(auto)]
 
+ghost use Rattle.sc_desk.specs.Files.{FilesGoOn};
 ghost use Rattle.sc_desk.specs.Orders.{NextOrdersAreDue};
 
 /// An order that comes next is one of the plan that is due, and once it is handed out fewer are
 /// left.
 pub fn orders_are_due()
     ensures { NextOrdersAreDue }
+{}
+
+/// How the files of a job stand while its journal grows, call by call. A call does nothing.
+pub fn files_go_on()
+    ensures { FilesGoOn }
 {}

@@ -15,11 +15,15 @@
 //! report, which loss, and which wipe or eviction the plan wants next; each order comes once in a
 //! run, when it is due ([`orders_are_due`]).
 //!
+//! In a job that saves, an attempt that comes next writes its part ([`Desk::stage_part`]) and gives
+//! it its committed name ([`Desk::move_part`]). Which files of attempts stand is told by the
+//! journal, up to the winners ([`files_go_on`]).
+//!
 //! Contracts see a desk as the record `DeskData` of `specs/DeskData.antt`. What holds of every desk
 //! stands in `specs/Sound.antt`: the results are those of the work that `W` stands for, they are
 //! there exactly where the core says so, the shelf has the reports that the core still waits for,
 //! and each failure that was posted has its evidence. The desk computes nothing and holds no block.
-//! Below it lie `sc_core`, `sc_jobs` and `sc_net`.
+//! Below it lie `sc_core`, `sc_jobs`, `sc_net` and `sc_staging`.
 #![tactic(auto)]
 
 mod asides;
@@ -39,7 +43,7 @@ mod tellings;
 
 pub use closes::Closed;
 pub use desks::Desk;
-pub use laws::orders_are_due;
+pub use laws::{files_go_on, orders_are_due};
 pub use orders::{Ordered, Orders};
 pub use passes::Passed;
 pub use posts::Posted;

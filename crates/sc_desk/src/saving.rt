@@ -4,7 +4,7 @@
 ghost use Rattle.std.specs.Prelude.{◌≡◌, IfOk, IfSome, OnErr, true};
 ghost use Rattle.sc_core.specs.Saving.{is_granted, saver_phase};
 ghost use Rattle.sc_desk.specs.DeskData.{core_of};
-ghost use Rattle.sc_desk.specs.Saving.{MovesPart, StagesPart, told_of};
+ghost use Rattle.sc_desk.specs.Saving.{IsEvidentAnswer, MovesPart, StagesPart, told_of};
 ghost use Rattle.sc_output.specs.Calls.{IsOpen};
 ghost use Rattle.sc_staging.specs.Parts.{part_rename};
 
@@ -33,6 +33,7 @@ impl<W: Naming> Desk<W> {
     ) -> Result<Noted, AllocError>
         ensures stages { IfOk result (λ n. StagesPart self.old by attempt text.now
             staging.old staging.new n self.new) }
+        ensures evident { IfOk result (λ n. IsEvidentAnswer n.answer) }
         ensures refused { OnErr result (self.new ≡ self.old) }
         ensures unwritten { OnErr result (staging.new ≡ staging.old) }
     {
@@ -65,6 +66,7 @@ impl<W: Naming> Desk<W> {
             → IfSome staging.old.files.shown (IsOpen (part_rename staging.old.dir attempt)) }
         ensures moves { IfOk result (λ n. MovesPart self.old by attempt
             staging.old staging.new n self.new) }
+        ensures evident { IfOk result (λ n. IsEvidentAnswer n.answer) }
         ensures refused { OnErr result (self.new ≡ self.old) }
         ensures unmoved { OnErr result (staging.new ≡ staging.old) }
     {
