@@ -1,5 +1,5 @@
 -- What holds of the core of a world holds of one that follows it by an event.
-use Rattle.std.proofs.Common.{◌≡◌, ◌⊎◌, inl, inr, ℕ, ◌<◌, ◌≤◌, ◌^◌, Bool, true, false, List, [], Option, Some, None, refl, ap, sym, subst, ◌∙◌, arith, rules}
+use Rattle.std.proofs.Common.{◌≡◌, ◌⊎◌, inl, inr, ℕ, ◌<◌, ◌≤◌, ◌^◌, Bool, true, false, List, Option, Some, None, refl, ap, sym, subst, ◌∙◌, arith, rules}
 use Rattle.sc_ids.specs.Graphs.{StageData}
 use Rattle.sc_ids.specs.declared.attempts.AttemptId.{AttemptId}
 use Rattle.sc_ids.specs.declared.blocks.BlockId.{BlockId}
@@ -7,13 +7,18 @@ use Rattle.sc_ids.specs.declared.blocks.Target.{Target}
 use Rattle.sc_ids.specs.declared.blocks.Target.TheVariants as targets
 use Rattle.sc_lineage.specs.ScriptData.{WorkData}
 use Rattle.sc_tracker.specs.TrackerData.{TrackerData}
+use Rattle.sc_dag.specs.DagData.{DagData}
 use Rattle.sc_dag.specs.Openings.{AreNumbered}
 use Rattle.sc_dag.specs.Reports.{block_by}
 use Rattle.sc_core.specs.CoreData.{CoreData, ended, shelved_if, without_shelved}
+use Rattle.sc_core.specs.Posts.{is_save}
+use Rattle.sc_core.specs.Sides.{IsAside, MayHold}
 use Rattle.sc_core.specs.Sound.{was_given}
 use Rattle.sc_core.specs.declared.answers.JobState.{JobState}
 use Rattle.sc_core.specs.declared.events.Outcome.{Outcome}
 use Rattle.sc_core.proofs.PlannedLemmas.{counted_more}
+use Rattle.sc_core.proofs.SideLemmas.{held_stages, held_tracker}
+use Rattle.sc_core.proofs.TaskCallLemmas.{hold_calms}
 use Rattle.sc_store.specs.StoreData.{StoreData}
 use Rattle.sc_jobs.specs.JobData.{HasPartition}
 use Rattle.sc_net.specs.Reports.{outcome_of}
@@ -115,7 +120,7 @@ pub record IsBehind (w : WorldData) (c : CoreData) : Type 0 where
   pub stages : c.dag.stages ≡ (core_in w).dag.stages
   pub tied : AreTied w.stores c.dag.tracker
   pub given : (a : AttemptId) → was_given (core_in w).dag a ≡ true → was_given c.dag a ≡ true
-  pub no_save : c.committers ≡ []
+  pub saves : is_save c.committers ≡ is_save (core_in w).committers
   pub stays : c.left_first ≡ None
 
 pub itself_behind : (work : WorkData) (w : WorldData) → IsSoundWorld work w
@@ -126,7 +131,7 @@ itself_behind work w sound =
       stages = refl;
       tied = sound.tied;
       given = λ a g. g;
-      no_save = sound.no_save;
+      saves = refl;
       stays = sound.stays;
     }
 
@@ -138,7 +143,7 @@ ended_behind w c job h =
       stages = h.stages;
       tied = h.tied;
       given = h.given;
-      no_save = h.no_save;
+      saves = h.saves;
       stays = h.stays;
     }
 
@@ -151,7 +156,7 @@ late_behind true w c a outcome delay h =
       stages = h.stages;
       tied = h.tied;
       given = h.given;
-      no_save = h.no_save;
+      saves = h.saves;
       stays = h.stays;
     }
 
@@ -163,8 +168,29 @@ without_behind w c key h =
       stages = h.stages;
       tied = h.tied;
       given = h.given;
-      no_save = h.no_save;
+      saves = h.saves;
       stays = h.stays;
+    }
+
+-- what was handed out stays so where a partition is held back
+given_held : (d after : DagData) (a : AttemptId) → MayHold d after → was_given d a ≡ true
+    → was_given after a ≡ true
+given_held d after a (inl is) g = subst (λ x. was_given x a ≡ true) (sym is) g
+given_held d after a (inr (s, p, denied, is)) g =
+    subst (λ x. was_given x a ≡ true) (sym is) ((hold_calms d s p denied).given a g)
+
+-- something happens beside the reports
+pub aside_behind : (work : WorkData) (w : WorldData) (after : CoreData) → IsSoundWorld work w
+    → IsAside (core_in w) after → after.left_first ≡ (core_in w).left_first → IsBehind w after
+aside_behind work w after sound is stays =
+    record {
+      told = subst (λ (n : ℕ). (core_in w).told ≤ n) (sym is.told) (omega arith);
+      stages = held_stages (core_in w).dag after.dag is.dag;
+      tied = subst (λ (t : TrackerData). AreTied w.stores t)
+          (sym (held_tracker (core_in w).dag after.dag is.dag)) sound.tied;
+      given = λ a g. given_held (core_in w).dag after.dag a is.dag g;
+      saves = is.saves;
+      stays = stays ∙ sound.stays;
     }
 
 -- a report is told that is right about the stores
@@ -178,7 +204,7 @@ told_behind w c after t finding h fits numbered task says is =
       stages = is.stages ∙ h.stages;
       tied = tied is.tracker;
       given = λ a g. is.given a (h.given a g);
-      no_save = is.saves h.no_save;
+      saves = is.saves ∙ h.saves;
       stays = is.stays ∙ h.stays;
     }
   where

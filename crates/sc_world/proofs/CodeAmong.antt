@@ -1,5 +1,5 @@
 -- One of the places and one of the stores, as code changes them.
-use Rattle.std.proofs.Common.{◌≡◌, ◌≢◌, ℕ, zero, suc, ◌<◌, List, [], ◌∷◌, Option, Some, None, Result, Ok, Err, OnOk, get_or, length, slice_get, slice_set, refl, ap, sym, subst, ◌∙◌, arith, rules}
+use Rattle.std.proofs.Common.{◌≡◌, ◌≢◌, ℕ, zero, suc, ◌<◌, List, [], ◌∷◌, Option, Some, None, Result, Ok, Err, OnOk, get_or, is_some, length, slice_get, slice_set, refl, ap, sym, subst, ◌∙◌, arith, rules, true, true≢false}
 use Rattle.std.proofs.lemmas.Option.{slice_get_read}
 use Rattle.sc_base.specs.Lists.{at_or}
 use Rattle.sc_ids.specs.Changes.{change_at}
@@ -7,13 +7,14 @@ use Rattle.sc_ids.specs.declared.blocks.Loc.{Loc}
 use Rattle.sc_ids.proofs.ChangeLemmas.{at_or_slice_get, set_changed}
 use Rattle.sc_lineage.specs.ScriptData.{WorkData}
 use Rattle.sc_plan.specs.declared.orders.Order.{Order}
+use Rattle.sc_core.specs.declared.answers.SideAnswer.{SideAnswer}
 use Rattle.sc_cache.specs.Caches.{without_last}
 use Rattle.sc_store.specs.StoreData.{StoreData, with_cache}
 use Rattle.sc_store.specs.Storing.{Wipes}
 use Rattle.sc_store.specs.declared.answers.WipeAnswer.{WipeAnswer}
 use Rattle.sc_task.specs.Attempts.{AttemptData}
 use Rattle.sc_task.specs.Caches.{IsSameButCache}
-use Rattle.sc_world.specs.Places.{ComputesAmong, ComputesAt, EvictsAmong, PutsAmong, PutsAt, ReadsAmong, WipesAmong}
+use Rattle.sc_world.specs.Places.{ComputesAmong, ComputesAt, EvictsAmong, IsAside, PutsAmong, PutsAt, ReadsAmong, WipesAmong, settled}
 use Rattle.sc_world.specs.Steps.{ReadsAt, phase_of}
 use Rattle.sc_world.specs.declared.places.AttemptState.{AttemptState}
 use Rattle.sc_world.specs.declared.places.AttemptState.TheVariants as phases
@@ -52,6 +53,26 @@ written xs i x y lt e = set_changed xs i x y (λ _. y) lt e refl
 pub written_as : {A : Type 0} (xs : List A) (i : ℕ) (x y z : A) → i < length xs
     → x ≡ get_or xs i x → y ≡ z → slice_set xs i y ≡ change_at xs i (λ _. z)
 written_as xs i x y z lt e is = set_changed xs i x y (λ _. z) lt e is
+
+-- so is one whose attempt does something beside the reports
+pub aside_there : (held : List (Option AttemptData)) (exec : ℕ) → IsAside (at_or held exec None)
+    → exec < length held
+aside_there held exec aside = is_there held exec (λ none. subst IsAside none aside)
+
+-- and one that has an attempt
+pub taken_there : (held : List (Option AttemptData)) (exec : ℕ)
+    → is_some (at_or held exec None) ≡ true → exec < length held
+taken_there held exec taken =
+    is_there held exec (λ none. true≢false (sym taken ∙ ap is_some none))
+
+-- its attempt, once it did that
+pub settles_among : (held : List (Option AttemptData)) (exec : ℕ) (x y : Option AttemptData)
+    (said : SideAnswer) → exec < length held → x ≡ get_or held exec x → y ≡ settled x said
+    → slice_set held exec y
+    ≡ change_at held exec (λ _. settled (at_or held exec None) said)
+settles_among held exec x y said lt e is =
+    written_as held exec x y (settled (at_or held exec None) said) lt e
+    (is ∙ ap (λ (o : Option AttemptData). settled o said) (sym (at_read held exec x None lt e)))
 
 -- an item that was taken away and is put back
 pub restored : {A : Type 0} (xs : List (Option A)) (i : ℕ) (x : Option A) → at_or xs i None ≡ x

@@ -1,5 +1,5 @@
 -- What every world keeps, it keeps over the steps that calls do.
-use Rattle.std.proofs.Common.{◌≡◌, ℕ, ◌<◌, true, false, List, Option, Some, None, Result, Ok, Err, IfOk, IfSome, OnErr, OnOk, length, refl, ap, ap₂, sym, subst, ◌∙◌, ◌≤◌, arith, rules}
+use Rattle.std.proofs.Common.{◌≡◌, ℕ, ◌<◌, true, List, Option, Some, None, Result, Ok, Err, IfOk, IfSome, OnErr, OnOk, length, refl, ap, ap₂, sym, subst, ◌∙◌, ◌≤◌, arith, rules}
 use Rattle.sc_base.specs.Lists.{at_or}
 use Rattle.sc_ids.specs.Changes.{change_at}
 use Rattle.sc_ids.specs.declared.attempts.Mark.{Mark}
@@ -11,13 +11,15 @@ use Rattle.sc_core.specs.CoreData.{job_runs}
 use Rattle.sc_core.specs.declared.answers.Answer.{Answer}
 use Rattle.sc_plan.specs.Orders.{wipes_of}
 use Rattle.sc_plan.specs.declared.orders.Order.{Order}
+use Rattle.sc_jobs.specs.JobData.{saves}
+use Rattle.sc_jobs.specs.declared.goals.Goal.{Goal}
 use Rattle.sc_store.specs.StoreData.{StoreData}
 use Rattle.sc_store.specs.declared.answers.WipeAnswer.{WipeAnswer}
 use Rattle.sc_net.specs.Reports.{IsTrueReport, ReportData, report_data}
 use Rattle.sc_net.specs.Tasks.{TaskData}
 use Rattle.sc_net.specs.declared.findings.Finding.{Finding}
 use Rattle.sc_net.specs.declared.findings.Finding.TheVariants as findings
-use Rattle.sc_task.specs.Attempts.{AttemptData, assigned, computed, reported, stored}
+use Rattle.sc_task.specs.Attempts.{AttemptData, assigned, computed, granted, reported, staged, stored}
 use Rattle.sc_desk.specs.DeskData.{DeskData, core_of}
 use Rattle.sc_desk.specs.Dues.{IsEarly, IsInTime, IsOrdered, wipes_due}
 use Rattle.sc_desk.specs.Orders.{IsDueAmong}
@@ -71,6 +73,8 @@ read_stands work w exec is = by (held_at w exec) refl
     by (Some (assigned t got)) e = next_stands work w exec t got is.sound e
     by (Some (computed t)) e = tt
     by (Some (stored t loc)) e = tt
+    by (Some (staged t)) e = tt
+    by (Some (granted t)) e = tt
     by (Some (reported t finding)) e = tt
 
 pub reads_keep : (work : WorkData) (w : WorldData) (exec : ℕ) (held : List (Option AttemptData))
@@ -226,6 +230,8 @@ pub begun_world : (work : WorkData) (desk : DeskData) (stores : List StoreData)
     → IsWorld work (idle_world work desk stores)
 begun_world work desk stores (passed, last, goal, b) core sound ready =
     worlds_begin work last desk stores core sound
-    (subst (λ x. IsOpening desk.job.graph work.limits false work.plan last x) (sym b.core)
-    b.opening)
+    (subst (λ (x : Goal). IsOpening desk.job.graph work.limits (saves work x) work.plan last
+    (core_of desk)) (sym b.goal_is)
+    (subst (λ x. IsOpening desk.job.graph work.limits (saves work goal) work.plan last x)
+    (sym b.core) b.opening))
     b.shelf ready

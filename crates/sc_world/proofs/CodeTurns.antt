@@ -404,10 +404,11 @@ posts_advance work w after exec answer core sound alone r =
         → IfSome (running_of (core_in w) r.task.hand_out.attempt) (λ q. q.is_out ≡ true)
     outs runs = by (running_of (core_in w) r.task.hand_out.attempt) there
       where
-        there : RunsThere (core_in w) exec (reported r.task r.finding)
-        there = subst (λ o. IfSome o (RunsThere (core_in w) exec)) r.held (sound.runs runs exec)
+        there : RunsThere work (core_in w) exec (reported r.task r.finding)
+        there = subst (λ o. IfSome o (RunsThere work (core_in w) exec)) r.held
+            (sound.runs runs exec)
 
-        by : (o : Option Running) → IfSome o (IsThatOf exec r.task)
+        by : (o : Option Running) → IfSome o (IsThatOf work exec (reported r.task r.finding))
             → IfSome o (λ q. q.is_out ≡ true)
         by None h = tt
         by (Some q) h = h.out

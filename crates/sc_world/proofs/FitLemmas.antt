@@ -1,5 +1,5 @@
 -- The reports of attempts fit them, and the inputs of tasks stand.
-use Rattle.std.proofs.Common.{◌≡◌, ◌⊎◌, inl, inr, ℕ, zero, suc, ◌<◌, ◌==◌, ◌&&◌, ◌||◌, Bool, true, false, All, List, [], ◌∷◌, ◌++◌, Contains, Option, Some, None, map, nat_lt, slice_get, refl, ap, sym, subst, ◌∙◌, arith, rules, true≢false}
+use Rattle.std.proofs.Common.{◌≡◌, ◌⊎◌, inl, inr, ℕ, zero, suc, ◌<◌, ◌==◌, ◌&&◌, ◌||◌, not, Bool, true, false, All, List, [], ◌∷◌, ◌++◌, Contains, Option, Some, None, map, nat_lt, slice_get, refl, ap, sym, subst, ◌∙◌, arith, rules, true≢false}
 use Rattle.std.specs.List.{AllZip, filter, flat_map, list_any}
 use Rattle.std.proofs.lemmas.Bool.Decides.{nat_tests}
 use Rattle.std.proofs.lemmas.List.Elements.{All-cons, All-contains, All-head, All-nil, All-tail, All-weaker, Contains-append_left, Contains-append_right, Contains-push}
@@ -9,6 +9,7 @@ use Rattle.sc_ids.specs.declared.blocks.BlockId.{BlockId}
 use Rattle.sc_ids.specs.declared.blocks.Loc.{Loc}
 use Rattle.sc_ids.specs.declared.blocks.Target.{Target}
 use Rattle.sc_ids.specs.declared.blocks.Target.TheVariants as targets
+use Rattle.sc_ids.specs.declared.failures.Fault.{Fault}
 use Rattle.sc_taskset.proofs.FindLemmas.{found_is, found_passes}
 use Rattle.sc_tracker.specs.Outputs.{location_in}
 use Rattle.sc_tracker.specs.TrackerData.{TrackerData, output_of}
@@ -21,16 +22,17 @@ use Rattle.sc_dag.specs.Submission.{is_map}
 use Rattle.sc_dag.proofs.NumberLemmas.{filter_below}
 use Rattle.sc_core.specs.CoreData.{CoreData}
 use Rattle.sc_core.specs.HandOuts.{locations_by}
-use Rattle.sc_core.specs.Posts.{fits, is_here, is_same_loc, was_last}
+use Rattle.sc_core.specs.Posts.{fits, has_moved, is_here, is_same_fault, is_same_loc, is_save, was_last}
+use Rattle.sc_core.specs.declared.running.Phase.TheVariants as phases
 use Rattle.sc_core.specs.declared.running.Running.{Running}
 use Rattle.sc_core.proofs.RunningLemmas.{none_passes}
 use Rattle.sc_lineage.specs.ScriptData.{WorkData}
-use Rattle.sc_jobs.specs.JobData.{blocks_by, blocks_left, stage_in, HasPartition}
+use Rattle.sc_jobs.specs.JobData.{HasPartition, blocks_by, blocks_left, saves, stage_in}
 use Rattle.sc_net.specs.Reports.{IsTrueReport, loc_at, outcome_of}
 use Rattle.sc_net.specs.Tasks.{IsTaskOf, TaskData, is_map_stage, is_map_task, stage_of_task}
 use Rattle.sc_net.specs.declared.findings.Finding.{Finding}
 use Rattle.sc_net.specs.declared.findings.Finding.TheVariants as findings
-use Rattle.sc_world.specs.Sound.{IsFrom}
+use Rattle.sc_world.specs.Sound.{IsFrom, ReportsAt}
 
 -- ---- stages by their numbers
 
@@ -112,38 +114,52 @@ task_stage c t numbered task = by (stage_of_task t) refl
 both : (a b : Bool) → a ≡ true → b ≡ true → (a && b) ≡ true
 both a b d e = rw (d, e) refl
 
--- a true report of a task fits the attempt that runs
+same_fault : (fault : Fault) → is_same_fault fault fault ≡ true
+same_fault fault = grind (arith, nat_tests)
+
+-- a true report of a task fits the attempt that runs, which has come as far as that in a save
 pub report_fits : (work : WorkData) (c : CoreData) (r : Running) (t : TaskData)
     (finding : Finding)
     → AreNumbered t.job.graph c.dag.stages → IsTaskOf t.job t.hand_out
     → r.hand_out ≡ t.hand_out → IsTrueReport work t finding → IsFrom r.exec finding
-    → c.committers ≡ [] → fits c r (outcome_of finding) ≡ true
-report_fits work c r t finding numbered task same true_of from no_save =
-    rw same (by finding true_of from)
+    → is_save c.committers ≡ saves work t.job.goal
+    → (saves work t.job.goal ≡ true → ReportsAt finding r.phase)
+    → fits c r (outcome_of finding) ≡ true
+report_fits work c r t finding numbered task same true_of from saving come =
+    rw same (by finding true_of from come)
   where
     mapped : (b : Bool) → is_map_task t ≡ b
         → is_map (stage_at c.dag t.hand_out.attempt.stage).target ≡ b
     mapped b e = task_stage c t numbered task ∙ e
 
+    won : (b : Bool) → saves work t.job.goal ≡ b
+        → (saves work t.job.goal ≡ true → r.phase ≡ phases.Moved)
+        → (not (is_save c.committers) || has_moved r.phase) ≡ true
+    won true e moved = rw (saving ∙ e, moved e) refl
+    won false e moved = rw (saving ∙ e) refl
+
     by : (finding : Finding) → IsTrueReport work t finding → IsFrom r.exec finding
+        → (saves work t.job.goal ≡ true → ReportsAt finding r.phase)
         → fits c (record r { hand_out = t.hand_out }) (outcome_of finding) ≡ true
-    by (findings.Map loc) is here =
+    by (findings.Map loc) is here at =
         both (is_map (stage_at c.dag t.hand_out.attempt.stage).target) (loc.exec == r.exec)
         (mapped true is) (grind (arith, nat_tests, here))
-    by (findings.Result given) is from =
-        rw (mapped false is.result, no_save) refl
-    by findings.Planned is from = refl
-    by (findings.Raised raise) is from = refl
-    by (findings.Gone exec wanted found) (given, lt) from =
+    by (findings.Result given) is from at =
+        both (not (is_map (stage_at c.dag t.hand_out.attempt.stage).target))
+        (not (is_save c.committers) || has_moved r.phase) (rw (mapped false is.result) refl)
+        (won (saves work t.job.goal) refl at)
+    by findings.Planned is from at = refl
+    by (findings.Raised raise) is from at = refl
+    by (findings.Gone exec wanted found) (given, lt) from at =
         both (list_any (is_here (loc_at exec wanted)) t.hand_out.inputs) (nat_lt wanted found)
         (any_there (is_here (loc_at exec wanted)) t.hand_out.inputs
         (locations.Here (loc_at exec wanted)) given (same_loc (loc_at exec wanted)))
         (grind (arith, nat_tests, lt))
-    by (findings.Metadata last) given from =
+    by (findings.Metadata last) given from at =
         any_there (was_last last) t.hand_out.inputs (locations.Missing (Some last)) given
         (same_loc last)
-    by (findings.Device fault) is bad = absurd bad
-    by findings.Denied is bad = absurd bad
+    by (findings.Device fault) (risen, saved) from at = rw (at saved) (same_fault fault)
+    by findings.Denied saved from at = rw (at saved) refl
 
 -- ---- what is handed out stands
 

@@ -11,15 +11,19 @@ use Rattle.sc_ids.proofs.ChangeLemmas.{at_or_change_other, length_change_at, sli
 use Rattle.sc_tracker.specs.declared.outputs.Location.{Location}
 use Rattle.sc_tracker.specs.declared.outputs.Location.TheVariants as locations
 use Rattle.sc_lineage.specs.ScriptData.{WorkData}
+use Rattle.sc_core.specs.CoreData.{running_of}
 use Rattle.sc_core.specs.Sound.{was_given}
+use Rattle.sc_core.specs.declared.running.Phase.{Phase}
 use Rattle.sc_core.specs.declared.running.Running.{Running}
+use Rattle.sc_jobs.specs.JobData.{saves}
 use Rattle.sc_store.specs.StoreData.{StoreData}
 use Rattle.sc_net.specs.Tasks.{TaskData, blocks_of_task}
 use Rattle.sc_net.specs.declared.findings.Finding.{Finding}
 use Rattle.sc_net.specs.declared.findings.Finding.TheVariants as findings
-use Rattle.sc_task.specs.Attempts.{AttemptData, assigned, computed, stored, reported, task_of}
+use Rattle.sc_task.specs.Attempts.{AttemptData, assigned, computed, granted, reported, staged, stored, task_of}
 use Rattle.sc_desk.specs.Dues.{wipes_due}
-use Rattle.sc_world.specs.Sound.{Brings, HasPut, InputStands, IsOut, IsRight, IsSoundWorld, RunsThere, Says}
+use Rattle.sc_world.specs.Places.{IsAtRest}
+use Rattle.sc_world.specs.Sound.{Brings, ComesAt, HasPut, InputStands, IsOut, IsRight, IsSoundWorld, IsThatOf, RunsThere, Says}
 use Rattle.sc_world.specs.Ties.{AreLater, generation_at}
 use Rattle.sc_world.specs.WorldData.{WorldData, core_in, held_at, with_held, world_data}
 use Rattle.sc_world.proofs.TieLemmas.{later_tied}
@@ -64,6 +68,8 @@ brings_later before after later exec (assigned t got) h = h
 brings_later before after later exec (computed t) h = h
 brings_later before after later exec (stored t loc) (put, here) =
     (put_later before after later t loc put, here)
+brings_later before after later exec (staged t) h = h
+brings_later before after later exec (granted t) h = h
 brings_later before after later exec (reported t finding) (says, from) =
     (says_later before after later t finding says, from)
 
@@ -96,11 +102,12 @@ later_sound work w stores sound later same own due =
           (λ s. Says stores s.report.task s.report.finding)
           (λ s h. says_later w.stores stores later s.report.task s.report.finding h)
           w.desk.shelf sound.shelved;
+      rests = sound.rests;
       runs = sound.runs;
       out = λ job r there is.
           let o : IsOut w r = sound.out job r there is in
           record { attempt = o.attempt; held = o.held; same = o.same };
-      no_save = sound.no_save;
+      saving = sound.saving;
       stays = sound.stays;
     }
   where
@@ -154,11 +161,14 @@ held_each P (x ∷ xs) (suc i) o new all zero = all zero
 held_each P (x ∷ xs) (suc i) o new all (suc j) =
     held_each (λ k a. P (suc k) a) xs i o new (λ k. all (suc k)) j
 
--- the attempt of an executor goes on
+-- The attempt of an executor goes on. In a save it hasn't come further than the core knows.
 pub goes_on_sound : (work : WorkData) (w : WorldData) (exec : ℕ) (a next : AttemptData)
     → IsSoundWorld work w → held_at w exec ≡ Some a → task_of next ≡ task_of a
-    → Brings w.stores exec next → IsSoundWorld work (with_held w exec (Some next))
-goes_on_sound work w exec a next sound there same brings =
+    → Brings w.stores exec next → IsAtRest work (Some next)
+    → (saves work (task_of a).job.goal ≡ true → (phase : Phase) → ComesAt a phase
+    → ComesAt next phase)
+    → IsSoundWorld work (with_held w exec (Some next))
+goes_on_sound work w exec a next sound there same brings rests comes =
     record {
       stores = sound.stores;
       places = length_change_at w.held exec (λ _. Some next) ∙ sound.places;
@@ -176,11 +186,12 @@ goes_on_sound work w exec a next sound there same brings =
           sound.given;
       right = held_each (IsRight w.stores) w.held exec (Some next) now sound.right;
       shelved = sound.shelved;
-      runs = λ job. held_each (RunsThere (core_in w)) w.held exec (Some next)
-          (rw same (of (RunsThere (core_in w) exec) there (sound.runs job exec)))
+      rests = held_each (λ e a. IsAtRest work (Some a)) w.held exec (Some next) rests sound.rests;
+      runs = λ job. held_each (RunsThere work (core_in w)) w.held exec (Some next)
+          (runs_on (of (RunsThere work (core_in w) exec) there (sound.runs job exec)))
           (sound.runs job);
       out = λ job r is_in is. still r (sound.out job r is_in is);
-      no_save = sound.no_save;
+      saving = sound.saving;
       stays = sound.stays;
     }
   where
@@ -192,6 +203,29 @@ goes_on_sound work w exec a next sound there same brings =
 
     now : IsRight w.stores exec next
     now = record { inputs = rw same was.inputs; brings = brings }
+
+    that_on : (r : Running) → IsThatOf work exec a r → IsThatOf work exec next r
+    that_on r h =
+        record {
+          on = h.on;
+          same = h.same ∙ ap (λ (t : TaskData). t.hand_out) (sym same);
+          out = h.out;
+          come = λ s.
+              (let was = ap (λ (t : TaskData). saves work t.job.goal) (sym same) ∙ s in
+              comes was r.phase (h.come was));
+        }
+
+    runs_on : RunsThere work (core_in w) exec a → RunsThere work (core_in w) exec next
+    runs_on h =
+        subst
+        (λ (t : TaskData). IfSome (running_of (core_in w) t.hand_out.attempt)
+        (IsThatOf work exec next)) (sym same)
+        (by (running_of (core_in w) (task_of a).hand_out.attempt) h)
+      where
+        by : (o : Option Running) → IfSome o (IsThatOf work exec a)
+            → IfSome o (IsThatOf work exec next)
+        by None k = tt
+        by (Some r) k = that_on r k
 
     still : (r : Running) → IsOut w r → IsOut (with_held w exec (Some next)) r
     still r o = by (exec == r.exec) refl

@@ -1,18 +1,20 @@
 -- Every step keeps what holds of every world.
-use Rattle.std.proofs.Common.{◌≡◌, ℕ, ◌<◌, All, Bool, true, false, Option, Some, None, IfSome, length, ap, sym, subst, ◌∙◌, rules}
+use Rattle.std.proofs.Common.{◌≡◌, inl, inr, ℕ, ◌<◌, All, Bool, true, false, Option, Some, None, IfSome, length, ap, sym, subst, ◌∙◌, rules}
 use Rattle.sc_ids.specs.declared.blocks.Loc.{Loc}
 use Rattle.sc_lineage.specs.ScriptData.{WorkData}
 use Rattle.sc_plan.specs.declared.orders.Order.{Order}
 use Rattle.sc_core.specs.Sound.{IsSoundCore}
 use Rattle.sc_core.specs.declared.answers.Answer.{Answer}
 use Rattle.sc_core.specs.declared.answers.Answer.TheVariants as says
-use Rattle.sc_core.specs.declared.events.Event.TheVariants.{Post, Release, Take, TellLost}
+use Rattle.sc_core.specs.declared.answers.SideAnswer.{SideAnswer}
+use Rattle.sc_core.specs.declared.events.Event.TheVariants.{Post, Release, Side, Take, TellLost}
+use Rattle.sc_core.specs.declared.events.SideEvent.{SideEvent}
 use Rattle.sc_core.proofs.LawLemmas.{steps_keep_sound}
 use Rattle.sc_net.specs.Reports.{outcome_of, report_data}
-use Rattle.sc_net.specs.Tasks.{IsTaskOf, task_data}
+use Rattle.sc_net.specs.Tasks.{IsTaskOf, TaskData, task_data}
 use Rattle.sc_net.specs.declared.findings.Finding.TheVariants as findings
 use Rattle.sc_store.specs.declared.answers.WipeAnswer.{WipeAnswer}
-use Rattle.sc_task.specs.Attempts.{assigned, reported, task_of}
+use Rattle.sc_task.specs.Attempts.{AttemptData, assigned, computed, granted, reported, staged, task_of}
 use Rattle.sc_desk.specs.DeskData.{DeskData, core_of}
 use Rattle.sc_desk.specs.Posts.{attempt_of}
 use Rattle.sc_desk.specs.Sound.{IsSoundDesk}
@@ -21,16 +23,18 @@ use Rattle.sc_desk.proofs.TaskLemmas.{givable}
 use Rattle.sc_world.specs.Laws.{StepsKeepSound}
 use Rattle.sc_world.specs.Runs.{IsOfTask, IsWorld}
 use Rattle.sc_world.specs.Sound.{IsSoundWorld, Says}
-use Rattle.sc_world.specs.Steps.{Computes, Does, EvictsOne, LosesOne, HandsOrder, Posts, Puts, Reads, ReleasesOne, Takes, WipesOne, given_to}
+use Rattle.sc_world.specs.Steps.{AsksOne, Computes, Does, EvictsOne, GoesAside, HandsOrder, LosesOne, Moves, Posts, Puts, Reads, ReleasesOne, Stages, Takes, WipesOne, after_side, given_to}
 use Rattle.sc_world.specs.WorldData.{WorldData, core_in, held_at, with_desk}
 use Rattle.sc_world.specs.declared.steps.Applied.{Applied}
 use Rattle.sc_world.specs.declared.steps.Applied.TheVariants as applied
 use Rattle.sc_world.specs.declared.steps.Step.{Step}
 use Rattle.sc_world.specs.declared.steps.Step.TheVariants as steps
+use Rattle.sc_world.proofs.AsideCases.{ComesOrOver}
 use Rattle.sc_world.proofs.HeldLemmas.{held_each}
 use Rattle.sc_world.proofs.LossLemmas.{loses_sound}
 use Rattle.sc_world.proofs.PostLemmas.{posts_sound}
 use Rattle.sc_world.proofs.ReleaseLemmas.{releases_sound}
+use Rattle.sc_world.proofs.SideLemmas.{asks_leaves, asks_sound, moves_leaves, moves_sound, stages_leaves, stages_sound}
 use Rattle.sc_world.proofs.StepLemmas.{GoesOn, computes_on, computes_sound, evicts_sound, on_sound, puts_sound, reads_on, wipes_sound}
 use Rattle.sc_world.proofs.TakeLemmas.{takes_sound}
 use Rattle.sc_core.specs.CoreData.{job_runs}
@@ -167,14 +171,13 @@ reads_keep work w exec after h r =
       core = h.core;
       desk = h.desk;
       tasks = held_each (λ e b. IsOfTask b) w.held exec r.held
-          (rw on.is (rw on.same (subst (λ o. IfSome o IsOfTask) r.reads.held (h.tasks exec))))
+          (rw on.is (rw on.on.same (subst (λ o. IfSome o IsOfTask) r.reads.held (h.tasks exec))))
           h.tasks;
-      sound = on_sound work w exec (assigned r.reads.task r.reads.got) r.held h.sound r.reads.held
-          on;
+      sound = on_sound work w exec r.reads.task r.reads.got r.held h.sound r.reads.held on;
     })
   where
-    on : GoesOn w.stores exec r.reads.task r.held
-    on = reads_on w.stores exec (held_at w exec) r.held r.reads
+    on : GoesOn work w.stores exec r.reads.task r.held
+    on = reads_on work w.stores exec (held_at w exec) r.held r.reads
 
 computes_keep : (work : WorkData) (w : WorldData) (exec : ℕ) (after : WorldData) → IsWorld work w
     → Computes work w exec after → IsWorld work after
@@ -186,7 +189,7 @@ computes_keep work w exec after h p =
       sound = subst (IsSoundWorld work) p.is (computes_sound work w exec after h.sound p);
     })
   where
-    on : GoesOn w.stores exec p.task (Some p.next)
+    on : GoesOn work w.stores exec p.task (Some p.next)
     on = computes_on work w.stores exec p.task p.next p.makes
 
     is_next : Some p.next ≡ Some on.next → task_of p.next ≡ task_of on.next
@@ -194,7 +197,7 @@ computes_keep work w exec after h p =
 
     next : IsOfTask p.next
     next =
-        subst (λ t. IsTaskOf t.job t.hand_out) (sym (is_next on.is ∙ on.same))
+        subst (λ t. IsTaskOf t.job t.hand_out) (sym (is_next on.is ∙ on.on.same))
         (subst (λ o. IfSome o IsOfTask) p.held (h.tasks exec))
 
 puts_keep : (work : WorkData) (w : WorldData) (exec : ℕ) (loc : Loc) (after : WorldData)
@@ -229,6 +232,59 @@ evicts_keep work w exec after h p =
       sound = subst (IsSoundWorld work) p.is (evicts_sound work w exec after h.sound p);
     })
 
+-- ---- an attempt of a save
+
+aside_keep : (work : WorkData) (w : WorldData) (exec : ℕ) (before : AttemptData) (event : SideEvent)
+    (answer : SideAnswer) (after : WorldData) → IsWorld work w
+    → (g : GoesAside w exec before event answer after)
+    → ComesOrOver work (core_in w) (core_of g.desk) before g.noted.answer
+    → IsSoundWorld work after → IsSoundDesk work after.desk → IsWorld work after
+aside_keep work w exec before event answer after h g leaves sound desk_after =
+    subst (IsWorld work) (sym g.is) (record {
+      core = steps_keep_sound (core_in w) (core_of g.desk) (Side event)
+          (says.Side g.noted.answer) h.core g.notes.enters.step;
+      desk = subst (λ x. IsSoundDesk work x.desk) g.is desk_after;
+      tasks = held_each (λ e b. IsOfTask b) w.held exec (after_side before answer)
+          (subst (λ s. IfSome (after_side before s) IsOfTask) (sym g.told) (of leaves)) h.tasks;
+      sound = subst (IsSoundWorld work) g.is sound;
+    })
+  where
+    was : IsOfTask before
+    was = subst (λ o. IfSome o IsOfTask) g.held (h.tasks exec)
+
+    of : ComesOrOver work (core_in w) (core_of g.desk) before g.noted.answer
+        → IfSome (after_side before g.noted.answer) IsOfTask
+    of (inl c) =
+        subst (λ o. IfSome o IsOfTask) (sym c.is)
+        (subst (λ (t : TaskData). IsTaskOf t.job t.hand_out) (sym c.same) was)
+    of (inr o) = subst (λ q. IfSome q IsOfTask) (sym o.none) tt
+
+stages_keep : (work : WorkData) (w : WorldData) (exec : ℕ) (answer : SideAnswer)
+    (after : WorldData) → IsWorld work w → Stages w exec answer after
+    → IsSoundDesk work after.desk → IsWorld work after
+stages_keep work w exec answer after h p desk_after =
+    aside_keep work w exec (computed p.task) _ answer after h p.goes
+    (stages_leaves work w exec answer after h.sound p)
+    (stages_sound work w exec answer after h.sound h.core h.desk.stages p
+    (subst (λ o. IfSome o IsOfTask) p.goes.held (h.tasks exec)))
+    desk_after
+
+asks_keep : (work : WorkData) (w : WorldData) (exec : ℕ) (answer : SideAnswer)
+    (after : WorldData) → IsWorld work w → AsksOne w exec answer after
+    → IsSoundDesk work after.desk → IsWorld work after
+asks_keep work w exec answer after h p desk_after =
+    aside_keep work w exec (staged p.task) _ answer after h p.goes
+    (asks_leaves work w exec answer after h.sound h.core p)
+    (asks_sound work w exec answer after h.sound h.core p) desk_after
+
+moves_keep : (work : WorkData) (w : WorldData) (exec : ℕ) (answer : SideAnswer)
+    (after : WorldData) → IsWorld work w → Moves w exec answer after
+    → IsSoundDesk work after.desk → IsWorld work after
+moves_keep work w exec answer after h p desk_after =
+    aside_keep work w exec (granted p.task) _ answer after h p.goes
+    (moves_leaves work w exec answer after p)
+    (moves_sound work w exec answer after h.sound h.core p) desk_after
+
 -- ---- any step
 
 does_keep : (work : WorkData) (w after : WorldData) (step : Step) (answer : Applied)
@@ -241,6 +297,12 @@ does_keep work w after (steps.Compute exec) applied.Done h p d =
     computes_keep work w exec after h p
 does_keep work w after (steps.Put exec) (applied.Put loc) h p d =
     puts_keep work w exec loc after h p
+does_keep work w after (steps.Stage exec) (applied.Noted answer) h p d =
+    stages_keep work w exec answer after h p d
+does_keep work w after (steps.Ask exec) (applied.Noted answer) h p d =
+    asks_keep work w exec answer after h p d
+does_keep work w after (steps.Move exec) (applied.Noted answer) h p d =
+    moves_keep work w exec answer after h p d
 does_keep work w after (steps.Post exec) (applied.Told answer) h p d =
     posts_keep work w exec answer after h p d
 does_keep work w after (steps.Release key) (applied.Told answer) h p d =
@@ -259,6 +321,8 @@ steps_keep_world work w after step applied.NotEnabled h (refused, is) d =
     subst (IsWorld work) (sym is) h
 steps_keep_world work w after step (applied.Told answer) h goes d =
     does_keep work w after step (applied.Told answer) h goes d
+steps_keep_world work w after step (applied.Noted answer) h goes d =
+    does_keep work w after step (applied.Noted answer) h goes d
 steps_keep_world work w after step (applied.Put loc) h goes d =
     does_keep work w after step (applied.Put loc) h goes d
 steps_keep_world work w after step (applied.Wipe answer) h goes d =

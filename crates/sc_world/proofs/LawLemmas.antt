@@ -1,9 +1,18 @@
 -- The laws of worlds.
-use Rattle.std.proofs.Common.{ℕ, zero, suc, All, [], Contains, None, IfSome, replicate, sym, subst}
+use Rattle.std.proofs.Common.{◌≡◌, ℕ, zero, suc, All, Bool, true, false, [], Contains, None, IfSome, replicate, refl, ap, sym, subst, ◌∙◌, true≢false}
 use Rattle.std.proofs.lemmas.List.{length-replicate}
 use Rattle.std.proofs.lemmas.List.Elements.{All-contains, All-nil}
 use Rattle.sc_base.specs.Lists.{at_or}
+use Rattle.sc_dag.specs.DagData.{stage_at}
+use Rattle.sc_dag.specs.Outputs.{is_complete}
+use Rattle.sc_core.specs.CoreData.{CoreData, is_running_job, result_stage}
+use Rattle.sc_core.specs.Openings.{committers_for}
+use Rattle.sc_core.specs.Posts.{is_save}
+use Rattle.sc_core.specs.Sound.{IsSoundCore}
+use Rattle.sc_core.specs.declared.answers.JobState.TheVariants as jobs
+use Rattle.sc_jobs.specs.JobData.{saves}
 use Rattle.sc_task.specs.Attempts.{AttemptData}
+use Rattle.sc_desk.specs.DeskData.{core_of}
 use Rattle.sc_world.specs.Laws.{FetchesFind, MissesAreKnown, ReportsAreKnown, WorldsBegin, WorldsLeaveReady}
 use Rattle.sc_world.specs.Places.{NextStands}
 use Rattle.sc_world.specs.Runs.{IsOfTask}
@@ -16,6 +25,22 @@ none_held P zero zero = tt
 none_held P zero (suc e) = tt
 none_held P (suc n) zero = tt
 none_held P (suc n) (suc e) = none_held P n e
+
+-- there is a place where a job begins that saves, since it isn't complete yet
+opened_saving : (saving : Bool) (c : CoreData) → IsSoundCore c → c.job ≡ jobs.Running
+    → is_save (committers_for saving c.dag) ≡ saving
+opened_saving false c sound runs = refl
+opened_saving true c sound runs =
+    by (stage_at c.dag (result_stage c.dag)).tasks refl
+    (sound.job.goes_on (ap is_running_job runs)).result.0
+  where
+    by : (tasks : ℕ) → (stage_at c.dag (result_stage c.dag)).tasks ≡ tasks
+        → is_complete c.dag (result_stage c.dag) ≡ false
+        → is_save (committers_for true c.dag) ≡ true
+    by zero e lacks =
+        let whole : is_complete c.dag (result_stage c.dag) ≡ true = rw e refl in
+        absurd (true≢false (sym whole ∙ lacks))
+    by (suc n) e lacks = rw e refl
 
 pub worlds_begin : WorldsBegin
 worlds_begin work last desk stores core desk_sound opening empty ready =
@@ -34,10 +59,12 @@ worlds_begin work last desk stores core desk_sound opening empty ready =
         right = λ e. none_held _ work.limits.executors e;
         shelved = subst (λ shelf. All (λ s. Says stores s.report.task s.report.finding) shelf)
             (sym empty) (All-nil (λ s. Says stores s.report.task s.report.finding));
+        rests = λ e. none_held _ work.limits.executors e;
         runs = λ job e. none_held _ work.limits.executors e;
         out = λ job r is_in is. absurd (All-contains (λ x. ⊥) [] r (All-nil (λ x. ⊥))
             (subst (λ rs. Contains rs r) opening.running is_in));
-        no_save = opening.committers;
+        saving = ap is_save opening.committers
+            ∙ opened_saving (saves work desk.job.goal) (core_of desk) core opening.job;
         stays = opening.left_first;
       };
     }

@@ -1,5 +1,5 @@
 -- What holds of a world holds on, once its desk has entered an event.
-use Rattle.std.proofs.Common.{◌≡◌, ℕ, ◌≤◌, All, Bool, true, false, cond, List, [], ◌∷◌, Option, Some, None, IfSome, length, nat_le, refl, sym, subst, ◌∙◌, arith}
+use Rattle.std.proofs.Common.{◌≡◌, ℕ, ◌≤◌, All, Bool, true, false, cond, List, [], ◌∷◌, Option, Some, None, IfSome, length, nat_le, refl, ap, sym, subst, ◌∙◌, arith}
 use Rattle.std.specs.List.{filter}
 use Rattle.std.proofs.lemmas.Bool.Decides.{nat_tests}
 use Rattle.std.proofs.lemmas.List.Elements.{All-nil}
@@ -10,12 +10,14 @@ use Rattle.sc_lineage.specs.ScriptData.{WorkData}
 use Rattle.sc_plan.specs.Orders.{Due, due_count, wipes_of}
 use Rattle.sc_core.specs.CoreData.{CoreData, job_runs}
 use Rattle.sc_core.specs.Sound.{was_given}
+use Rattle.sc_jobs.specs.JobData.{JobData, saves}
 use Rattle.sc_net.specs.Reports.{ReportData}
 use Rattle.sc_net.specs.declared.shelved.ShelvedReport.{ShelvedReport}
 use Rattle.sc_task.specs.Attempts.{AttemptData, task_of}
 use Rattle.sc_desk.specs.DeskData.{DeskData, core_of}
 use Rattle.sc_desk.specs.Dues.{wipes_due}
 use Rattle.sc_desk.specs.Shelves.{shelf_in}
+use Rattle.sc_world.specs.Places.{IsAtRest}
 use Rattle.sc_world.specs.Sound.{IsOut, IsRight, IsSoundWorld, Says}
 use Rattle.sc_world.specs.Ties.{generation_at}
 use Rattle.sc_world.specs.WorldData.{WorldData, core_in, held_at, with_desk, with_held, world_data}
@@ -44,10 +46,12 @@ due_more (d ∷ ds) m n le = by (nat_le d.0 m) (nat_le d.0 n) refl refl (due_mor
 -- ---- worlds
 
 -- what an executor has out fits a world behind an event
-pub record IsFit (w : WorldData) (desk : DeskData) (exec : ℕ) (a : AttemptData) : Type 0 where
+pub record IsFit (work : WorkData) (w : WorldData) (desk : DeskData) (exec : ℕ) (a : AttemptData)
+    : Type 0 where
   pub of_job : (task_of a).job ≡ w.desk.job
   pub given : was_given (core_of desk).dag (task_of a).hand_out.attempt ≡ true
   pub right : IsRight w.stores exec a
+  pub rests : IsAtRest work (Some a)
 
 -- what the desk of a world is after an event, as far as it keeps the world sound
 pub record IsNext (w : WorldData) (desk : DeskData) : Type 0 where
@@ -63,8 +67,8 @@ some_weaker P Q f (Some a) h = f a h
 world_sound : (work : WorkData) (w : WorldData) (desk : DeskData)
     (held : List (Option AttemptData)) → IsSoundWorld work w → IsNext w desk
     → length held ≡ length w.held
-    → ((exec : ℕ) → IfSome (at_or held exec None) (IsFit w desk exec))
-    → (job_runs (core_of desk) ≡ true → AreOut held (core_of desk).running)
+    → ((exec : ℕ) → IfSome (at_or held exec None) (IsFit work w desk exec))
+    → (job_runs (core_of desk) ≡ true → AreOut work held (core_of desk).running)
     → IsSoundWorld work (world_data desk w.stores held)
 world_sound work w desk held sound next places fit out =
     record {
@@ -73,19 +77,22 @@ world_sound work w desk held sound next places fit out =
       own = sound.own;
       tied = next.behind.tied;
       due = λ exec. due exec;
-      of_job = λ exec. some_weaker (IsFit w desk exec) (λ a. (task_of a).job ≡ desk.job)
+      of_job = λ exec. some_weaker (IsFit work w desk exec) (λ a. (task_of a).job ≡ desk.job)
           (λ a f. f.of_job ∙ sym next.job) (at_or held exec None) (fit exec);
-      given = λ exec. some_weaker (IsFit w desk exec)
+      given = λ exec. some_weaker (IsFit work w desk exec)
           (λ a. was_given (core_of desk).dag (task_of a).hand_out.attempt ≡ true)
           (λ a f. f.given) (at_or held exec None) (fit exec);
-      right = λ exec. some_weaker (IsFit w desk exec) (IsRight w.stores exec) (λ a f. f.right)
+      right = λ exec. some_weaker (IsFit work w desk exec) (IsRight w.stores exec) (λ a f. f.right)
           (at_or held exec None) (fit exec);
       shelved = next.shelved;
+      rests = λ exec. some_weaker (IsFit work w desk exec) (λ a. IsAtRest work (Some a))
+          (λ a f. f.rests) (at_or held exec None) (fit exec);
       runs = λ job. (out job).runs;
       out = λ job r is_in is.
           let o : HasOut held r = (out job).out r is_in is in
           record { attempt = o.attempt; held = o.there; same = o.same };
-      no_save = next.behind.no_save;
+      saving = next.behind.saves ∙ sound.saving
+          ∙ ap (λ (j : JobData). saves work j.goal) (sym next.job);
       stays = next.behind.stays;
     }
   where
@@ -101,24 +108,27 @@ world_sound work w desk held sound next places fit out =
 
 -- what was out fits still
 fit_still : (work : WorkData) (w : WorldData) (desk : DeskData) → IsSoundWorld work w
-    → IsNext w desk → (exec : ℕ) → IfSome (held_at w exec) (IsFit w desk exec)
+    → IsNext w desk → (exec : ℕ) → IfSome (held_at w exec) (IsFit work w desk exec)
 fit_still work w desk sound next exec =
     by (held_at w exec) (sound.of_job exec) (sound.given exec) (sound.right exec)
+    (sound.rests exec)
   where
     by : (o : Option AttemptData) → IfSome o (λ a. (task_of a).job ≡ w.desk.job)
         → IfSome o (λ a. was_given (core_in w).dag (task_of a).hand_out.attempt ≡ true)
-        → IfSome o (IsRight w.stores exec) → IfSome o (IsFit w desk exec)
-    by None h g r = tt
-    by (Some a) h g r =
+        → IfSome o (IsRight w.stores exec) → IfSome o (λ a. IsAtRest work (Some a))
+        → IfSome o (IsFit work w desk exec)
+    by None h g r q = tt
+    by (Some a) h g r q =
         record {
           of_job = h;
           given = next.behind.given (task_of a).hand_out.attempt g;
           right = r;
+          rests = q;
         }
 
 -- what was out while the job ran
 pub was_out : (work : WorkData) (w : WorldData) → IsSoundWorld work w → job_runs (core_in w) ≡ true
-    → AreOut w.held (core_in w).running
+    → AreOut work w.held (core_in w).running
 was_out work w sound job =
     record {
       runs = sound.runs job;
@@ -129,7 +139,7 @@ was_out work w sound job =
 
 -- an event after which executors have out what they had
 pub kept_sound : (work : WorkData) (w : WorldData) (desk : DeskData) → IsSoundWorld work w
-    → IsNext w desk → (job_runs (core_of desk) ≡ true → AreOut w.held (core_of desk).running)
+    → IsNext w desk → (job_runs (core_of desk) ≡ true → AreOut work w.held (core_of desk).running)
     → IsSoundWorld work (with_desk w desk)
 kept_sound work w desk sound next out =
     world_sound work w desk w.held sound next refl (fit_still work w desk sound next) out
@@ -146,20 +156,20 @@ same_sound work w desk sound is job shelved =
       behind = subst (λ c. IsBehind w c) (sym is) (itself_behind work w sound);
       shelved = shelved;
     })
-    (subst (λ (c : CoreData). job_runs c ≡ true → AreOut w.held c.running) (sym is)
+    (subst (λ (c : CoreData). job_runs c ≡ true → AreOut work w.held c.running) (sym is)
     (λ r. was_out work w sound r))
 
 -- an event after which one executor has out something else, or nothing
 pub placed_sound : (work : WorkData) (w : WorldData) (desk : DeskData) (exec : ℕ)
     (new : Option AttemptData) → IsSoundWorld work w → IsNext w desk
-    → IfSome new (IsFit w desk exec)
+    → IfSome new (IsFit work w desk exec)
     → (job_runs (core_of desk) ≡ true
-    → AreOut (change_at w.held exec (λ _. new)) (core_of desk).running)
+    → AreOut work (change_at w.held exec (λ _. new)) (core_of desk).running)
     → IsSoundWorld work (with_held (with_desk w desk) exec new)
 placed_sound work w desk exec new sound next fit out =
     world_sound work w desk (change_at w.held exec (λ _. new)) sound next
     (length_change_at w.held exec (λ _. new))
-    (held_each (IsFit w desk) w.held exec new fit (fit_still work w desk sound next)) out
+    (held_each (IsFit work w desk) w.held exec new fit (fit_still work w desk sound next)) out
 
 -- what holds of a shelf holds of it once the job has ended
 pub shelf_all : (P : ShelvedReport ReportData → Type 0) (c : CoreData)

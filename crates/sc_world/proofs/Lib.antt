@@ -13,6 +13,10 @@ mod PostLemmas
 mod ReleaseLemmas
 mod LossLemmas
 mod StepLemmas
+mod ComeLemmas
+mod AsideCases
+mod SaverLemmas
+mod SideLemmas
 mod NextLemmas
 mod KeepLemmas
 mod LawLemmas
@@ -20,6 +24,13 @@ mod CodeGo
 mod CodeAmong
 mod CodeSteps
 mod CodeRuns
+mod SideTurnLemmas
 mod CodeTurns
 mod CodeOrders
 mod CodeKeeps
+mod CodeRests
+mod CodeSaves
+mod PartLemmas
+mod CodeParts
+mod FilesLemmas
+mod StandLemmas

@@ -57,7 +57,7 @@ lost_behind w c exec sound h =
       tied = subst (λ (t : TrackerData). AreTied w.stores t) (sym frees.dag.tracker)
           (lost_tied w.stores c.dag.tracker exec h.tied);
       given = λ a g. left.given a (loses.given a (h.given a g));
-      no_save = frees.saves h.no_save;
+      saves = frees.saves ∙ h.saves;
       stays = frees.stays ∙ h.stays;
     }
   where

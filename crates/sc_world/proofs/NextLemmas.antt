@@ -1,5 +1,5 @@
 -- What an attempt finds that reads, and what the desk makes of a report.
-use Rattle.std.proofs.Common.{◌≡◌, ◌≢◌, ℕ, zero, suc, ◌≤◌, true, List, [], ◌∷◌, Option, Some, None, IfSome, IsSomeAnd, slice_get, refl, ap₂, sym, subst, arith}
+use Rattle.std.proofs.Common.{◌≡◌, ◌≢◌, ℕ, zero, suc, ◌≤◌, true, List, [], ◌∷◌, Option, Some, None, IfSome, IsSomeAnd, slice_get, refl, ap, ap₂, sym, subst, ◌∙◌, arith}
 use Rattle.std.specs.List.{AllZip}
 use Rattle.sc_ids.specs.declared.blocks.BlockId.{BlockId}
 use Rattle.sc_ids.specs.declared.blocks.Loc.{Loc}
@@ -8,6 +8,7 @@ use Rattle.sc_tracker.specs.declared.outputs.Location.TheVariants as locations
 use Rattle.sc_dag.specs.Openings.{AreNumbered}
 use Rattle.sc_core.specs.Posts.{fits}
 use Rattle.sc_lineage.specs.ScriptData.{WorkData}
+use Rattle.sc_jobs.specs.JobData.{JobData, saves}
 use Rattle.sc_store.specs.StoreData.{StoreData, output_in}
 use Rattle.sc_net.specs.Reports.{IsTrueReport, outcome_of, report_data}
 use Rattle.sc_net.specs.Tasks.{IsTaskOf, TaskData, blocks_of_task, task_data}
@@ -76,11 +77,11 @@ report_known work w exec t finding sound numbered task held true_of r job found 
     right : IsRight w.stores exec (reported t finding)
     right = subst (λ o. IfSome o (IsRight w.stores exec)) held (sound.right exec)
 
-    runs : RunsThere (core_in w) exec (reported t finding)
-    runs = subst (λ o. IfSome o (RunsThere (core_in w) exec)) held (sound.runs job exec)
+    runs : RunsThere work (core_in w) exec (reported t finding)
+    runs = subst (λ o. IfSome o (RunsThere work (core_in w) exec)) held (sound.runs job exec)
 
-    one : IsThatOf exec t r
-    one = subst (λ o. IfSome o (IsThatOf exec t)) found runs
+    one : IsThatOf work exec (reported t finding) r
+    one = subst (λ o. IfSome o (IsThatOf work exec (reported t finding))) found runs
 
     job_is : t.job ≡ w.desk.job
     job_is = subst (λ o. IfSome o (λ a. (task_of a).job ≡ w.desk.job)) held (sound.of_job exec)
@@ -93,7 +94,7 @@ report_known work w exec t finding sound numbered task held true_of r job found 
         report_fits work (core_in w) r t finding
         (subst (λ j. AreNumbered j.graph (core_in w).dag.stages) (sym job_is) numbered) task
         one.same true_of (subst (λ (e : ℕ). IsFrom e finding) (sym one.on) right.brings.1)
-        sound.no_save
+        (sound.saving ∙ ap (λ (j : JobData). saves work j.goal) (sym job_is)) one.come
 
 pub report_in_time : (work : WorkData) (w : WorldData) (exec : ℕ) (t : TaskData)
     (finding : Finding) → IsSoundWorld work w → held_at w exec ≡ Some (reported t finding)

@@ -13,11 +13,14 @@ use Rattle.sc_dag.proofs.Tests.{clash}
 use Rattle.sc_core.specs.CoreData.{is_of, is_out_on}
 use Rattle.sc_core.specs.HandOuts.{HandOutData}
 use Rattle.sc_core.specs.Takes.{running_on}
+use Rattle.sc_core.specs.declared.running.Phase.TheVariants as phases
 use Rattle.sc_core.specs.declared.running.Running.{Running}
 use Rattle.sc_core.proofs.LookupLemmas.{is_itself, same_is}
 use Rattle.sc_core.proofs.RunningLemmas.{none_passes}
+use Rattle.sc_lineage.specs.ScriptData.{WorkData}
+use Rattle.sc_jobs.specs.JobData.{saves}
 use Rattle.sc_task.specs.Attempts.{AttemptData, task_of}
-use Rattle.sc_world.specs.Sound.{IsThatOf}
+use Rattle.sc_world.specs.Sound.{ComesAt, IsThatOf}
 use Rattle.sc_world.proofs.HeldLemmas.{held_each, held_here, held_other}
 use Rattle.sc_world.proofs.FewerLemmas.{AreAmong, AreLess}
 
@@ -28,48 +31,49 @@ pub record HasOut (held : List (Option AttemptData)) (r : Running) : Type 0 wher
   pub same : (task_of attempt).hand_out ≡ r.hand_out
 
 -- where an attempt is among those that run, it runs on an executor, and isn't told of yet
-abbrev pub RunsAmong : List Running → ℕ → AttemptData → Type 0
-RunsAmong running exec a =
-    IfSome (find (is_of (task_of a).hand_out.attempt) running) (IsThatOf exec (task_of a))
+abbrev pub RunsAmong : WorkData → List Running → ℕ → AttemptData → Type 0
+RunsAmong work running exec a =
+    IfSome (find (is_of (task_of a).hand_out.attempt) running) (IsThatOf work exec a)
 
 -- what executors have out is what runs and wasn't told of
-pub record AreOut (held : List (Option AttemptData)) (running : List Running) : Type 0 where
-  pub runs : (exec : ℕ) → IfSome (at_or held exec None) (RunsAmong running exec)
+pub record AreOut (work : WorkData) (held : List (Option AttemptData)) (running : List Running)
+    : Type 0 where
+  pub runs : (exec : ℕ) → IfSome (at_or held exec None) (RunsAmong work running exec)
   pub out : (r : Running) → Contains running r → r.is_out ≡ true → HasOut held r
 
 -- ---- fewer run
 
-pub fewer_out : (held : List (Option AttemptData)) (these running : List Running)
-    → AreAmong these running → AreOut held running → AreOut held these
-fewer_out held these running among was =
+pub fewer_out : (work : WorkData) (held : List (Option AttemptData)) (these running : List Running)
+    → AreAmong these running → AreOut work held running → AreOut work held these
+fewer_out work held these running among was =
     record {
       runs = λ exec. by exec (at_or held exec None) (was.runs exec);
       out = λ r is_in is. was.out r (among.there r is_in) is;
     }
   where
-    of : (exec : ℕ) (a : AttemptData) → RunsAmong running exec a → RunsAmong these exec a
+    of : (exec : ℕ) (a : AttemptData) → RunsAmong work running exec a → RunsAmong work these exec a
     of exec a h = one (find (is_of (task_of a).hand_out.attempt) these) refl
       where
         one : (o : Option Running) → find (is_of (task_of a).hand_out.attempt) these ≡ o
-            → IfSome o (IsThatOf exec (task_of a))
+            → IfSome o (IsThatOf work exec a)
         one None e = tt
         one (Some r) e =
-            subst (λ o. IfSome o (IsThatOf exec (task_of a)))
+            subst (λ o. IfSome o (IsThatOf work exec a))
             (among.found (task_of a).hand_out.attempt r e) h
 
-    by : (exec : ℕ) (o : Option AttemptData) → IfSome o (RunsAmong running exec)
-        → IfSome o (RunsAmong these exec)
+    by : (exec : ℕ) (o : Option AttemptData) → IfSome o (RunsAmong work running exec)
+        → IfSome o (RunsAmong work these exec)
     by exec None h = tt
     by exec (Some a) h = of exec a h
 
 -- ---- an attempt isn't out any more
 
 -- its executor holds nothing then
-pub less_out : (held : List (Option AttemptData)) (exec : ℕ) (x : AttemptData)
+pub less_out : (work : WorkData) (held : List (Option AttemptData)) (exec : ℕ) (x : AttemptData)
     (running these : List Running) → at_or held exec None ≡ Some x
-    → AreLess (task_of x).hand_out.attempt running these → AreOut held running
-    → AreOut (change_at held exec (λ _. None)) these
-less_out held exec x running these there less was =
+    → AreLess (task_of x).hand_out.attempt running these → AreOut work held running
+    → AreOut work (change_at held exec (λ _. None)) these
+less_out work held exec x running these there less was =
     record {
       runs = λ e. run e (exec == e) refl;
       out = λ r is_in is. out r is (less.outs r is_in is);
@@ -78,54 +82,54 @@ less_out held exec x running these there less was =
     a : AttemptId
     a = (task_of x).hand_out.attempt
 
-    mine : RunsAmong running exec x
-    mine = subst (λ o. IfSome o (RunsAmong running exec)) there (was.runs exec)
+    mine : RunsAmong work running exec x
+    mine = subst (λ o. IfSome o (RunsAmong work running exec)) there (was.runs exec)
 
     -- who runs elsewhere is another attempt
-    of : (e : ℕ) (b : AttemptData) → (exec == e) ≡ false → RunsAmong running e b
-        → RunsAmong these e b
+    of : (e : ℕ) (b : AttemptData) → (exec == e) ≡ false → RunsAmong work running e b
+        → RunsAmong work these e b
     of e b differ h = by (is_same a one) refl
       where
         one : AttemptId
         one = (task_of b).hand_out.attempt
 
         other : is_same (task_of x).hand_out.attempt (task_of b).hand_out.attempt ≡ false
-            → (o : Option Running) → find (is_of one) these ≡ o → IfSome o (IsThatOf e (task_of b))
+            → (o : Option Running) → find (is_of one) these ≡ o → IfSome o (IsThatOf work e b)
         other apart None k = tt
         other apart (Some r) k =
-            subst (λ o. IfSome o (IsThatOf e (task_of b))) (less.others one r apart k) h
+            subst (λ o. IfSome o (IsThatOf work e b)) (less.others one r apart k) h
 
         same : (task_of x).hand_out.attempt ≡ (task_of b).hand_out.attempt
             → (o : Option Running) → find (is_of a) running ≡ o
-            → IfSome (find (is_of a) these) (IsThatOf e (task_of b))
+            → IfSome (find (is_of a) these) (IsThatOf work e b)
         same is None k = rw (less.own k) tt
         same is (Some r) k =
-            let here : IsThatOf exec (task_of x) r =
-            subst (λ o. IfSome o (IsThatOf exec (task_of x))) k mine in
-            let elsewhere : IsThatOf e (task_of b) r =
-            subst (λ o. IfSome o (IsThatOf e (task_of b)))
+            let here : IsThatOf work exec x r =
+            subst (λ o. IfSome o (IsThatOf work exec x)) k mine in
+            let elsewhere : IsThatOf work e b r =
+            subst (λ o. IfSome o (IsThatOf work e b))
             (ap (λ n. find (is_of n) running) (sym is) ∙ k) h in
             let on : r.exec ≡ exec = here.on in
             let off : r.exec ≡ e = elsewhere.on in
             absurd (grind (arith, nat_tests, differ, on, off))
 
-        by : (u : Bool) → is_same a one ≡ u → RunsAmong these e b
+        by : (u : Bool) → is_same a one ≡ u → RunsAmong work these e b
         by false k = other k (find (is_of one) these) refl
         by true k =
             let is : a ≡ one = same_is a one k in
-            subst (λ n. IfSome (find (is_of n) these) (IsThatOf e (task_of b))) is
+            subst (λ n. IfSome (find (is_of n) these) (IsThatOf work e b)) is
             (same is (find (is_of a) running) refl)
 
     run : (e : ℕ) (u : Bool) → (exec == e) ≡ u
-        → IfSome (at_or (change_at held exec (λ _. None)) e None) (RunsAmong these e)
+        → IfSome (at_or (change_at held exec (λ _. None)) e None) (RunsAmong work these e)
     run e true h =
         let at : exec ≡ e = grind (arith, nat_tests, h) in
         subst (λ (n : ℕ). IfSome (at_or (change_at held exec (λ _. None)) n None)
-        (RunsAmong these n)) at (rw (held_here held exec x None there) tt)
+        (RunsAmong work these n)) at (rw (held_here held exec x None there) tt)
     run e false h = rw (held_other held exec e None h) (by (at_or held e None) (was.runs e))
       where
-        by : (o : Option AttemptData) → IfSome o (RunsAmong running e)
-            → IfSome o (RunsAmong these e)
+        by : (o : Option AttemptData) → IfSome o (RunsAmong work running e)
+            → IfSome o (RunsAmong work these e)
         by None q = tt
         by (Some b) q = of e b h q
 
@@ -155,18 +159,19 @@ less_out held exec x running these there less was =
 
 -- ---- an attempt is handed out
 
-pub more_out : (held : List (Option AttemptData)) (exec : ℕ) (new : AttemptData)
+pub more_out : (work : WorkData) (held : List (Option AttemptData)) (exec : ℕ) (new : AttemptData)
     (running : List Running) → exec < length held
+    → (saves work (task_of new).job.goal ≡ true → ComesAt new phases.Given)
     → find (is_of (task_of new).hand_out.attempt) running ≡ None
     → find (is_out_on exec) running ≡ None
     → ((e : ℕ) → IfSome (at_or held e None)
     (λ a. is_same (task_of new).hand_out.attempt (task_of a).hand_out.attempt ≡ false))
-    → AreOut held running
-    → AreOut (change_at held exec (λ _. Some new))
+    → AreOut work held running
+    → AreOut work (change_at held exec (λ _. Some new))
     (running ++ running_on (task_of new).hand_out exec ∷ [])
-more_out held exec new running place fresh free others was =
+more_out work held exec new running place come fresh free others was =
     record {
-      runs = held_each (RunsAmong these) held exec (Some new) own
+      runs = held_each (RunsAmong work these) held exec (Some new) own
           (λ e. by e (at_or held e None) (others e) (was.runs e));
       out = λ r is_in is. out r is (Contains-push_cases running one r is_in);
     }
@@ -184,23 +189,23 @@ more_out held exec new running place fresh free others was =
         ≡ option_or (find (is_of b) running) (cond (is_of b one) (Some one) None)
     found b = find-append (is_of b) running (one ∷ [])
 
-    own : RunsAmong these exec new
+    own : RunsAmong work these exec new
     own =
         rw (found h.attempt, fresh, is_itself h.attempt)
-        (record { on = refl; same = refl; out = refl })
+        (record { on = refl; same = refl; out = refl; come = come })
 
     of : (e : ℕ) (a : AttemptData)
         → is_same (task_of new).hand_out.attempt (task_of a).hand_out.attempt ≡ false
-        → (o : Option Running) → IfSome o (IsThatOf e (task_of a))
+        → (o : Option Running) → IfSome o (IsThatOf work e a)
         → IfSome (option_or o (cond (is_of (task_of a).hand_out.attempt one) (Some one) None))
-        (IsThatOf e (task_of a))
+        (IsThatOf work e a)
     of e a other (Some r) k = k
     of e a other None k = rw other tt
 
     by : (e : ℕ) (o : Option AttemptData)
         → IfSome o
         (λ a. is_same (task_of new).hand_out.attempt (task_of a).hand_out.attempt ≡ false)
-        → IfSome o (RunsAmong running e) → IfSome o (RunsAmong these e)
+        → IfSome o (RunsAmong work running e) → IfSome o (RunsAmong work these e)
     by e None other k = tt
     by e (Some a) other k =
         rw (found (task_of a).hand_out.attempt)

@@ -132,7 +132,7 @@ posted work w t finding answer after sound core numbered task says step =
             stages = refl;
             tied = sound.tied;
             given = λ b g. g;
-            no_save = sound.no_save;
+            saves = refl;
             stays = sound.stays;
           };
           ran = λ r. r;
@@ -186,7 +186,7 @@ posts_sound work w exec answer after sound core numbered p task =
           right.brings.0));
     })
     tt
-    (λ r. less_out w.held exec (reported p.task p.finding) (core_in w).running
+    (λ r. less_out work w.held exec (reported p.task p.finding) (core_in w).running
     (core_of p.desk).running p.held (is.less r) (was_out work w sound (is.ran r))))
   where
     right : IsRight w.stores exec (reported p.task p.finding)

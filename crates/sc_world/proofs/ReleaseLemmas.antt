@@ -134,7 +134,7 @@ pub fewer_sound : (work : WorkData) (w : WorldData) (desk : DeskData) → IsSoun
 fewer_sound work w desk sound fewer job shelved =
     kept_sound work w desk sound
     (record { job = job; behind = fewer.behind; shelved = shelved })
-    (λ r. fewer_out w.held (core_of desk).running (core_in w).running (fewer.among r)
+    (λ r. fewer_out work w.held (core_of desk).running (core_in w).running (fewer.among r)
     (was_out work w sound (fewer.ran r)))
 
 pub releases_sound : (work : WorkData) (w : WorldData) (key : ℕ) (answer : Answer)

@@ -1,10 +1,14 @@
 -- What holds of a world holds on, once an attempt has read, computed or put, or a store was wiped.
-use Rattle.std.proofs.Common.{◌≡◌, inl, inr, ℕ, ◌+◌, ◌<◌, ◌≤◌, ◌==◌, Bool, true, false, List, Option, Some, None, IsSomeAnd, option_map, slice_get, refl, ap, sym, subst, ◌∙◌, arith}
+use Rattle.std.proofs.Common.{◌≡◌, inl, inr, ℕ, ◌+◌, ◌<◌, ◌≤◌, ◌==◌, ◌||◌, Bool, true, false, List, Option, Some, None, IsSomeAnd, option_map, slice_get, refl, ap, sym, subst, ◌∙◌, arith, true≢false}
 use Rattle.std.proofs.lemmas.Bool.Decides.{nat_tests}
 use Rattle.sc_ids.specs.Changes.{change_at}
 use Rattle.sc_ids.specs.declared.blocks.BlockId.{BlockId}
 use Rattle.sc_ids.specs.declared.blocks.Loc.{Loc}
 use Rattle.sc_ids.proofs.ChangeLemmas.{length_change_at, slice_get_change_other, slice_get_change_same}
+use Rattle.sc_dag.proofs.Tests.{clash}
+use Rattle.sc_core.specs.declared.running.Phase.{Phase}
+use Rattle.sc_core.specs.declared.running.Phase.TheVariants as phases
+use Rattle.sc_jobs.specs.JobData.{saves}
 use Rattle.sc_lineage.specs.ScriptData.{WorkData}
 use Rattle.sc_plan.specs.declared.orders.Order.{Order}
 use Rattle.sc_cache.specs.Caches.{without_last}
@@ -13,71 +17,81 @@ use Rattle.sc_store.specs.Storing.{Wipes}
 use Rattle.sc_store.specs.declared.answers.WipeAnswer.{WipeAnswer}
 use Rattle.sc_store.specs.declared.answers.WipeAnswer.TheVariants as wipes
 use Rattle.sc_net.specs.Reports.{loc_at}
-use Rattle.sc_net.specs.Tasks.{TaskData}
+use Rattle.sc_net.specs.Tasks.{TaskData, is_map_task}
 use Rattle.sc_net.specs.declared.findings.Finding.{Finding}
 use Rattle.sc_net.specs.declared.findings.Finding.TheVariants as findings
-use Rattle.sc_task.specs.Attempts.{AttemptData, assigned, computed, stored, reported, task_of}
+use Rattle.sc_task.specs.Attempts.{AttemptData, assigned, computed, granted, reported, staged, stored, task_of}
 use Rattle.sc_task.specs.Nexts.{next_of}
 use Rattle.sc_task.specs.Steps.{FailsAs, PutsOwn}
 use Rattle.sc_desk.specs.Dues.{wipes_due}
 use Rattle.sc_task.specs.declared.next.Next.{Next}
 use Rattle.sc_task.specs.declared.next.Next.TheVariants.{Fetch, Missing, Complete}
-use Rattle.sc_world.specs.Sound.{Brings, IsSoundWorld}
-use Rattle.sc_world.specs.Steps.{Computes, EvictsOne, HasMade, Makes, Puts, ReadsAt, ReadsNext, WipesOne}
+use Rattle.sc_world.specs.Places.{IsAtRest}
+use Rattle.sc_world.specs.Sound.{Brings, ComesAt, IsSoundWorld}
+use Rattle.sc_world.specs.Steps.{Computes, EvictsOne, HasMade, Makes, Puts, ReadsAt, ReadsNext, WipesOne, is_put_aside}
 use Rattle.sc_world.specs.Ties.{StandsAt, StandsIn, generation_at, generation_in}
 use Rattle.sc_world.specs.WorldData.{WorldData, core_in, held_at, with_held, with_store}
 use Rattle.sc_world.proofs.HeldLemmas.{goes_on_sound, later_sound, own_changed}
 use Rattle.sc_world.proofs.TieLemmas.{cached_stands, one_later, put_here, put_stands, wiped_grows, wiped_stands}
 
--- the attempt of an executor goes on: what it is then
-pub record GoesOn (stores : List StoreData) (exec : ℕ) (t : TaskData)
-    (after : Option AttemptData) : Type 0 where
-  pub next : AttemptData
+-- what an attempt is then of a task that was being read
+pub record IsOn (work : WorkData) (stores : List StoreData) (exec : ℕ) (t : TaskData)
+    (next : AttemptData) : Type 0 where
   pub same : task_of next ≡ t
   pub brings : Brings stores exec next
+  pub rests : IsAtRest work (Some next)
+  -- in a save it has come no further than it was handed out
+  pub comes : saves work t.job.goal ≡ true → (phase : Phase) → phase ≡ phases.Given
+      → ComesAt next phase
+
+-- the attempt of an executor goes on that was reading
+pub record GoesOn (work : WorkData) (stores : List StoreData) (exec : ℕ) (t : TaskData)
+    (after : Option AttemptData) : Type 0 where
+  pub next : AttemptData
+  pub on : IsOn work stores exec t next
   pub is : after ≡ Some next
 
 -- an attempt has read, or has found that a block is gone or missing
-pub reads_on : (stores : List StoreData) (exec : ℕ) (before after : Option AttemptData)
-    → (h : ReadsAt stores before after) → GoesOn stores exec h.task after
-reads_on stores exec before after h =
-    record {
-      next = h.next;
-      same = same;
-      brings = brings (next_of h.task h.got) h.reads;
-      is = h.is;
-    }
+pub reads_on : (work : WorkData) (stores : List StoreData) (exec : ℕ)
+    (before after : Option AttemptData) → (h : ReadsAt stores before after)
+    → GoesOn work stores exec h.task after
+reads_on work stores exec before after h =
+    record { next = h.next; on = of (next_of h.task h.got) h.reads; is = h.is }
   where
     of : (next : Next) → ReadsNext stores h.task h.got next h.next
-        → (task_of h.next ≡ h.task) × Brings stores exec h.next
+        → IsOn work stores exec h.task h.next
     of (Fetch block loc) (store, there, inl (le, is)) =
-        rw is (refl, tt)
+        subst (IsOn work stores exec h.task) (sym is)
+        (record { same = refl; brings = tt; rests = tt; comes = λ s phase given. given })
     of (Fetch block loc) (store, there, inr (lt, is)) =
-        rw is (
-          refl,
-          (subst (λ o. store.generation ≤ generation_in o) (sym there) (omega arith), tt),
-        )
-    of (Missing (Some last)) is = rw is (refl, (tt, tt))
+        subst (IsOn work stores exec h.task) (sym is)
+        (record {
+          same = refl;
+          brings = (
+            subst (λ o. store.generation ≤ generation_in o) (sym there) (omega arith),
+            tt,
+          );
+          rests = tt;
+          comes = λ s phase given. tt;
+        })
+    of (Missing (Some last)) is =
+        subst (IsOn work stores exec h.task) (sym is)
+        (record { same = refl; brings = (tt, tt); rests = tt; comes = λ s phase given. tt })
     of (Missing None) bad = absurd bad
     of Complete bad = absurd bad
 
-    same : task_of h.next ≡ h.task
-    same = (of (next_of h.task h.got) h.reads).0
-
-    brings : (next : Next) → ReadsNext stores h.task h.got next h.next
-        → Brings stores exec h.next
-    brings next r = (of next r).1
-
 -- an attempt has computed, or fails
 pub computes_on : (work : WorkData) (stores : List StoreData) (exec : ℕ) (t : TaskData)
-    (next : AttemptData) → Makes work t next → GoesOn stores exec t (Some next)
+    (next : AttemptData) → Makes work t next → GoesOn work stores exec t (Some next)
 computes_on work stores exec t next makes =
-    record { next = next; same = (by next makes).0; brings = (by next makes).1; is = refl }
+    record { next = next; on = by next makes; is = refl }
   where
     fails : (finding : Finding) → FailsAs work t finding
-        → (task_of (reported t finding) ≡ t) × Brings stores exec (reported t finding)
-    fails findings.Planned f = (refl, (tt, tt))
-    fails (findings.Raised r) f = (refl, (tt, tt))
+        → IsOn work stores exec t (reported t finding)
+    fails findings.Planned f =
+        record { same = refl; brings = (tt, tt); rests = tt; comes = λ s phase given. tt }
+    fails (findings.Raised r) f =
+        record { same = refl; brings = (tt, tt); rests = tt; comes = λ s phase given. tt }
     fails (findings.Map loc) f = absurd f
     fails (findings.Result given) f = absurd f
     fails (findings.Gone at wanted found) f = absurd f
@@ -85,10 +99,26 @@ computes_on work stores exec t next makes =
     fails (findings.Device fault) f = absurd f
     fails findings.Denied f = absurd f
 
-    made : (next : AttemptData) → HasMade work t next
-        → (task_of next ≡ t) × Brings stores exec next
-    made (computed u) (same, mapped) = (same, tt)
-    made (reported u (findings.Result given)) (same, own) = (same, (tt, tt))
+    -- what is put aside isn't reported at once
+    kept : (b : Bool) → saves work t.job.goal ≡ true → (b || saves work t.job.goal) ≡ false → ⊥
+    kept true s e = true≢false e
+    kept false s e = clash s e
+
+    made : (next : AttemptData) → HasMade work t next → IsOn work stores exec t next
+    made (computed u) (same, aside) =
+        record {
+          same = same;
+          brings = tt;
+          rests = subst (λ v. is_put_aside work v ≡ true) (sym same) aside;
+          comes = λ s phase given. given;
+        }
+    made (reported u (findings.Result given)) (same, aside, own) =
+        record {
+          same = same;
+          brings = (tt, tt);
+          rests = tt;
+          comes = λ s phase given. absurd (kept (is_map_task t) s aside);
+        }
     made (reported u (findings.Map loc)) bad = absurd bad
     made (reported u findings.Planned) bad = absurd bad
     made (reported u (findings.Raised r)) bad = absurd bad
@@ -98,18 +128,21 @@ computes_on work stores exec t next makes =
     made (reported u findings.Denied) bad = absurd bad
     made (assigned u got) bad = absurd bad
     made (stored u loc) bad = absurd bad
+    made (staged u) bad = absurd bad
+    made (granted u) bad = absurd bad
 
-    by : (next : AttemptData) → Makes work t next
-        → (task_of next ≡ t) × Brings stores exec next
-    by next (inl (finding, f, is)) = rw is (fails finding f)
+    by : (next : AttemptData) → Makes work t next → IsOn work stores exec t next
+    by next (inl (finding, f, is)) =
+        subst (IsOn work stores exec t) (sym is) (fails finding f)
     by next (inr (planned, raise, has)) = made next has
 
-pub on_sound : (work : WorkData) (w : WorldData) (exec : ℕ) (a : AttemptData)
-    (after : Option AttemptData) → IsSoundWorld work w → held_at w exec ≡ Some a
-    → GoesOn w.stores exec (task_of a) after → IsSoundWorld work (with_held w exec after)
-on_sound work w exec a after sound held h =
+pub on_sound : (work : WorkData) (w : WorldData) (exec : ℕ) (t : TaskData) (got : ℕ)
+    (after : Option AttemptData) → IsSoundWorld work w → held_at w exec ≡ Some (assigned t got)
+    → GoesOn work w.stores exec t after → IsSoundWorld work (with_held w exec after)
+on_sound work w exec t got after sound held h =
     subst (λ o. IsSoundWorld work (with_held w exec o)) (sym h.is)
-    (goes_on_sound work w exec a h.next sound held h.same h.brings)
+    (goes_on_sound work w exec (assigned t got) h.next sound held h.on.same h.on.brings h.on.rests
+    h.on.comes)
 
 -- a generation that is due, where one store was changed
 due_changed : (stores : List StoreData) (exec : ℕ) (next : StoreData) (due : ℕ → ℕ)
@@ -171,7 +204,7 @@ pub computes_sound : (work : WorkData) (w : WorldData) (exec : ℕ) (after : Wor
     → IsSoundWorld work w → Computes work w exec after → IsSoundWorld work after
 computes_sound work w exec after sound h =
     subst (IsSoundWorld work) (sym h.is)
-    (on_sound work (with_store w exec h.cached) exec (assigned h.task h.got) (Some h.next)
+    (on_sound work (with_store w exec h.cached) exec h.task h.got (Some h.next)
     (cached_sound work w exec h.store h.cached sound h.own h.same) h.held
     (computes_on work (with_store w exec h.cached).stores exec h.task h.next h.makes))
 
@@ -193,7 +226,7 @@ puts_sound work w exec loc after sound h = by h.puts
         (reported h.task (findings.Map loc)) mid h.held refl (
           record { block = block.id; own = named; there = stands },
           ap (λ (l : Loc). l.exec) h.loc_is,
-        ))
+        ) tt (λ s phase given. tt))
       where
         same : h.next.generation ≡ h.store.generation
         same = ap (λ (s : StoreData). s.generation) puts.rest

@@ -105,10 +105,11 @@ task_sound work w exec h desk sound core later numbered asks out is job shelved 
       of_job = refl;
       given = subst (λ (c : CoreData). was_given c.dag h.attempt ≡ true) (sym is) given;
       right = record { inputs = given_stand w exec h core out numbered sound.tied; brings = tt };
+      rests = tt;
     })
-    (λ r. subst (λ (c : CoreData). AreOut (change_at w.held exec (λ _. Some new)) c.running)
+    (λ r. subst (λ (c : CoreData). AreOut work (change_at w.held exec (λ _. Some new)) c.running)
     (sym is)
-    (more_out w.held exec new c.running place (new_attempt c exec h core out)
+    (more_out work w.held exec new c.running place (λ s. refl) (new_attempt c exec h core out)
     (none_out c exec asks.free) (λ e. other (held_at w e) (sound.given e))
     (was_out work w sound asks.runs)))
   where
@@ -132,7 +133,7 @@ task_sound work w exec h desk sound core later numbered asks out is job shelved 
           stages = refl;
           tied = sound.tied;
           given = moves.given;
-          no_save = sound.no_save;
+          saves = refl;
           stays = sound.stays;
         }
 
@@ -192,7 +193,7 @@ takes_sound work w exec answer after sound core numbered place takes later =
               (ended_behind w c (jobs.Aborted aborts.Budget) (itself_behind work w sound));
           shelved = shelved;
         })
-        (subst (λ (x : CoreData). job_runs x ≡ true → AreOut w.held x.running) (sym is)
+        (subst (λ (x : CoreData). job_runs x ≡ true → AreOut work w.held x.running) (sym is)
         (λ r. absurd (true≢false (sym r))))
 
     same : core_of takes.desk ≡ core_in w → IsSoundWorld work (with_desk w takes.desk)

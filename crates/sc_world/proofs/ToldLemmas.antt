@@ -6,6 +6,7 @@ use Rattle.sc_ids.specs.declared.attempts.AttemptId.{AttemptId}
 use Rattle.sc_taskset.proofs.FindLemmas.{found_passes}
 use Rattle.sc_base.specs.Counts.{counted}
 use Rattle.sc_core.specs.CoreData.{CoreData, is_of, job_runs, running_of, taken_off}
+use Rattle.sc_core.specs.Posts.{is_save}
 use Rattle.sc_core.specs.Sound.{was_given}
 use Rattle.sc_core.specs.Tells.{TellsTo}
 use Rattle.sc_core.specs.declared.answers.Answer.{Answer}
@@ -28,7 +29,7 @@ pub record IsTold (c : CoreData) (a : AttemptId) (outcome : Outcome) (after : Co
     pub told : after.told ≡ counted c.told
     pub given : (b : AttemptId) → was_given c.dag b ≡ true → was_given after.dag b ≡ true
     pub stays : after.left_first ≡ c.left_first
-    pub saves : c.committers ≡ [] → after.committers ≡ []
+    pub saves : is_save after.committers ≡ is_save c.committers
     pub runs : job_runs after ≡ true → job_runs c ≡ true
 
 -- an attempt that doesn't run isn't taken away
@@ -54,7 +55,7 @@ told_is c after a outcome answer tells = by (running_of c a) refl tells
           told = refl;
           given = λ b g. g;
           stays = refl;
-          saves = λ s. s;
+          saves = refl;
           runs = λ r. r;
         })
     by (Some r) e h =

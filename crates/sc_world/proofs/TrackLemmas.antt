@@ -1,12 +1,12 @@
 -- What a told report does to what the core knows of places.
-use Rattle.std.proofs.Common.{◌≡◌, ◌⊎◌, inl, inr, ◌&&◌, not, ℕ, Bool, true, false, [], Option, Some, None, slice_get, refl, ap, sym, subst, ◌∙◌}
+use Rattle.std.proofs.Common.{◌≡◌, ◌⊎◌, inl, inr, ◌&&◌, not, ℕ, Bool, true, false, Option, Some, None, slice_get, refl, ap, sym, subst, ◌∙◌}
 use Rattle.sc_ids.specs.declared.attempts.AttemptId.{AttemptId}
 use Rattle.sc_ids.specs.declared.blocks.BlockId.{BlockId}
 use Rattle.sc_ids.specs.declared.blocks.Loc.{Loc}
 use Rattle.sc_ids.specs.declared.failures.FailureCause.{FailureCause}
 use Rattle.sc_ids.specs.declared.failures.FailureCause.TheVariants as causes
 use Rattle.sc_commit.specs.Committers.{committer_at}
-use Rattle.sc_commit.specs.Committing.{holds}
+use Rattle.sc_commit.specs.Committing.{ended, holds}
 use Rattle.sc_commit.specs.declared.committers.Ending.{Ending}
 use Rattle.sc_commit.specs.declared.committers.Ending.TheVariants as endings
 use Rattle.sc_taskset.specs.declared.tasks.Verdict.{Verdict}
@@ -22,11 +22,13 @@ use Rattle.sc_dag.specs.Submission.{IsSubmitted, this_stage, waiting_stages}
 use Rattle.sc_dag.specs.declared.reports.Success.{Success}
 use Rattle.sc_dag.specs.declared.reports.Success.TheVariants as successes
 use Rattle.sc_core.specs.CoreData.{CoreData, with_dag}
+use Rattle.sc_core.specs.Posts.{is_save}
 use Rattle.sc_core.specs.Tells.{FailsBy, FailsOrAborts, FollowsUp, IsGone, LooksAgain, Misses, MissesIf, TellsFailure, TellsFailureIf, TellsMap, TellsResult, after_failure, after_result, done_if, is_zombie_in, released, with_result_of}
 use Rattle.sc_core.specs.declared.answers.Answer.{Answer}
 use Rattle.sc_core.specs.declared.events.Outcome.{Outcome}
 use Rattle.sc_core.specs.declared.events.Outcome.TheVariants as outcomes
 use Rattle.sc_core.specs.declared.running.Running.{Running}
+use Rattle.sc_core.proofs.LeftLemmas.{same_saves}
 use Rattle.sc_taskset.specs.Reports.{after_end, after_success}
 use Rattle.sc_taskset.specs.Reports.{after_failure as after_failure_of}
 use Rattle.sc_taskset.specs.TaskSetData.{TaskSetData}
@@ -190,7 +192,7 @@ tracks_dag c a outcome d h =
       stages = h.stages;
       tracker = h.tracker;
       stays = refl;
-      saves = λ e. e;
+      saves = refl;
     }
 
 tracks_same : (c : CoreData) (a : AttemptId) (outcome : Outcome) (mid after : CoreData)
@@ -202,7 +204,7 @@ tracks_same c a outcome mid after h dag stays saves =
       tracker = subst (λ (d : DagData). (d.tracker ≡ c.dag.tracker)
           ⊎ Learns c.dag.tracker (own_block c a) outcome d.tracker) (sym dag) h.tracker;
       stays = stays ∙ h.stays;
-      saves = λ e. saves ∙ h.saves e;
+      saves = ap is_save saves ∙ h.saves;
     }
 
 map_tracks : (c after : CoreData) (r : Running) (loc : Loc) (answer : Answer)
@@ -224,14 +226,14 @@ map_tracks c after r loc answer (next, up, says, is) =
 pub record Frees (c after : CoreData) : Type 0 where
   pub dag : Same c.dag after.dag
   pub stays : after.left_first ≡ c.left_first
-  pub saves : c.committers ≡ [] → after.committers ≡ []
+  pub saves : is_save after.committers ≡ is_save c.committers
 
 pub released_frees : (c : CoreData) (a : AttemptId) (how : Ending) → Frees c (released c a how)
 released_frees c a how =
     record {
       dag = by (holds a (committer_at c.committers a.partition)) refl;
       stays = refl;
-      saves = λ e. rw e refl;
+      saves = same_saves c.committers a.partition (ended a how);
     }
   where
     by : (b : Bool) → holds a (committer_at c.committers a.partition) ≡ b
@@ -241,14 +243,14 @@ released_frees c a how =
     by false e = rw e (itself c.dag)
 
 pub frees_itself : (c : CoreData) → Frees c c
-frees_itself c = record { dag = itself c.dag; stays = refl; saves = λ e. e }
+frees_itself c = record { dag = itself c.dag; stays = refl; saves = refl }
 
 pub frees_then : (a b c : CoreData) → Frees a b → Frees b c → Frees a c
 frees_then a b c h k =
     record {
       dag = same_then a.dag b.dag c.dag h.dag k.dag;
       stays = k.stays ∙ h.stays;
-      saves = λ e. k.saves (h.saves e);
+      saves = k.saves ∙ h.saves;
     }
 
 result_tracks : (c after : CoreData) (r : Running) (answer : Answer)
@@ -309,14 +311,14 @@ misses_same c after a answer miss =
         (record {
           dag = fails_same c.dag d a.stage a.stage_attempt verdicts.Limit f;
           stays = refl;
-          saves = λ e. e;
+          saves = refl;
         })
     judged verdicts.Again d f (says, is) =
         subst (λ x. Frees c x) (sym is)
         (record {
           dag = fails_same c.dag d a.stage a.stage_attempt verdicts.Again f;
           stays = refl;
-          saves = λ e. e;
+          saves = refl;
         })
 
     by : (b : Bool) → MissesIf b c a answer after → Frees c after
@@ -389,7 +391,7 @@ behind c mid after a outcome f h =
       stages = h.stages ∙ f.dag.stages;
       tracker = by h.tracker;
       stays = h.stays ∙ f.stays;
-      saves = λ e. h.saves (f.saves e);
+      saves = h.saves ∙ f.saves;
     }
   where
     block : own_block mid a ≡ own_block c a

@@ -1,11 +1,12 @@
 -- Laws of worlds: what holds of them after every list of steps.
-use Rattle.std.specs.Prelude.{ℕ, ◌≡◌, ◌≢◌, ◌≤◌, false, List, [], Option, Some, None, slice_get}
+use Rattle.std.specs.Prelude.{ℕ, ◌≡◌, ◌≢◌, ◌≤◌, List, [], Option, Some, None, slice_get}
 use Rattle.sc_ids.specs.declared.blocks.BlockId.{BlockId}
 use Rattle.sc_ids.specs.declared.blocks.Loc.{Loc}
 use Rattle.sc_lineage.specs.ScriptData.{WorkData}
 use Rattle.sc_core.specs.CoreData.{CoreData}
 use Rattle.sc_core.specs.Openings.{IsOpening}
 use Rattle.sc_core.specs.Sound.{IsSoundCore}
+use Rattle.sc_jobs.specs.JobData.{saves}
 use Rattle.sc_store.specs.StoreData.{StoreData, output_in}
 use Rattle.sc_net.specs.Reports.{IsTrueReport, report_data}
 use Rattle.sc_net.specs.Tasks.{TaskData}
@@ -34,7 +35,8 @@ abbrev pub WorldsBegin : Type 0
 WorldsBegin =
     (work : WorkData) (last : Option CoreData) (desk : DeskData) (stores : List StoreData)
     → IsSoundCore (core_of desk) → IsSoundDesk work desk
-    → IsOpening desk.job.graph work.limits false work.plan last (core_of desk)
+    → IsOpening desk.job.graph work.limits (saves work desk.job.goal) work.plan last
+    (core_of desk)
     → desk.shelf ≡ []
     → AreReady work stores (core_of desk).dag.tracker (core_of desk).told
     → IsWorld work (idle_world work desk stores)

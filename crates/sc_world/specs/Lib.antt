@@ -8,3 +8,4 @@ pub mod Runs
 pub mod Laws
 pub mod Serial
 pub mod Turns
+pub mod Files

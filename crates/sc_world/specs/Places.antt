@@ -1,8 +1,10 @@
 -- Attempts in their places: what they need for their next step, and what it leaves.
-use Rattle.std.specs.Prelude.{ℕ, ◌≡◌, true, List, Option, Some, None, IfSome, slice_get}
+use Rattle.std.specs.Prelude.{ℕ, ◌≡◌, true, false, List, Option, Some, None, IfSome, slice_get}
 use Rattle.sc_base.specs.Lists.{at_or}
 use Rattle.sc_ids.specs.Changes.{change_at}
+use Rattle.sc_ids.specs.declared.attempts.AttemptId.{AttemptId}
 use Rattle.sc_ids.specs.declared.blocks.Loc.{Loc}
+use Rattle.sc_core.specs.declared.answers.SideAnswer.{SideAnswer}
 use Rattle.sc_lineage.specs.ScriptData.{WorkData}
 use Rattle.sc_plan.specs.declared.orders.Order.{Order}
 use Rattle.sc_cache.specs.Caches.{without_last}
@@ -10,9 +12,11 @@ use Rattle.sc_store.specs.StoreData.{StoreData, with_cache}
 use Rattle.sc_store.specs.Storing.{Wipes}
 use Rattle.sc_store.specs.declared.answers.WipeAnswer.{WipeAnswer}
 use Rattle.sc_net.specs.Reports.{loc_at}
+use Rattle.sc_jobs.specs.JobData.{saves}
 use Rattle.sc_net.specs.Tasks.{TaskData, is_map_task}
 use Rattle.sc_net.specs.declared.findings.Finding.TheVariants as findings
-use Rattle.sc_task.specs.Attempts.{AttemptData, assigned, computed, stored, reported}
+use Rattle.sc_task.specs.Attempts.{AttemptData, assigned, computed, granted, reported, staged, stored, task_of}
+use Rattle.sc_task.specs.States.{IsPartText}
 use Rattle.sc_task.specs.Nexts.{next_of}
 use Rattle.sc_task.specs.Steps.{PutsOwn}
 use Rattle.sc_task.specs.declared.next.Next.{Next}
@@ -21,7 +25,7 @@ use Rattle.sc_desk.specs.declared.posts.Posted.{Posted}
 use Rattle.sc_desk.specs.declared.posts.Posted.TheVariants as posted
 use Rattle.sc_desk.specs.declared.takes.Taken.{Taken}
 use Rattle.sc_desk.specs.declared.takes.Taken.TheVariants as takes
-use Rattle.sc_world.specs.Steps.{Gets, Makes, ReadsAt}
+use Rattle.sc_world.specs.Steps.{Gets, Makes, ReadsAt, after_side, is_put_aside}
 use Rattle.sc_world.specs.Ties.{StandsAt, StandsIn}
 
 -- stores are those of the executors, in order
@@ -40,6 +44,8 @@ abbrev pub ReadStands : List StoreData → AttemptData → Type 0
 ReadStands stores (assigned t got) = NextStands stores (next_of t got)
 ReadStands stores (computed t) = Unit {0}
 ReadStands stores (stored t loc) = Unit {0}
+ReadStands stores (staged t) = Unit {0}
+ReadStands stores (granted t) = Unit {0}
 ReadStands stores (reported t finding) = Unit {0}
 
 -- a block is fetched from this store, where it stands
@@ -56,14 +62,16 @@ FetchesTo store t got Complete after = ⊥
 
 -- ---- places
 
--- So an attempt may rest between two steps: one that has computed has a block that is to be put,
--- and one whose block was put reports at once.
-abbrev pub IsAtRest : Option AttemptData → Type 0
-IsAtRest None = Unit {0}
-IsAtRest (Some (assigned t got)) = Unit {0}
-IsAtRest (Some (computed t)) = is_map_task t ≡ true
-IsAtRest (Some (stored t loc)) = ⊥
-IsAtRest (Some (reported t finding)) = Unit {0}
+-- So an attempt may rest between two steps: one that has computed has what is to be put aside, and
+-- one whose block was put reports at once.
+abbrev pub IsAtRest : WorkData → Option AttemptData → Type 0
+IsAtRest work None = Unit {0}
+IsAtRest work (Some (assigned t got)) = Unit {0}
+IsAtRest work (Some (computed t)) = is_put_aside work t ≡ true
+IsAtRest work (Some (stored t loc)) = ⊥
+IsAtRest work (Some (staged t)) = saves work t.job.goal ≡ true
+IsAtRest work (Some (granted t)) = saves work t.job.goal ≡ true
+IsAtRest work (Some (reported t finding)) = Unit {0}
 
 -- an attempt computes that has read all
 pub record ComputesAt (work : WorkData) (before after : Option AttemptData) : Type 0 where
@@ -128,6 +136,33 @@ pub record EvictsAmong (exec : ℕ) (stores later : List StoreData) : Type 0 whe
   pub own : slice_get stores exec ≡ Some store
   pub stores_are : later
       ≡ change_at stores exec (λ _. with_cache store (without_last store.cache))
+
+-- what an attempt is to write, which it has computed: the text of its part
+pub record HasPart (work : WorkData) (before : Option AttemptData) (attempt : AttemptId)
+    (text : List ℕ) : Type 0 where
+  pub task : TaskData
+  pub held : before ≡ Some (computed task)
+  pub is_of : attempt ≡ task.hand_out.attempt
+  pub is_text : IsPartText work task text
+
+-- what an executor has once its attempt did something beside the reports that is answered so
+abbrev pub settled : Option AttemptData → SideAnswer → Option AttemptData
+settled None said = None
+settled (Some a) said = after_side a said
+
+-- the attempt of an executor is one of a save, which does something beside the reports
+abbrev pub IsAside : Option AttemptData → Type 0
+IsAside None = ⊥
+IsAside (Some (computed t)) = is_map_task t ≡ false
+IsAside (Some (staged t)) = Unit {0}
+IsAside (Some (granted t)) = Unit {0}
+IsAside (Some a) = ⊥
+
+-- the attempt of an executor has these numbers
+pub record IsAttemptOf (held : Option AttemptData) (attempt : AttemptId) : Type 0 where
+  pub a : AttemptData
+  pub is_held : held ≡ Some a
+  pub is_of : attempt ≡ (task_of a).hand_out.attempt
 
 -- the places once an executor has what it was given
 abbrev pub held_with :

@@ -4,7 +4,7 @@ use Rattle.sc_lineage.specs.ScriptData.{WorkData}
 use Rattle.sc_core.specs.CoreData.{job_runs}
 use Rattle.sc_core.specs.Laws.{left_to_do}
 use Rattle.sc_core.specs.Takes.{is_lost}
-use Rattle.sc_task.specs.Attempts.{AttemptData, assigned, computed, stored, reported}
+use Rattle.sc_task.specs.Attempts.{AttemptData, assigned, computed, granted, reported, staged, stored}
 use Rattle.sc_desk.specs.Dues.{IsDueReport}
 use Rattle.sc_desk.specs.Orders.{orders_left}
 use Rattle.sc_world.specs.Runs.{Reaches}
@@ -48,8 +48,10 @@ IsNoMore work w after =
 -- how many steps an attempt may take at most until it has reported
 abbrev pub steps_left : Option AttemptData → ℕ
 steps_left None = 0
-steps_left (Some (assigned t got)) = length t.hand_out.inputs - got + 3
-steps_left (Some (computed t)) = 2
+steps_left (Some (assigned t got)) = length t.hand_out.inputs - got + 5
+steps_left (Some (computed t)) = 4
+steps_left (Some (staged t)) = 3
+steps_left (Some (granted t)) = 2
 steps_left (Some (stored t loc)) = 1
 steps_left (Some (reported t finding)) = 1
 

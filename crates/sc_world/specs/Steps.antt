@@ -1,5 +1,5 @@
 -- The steps of a world: what each of them does, and when it is enabled.
-use Rattle.std.specs.Prelude.{ℕ, ◌+◌, ◌<◌, ◌≤◌, ◌≡◌, ◌⊎◌, true, false, List, Option, Some, None, length, slice_get}
+use Rattle.std.specs.Prelude.{ℕ, ◌+◌, ◌<◌, ◌≤◌, ◌≡◌, ◌⊎◌, ◌||◌, Bool, true, false, List, Option, Some, None, if◌then◌else◌, length, slice_get}
 use Rattle.sc_ids.specs.declared.attempts.Mark.TheVariants.{Driver}
 use Rattle.sc_ids.specs.declared.blocks.Loc.{Loc}
 use Rattle.sc_lineage.specs.ScriptData.{WorkData}
@@ -8,7 +8,15 @@ use Rattle.sc_cache.specs.Caches.{without_last}
 use Rattle.sc_core.specs.CoreData.{job_runs}
 use Rattle.sc_core.specs.declared.answers.Answer.{Answer}
 use Rattle.sc_core.specs.declared.answers.Answer.TheVariants as says
+use Rattle.sc_core.specs.declared.answers.SideAnswer.{SideAnswer}
+use Rattle.sc_core.specs.declared.answers.SideAnswer.TheVariants as sides
 use Rattle.sc_core.specs.declared.events.Event.TheVariants.{Take}
+use Rattle.sc_core.specs.declared.events.FileOutcome.{FileOutcome}
+use Rattle.sc_core.specs.declared.events.SideEvent.{SideEvent}
+use Rattle.sc_core.specs.declared.events.SideEvent.TheVariants.{Ask, Move, Stage}
+use Rattle.sc_compute.specs.declared.results.TaskResult.TheVariants.{Saved}
+use Rattle.sc_jobs.specs.JobData.{saves}
+use Rattle.sc_desk.specs.Asides.{Notes}
 use Rattle.sc_desk.specs.DeskData.{DeskData, core_of}
 use Rattle.sc_desk.specs.Dues.{IsOrdered}
 use Rattle.sc_desk.specs.Entries.{Enters}
@@ -16,6 +24,7 @@ use Rattle.sc_desk.specs.Orders.{IsDueAmong}
 use Rattle.sc_desk.specs.Posts.{Receives}
 use Rattle.sc_desk.specs.Shelves.{shelf_in}
 use Rattle.sc_desk.specs.Tellings.{Releases, TellsLost}
+use Rattle.sc_desk.specs.declared.receipts.Noted.{Noted}
 use Rattle.sc_desk.specs.declared.receipts.Receipt.{Receipt}
 use Rattle.sc_plan.specs.Orders.{wipes_of}
 use Rattle.sc_plan.specs.declared.orders.Order.{Order}
@@ -26,7 +35,7 @@ use Rattle.sc_net.specs.Reports.{IsResultOf, loc_at, report_data}
 use Rattle.sc_net.specs.Tasks.{TaskData, is_map_task, is_planned, target_of_task, task_data}
 use Rattle.sc_net.specs.declared.findings.Finding.{Finding}
 use Rattle.sc_net.specs.declared.findings.Finding.TheVariants as findings
-use Rattle.sc_task.specs.Attempts.{AttemptData, assigned, computed, reported, stored}
+use Rattle.sc_task.specs.Attempts.{AttemptData, assigned, computed, granted, reported, staged, stored}
 use Rattle.sc_task.specs.Nexts.{next_of}
 use Rattle.sc_task.specs.Steps.{FailsAs, PutsOwn}
 use Rattle.sc_task.specs.declared.next.Next.{Next}
@@ -82,11 +91,17 @@ pub record ReadsAt (stores : List StoreData) (before after : Option AttemptData)
 
 -- ---- an attempt computes
 
--- what an attempt has then, of which nothing raises: a map task a block to be put, and a result
--- task what it hands over, to report
+-- what a task computes is put or written before it is reported: that of a map task is a block, and
+-- that of a save's result task a part
+abbrev pub is_put_aside : WorkData → TaskData → Bool
+is_put_aside work t = is_map_task t || saves work t.job.goal
+
+-- what an attempt has then, of which nothing raises: what is to be put aside, or what it hands
+-- over, to report
 abbrev pub HasMade : WorkData → TaskData → AttemptData → Type 0
-HasMade work t (computed made) = (made ≡ t) × (is_map_task t ≡ true)
-HasMade work t (reported task (findings.Result given)) = (task ≡ t) × IsResultOf work t given
+HasMade work t (computed made) = (made ≡ t) × (is_put_aside work t ≡ true)
+HasMade work t (reported task (findings.Result given)) =
+    (task ≡ t) × (is_put_aside work t ≡ false) × IsResultOf work t given
 HasMade work t attempt = ⊥
 
 -- an attempt fails as planned, or its own value raises, or it has made it
@@ -123,6 +138,65 @@ pub record Puts (work : WorkData) (w : WorldData) (exec : ℕ) (loc : Loc) (afte
   pub puts : PutsOwn work task store next
   pub loc_is : loc ≡ loc_at exec store.generation
   pub is : after ≡ with_held (with_store w exec next) exec (Some (reported task (findings.Map loc)))
+
+-- ---- an attempt of a save writes its part, asks whether it may commit, and moves it
+
+-- what an executor has of an attempt that was to write its part, by the answer: nothing any more
+-- where the attempt was over
+abbrev pub after_stage : TaskData → SideAnswer → Option AttemptData
+after_stage t sides.Staged = Some (staged t)
+after_stage t (sides.Fault fault) = Some (reported t (findings.Device fault))
+after_stage t said = None
+
+-- of one that was to ask
+abbrev pub after_ask : TaskData → SideAnswer → Option AttemptData
+after_ask t sides.Granted = Some (granted t)
+after_ask t (sides.Denied by) = Some (reported t findings.Denied)
+after_ask t said = None
+
+-- and of one that was to move its part
+abbrev pub after_move : TaskData → SideAnswer → Option AttemptData
+after_move t sides.Moved = Some (reported t (findings.Result Saved))
+after_move t (sides.Fault fault) = Some (reported t (findings.Device fault))
+after_move t said = None
+
+-- what an executor has of an attempt that did one of the three
+abbrev pub after_side : AttemptData → SideAnswer → Option AttemptData
+after_side (computed t) said = after_stage t said
+after_side (staged t) said = after_ask t said
+after_side (granted t) said = after_move t said
+after_side a said = None
+
+-- an executor's attempt, which was so, does something beside the reports
+pub record GoesAside (w : WorldData) (exec : ℕ) (before : AttemptData) (event : SideEvent)
+    (answer : SideAnswer) (after : WorldData) : Type 0 where
+  pub held : held_at w exec ≡ Some before
+  pub desk : DeskData
+  pub noted : Noted
+  pub notes : Notes w.desk Driver event noted desk
+  pub told : answer ≡ noted.answer
+  pub is : after ≡ with_held (with_desk w desk) exec (after_side before answer)
+
+-- it writes its part, with this outcome where it comes next
+pub record Stages (w : WorldData) (exec : ℕ) (answer : SideAnswer) (after : WorldData) : Type 0
+  where
+    pub task : TaskData
+    pub part : is_map_task task ≡ false
+    pub wrote : FileOutcome
+    pub goes : GoesAside w exec (computed task) (Stage task.hand_out.attempt wrote) answer after
+
+-- it asks
+pub record AsksOne (w : WorldData) (exec : ℕ) (answer : SideAnswer) (after : WorldData) : Type 0
+  where
+    pub task : TaskData
+    pub goes : GoesAside w exec (staged task) (Ask task.hand_out.attempt) answer after
+
+-- it moves its part
+pub record Moves (w : WorldData) (exec : ℕ) (answer : SideAnswer) (after : WorldData) : Type 0
+  where
+    pub task : TaskData
+    pub renamed : FileOutcome
+    pub goes : GoesAside w exec (granted task) (Move task.hand_out.attempt renamed) answer after
 
 -- ---- an attempt reports
 
@@ -198,6 +272,9 @@ Does work w (steps.Take exec) (applied.Told answer) after =
 Does work w (steps.Read exec) applied.Done after = Reads w exec after
 Does work w (steps.Compute exec) applied.Done after = Computes work w exec after
 Does work w (steps.Put exec) (applied.Put loc) after = Puts work w exec loc after
+Does work w (steps.Stage exec) (applied.Noted answer) after = Stages w exec answer after
+Does work w (steps.Ask exec) (applied.Noted answer) after = AsksOne w exec answer after
+Does work w (steps.Move exec) (applied.Noted answer) after = Moves w exec answer after
 Does work w (steps.Post exec) (applied.Told answer) after = Posts work w exec answer after
 Does work w (steps.Release key) (applied.Told answer) after = ReleasesOne w key answer after
 Does work w (steps.TellLost exec) (applied.Told answer) after = LosesOne w exec answer after
@@ -228,6 +305,8 @@ phase_reading Complete = phases.Computes
 abbrev pub phase_of : Option AttemptData → AttemptState
 phase_of None = phases.Idle
 phase_of (Some (assigned t got)) = phase_reading (next_of t got)
-phase_of (Some (computed t)) = phases.Puts
+phase_of (Some (computed t)) = if is_map_task t then phases.Puts else phases.Stages
 phase_of (Some (stored t loc)) = phases.Reports
+phase_of (Some (staged t)) = phases.Asks
+phase_of (Some (granted t)) = phases.Moves
 phase_of (Some (reported t finding)) = phases.Reports

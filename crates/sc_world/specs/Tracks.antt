@@ -1,5 +1,5 @@
 -- What a told report does to what the core knows of places.
-use Rattle.std.specs.Prelude.{◌≡◌, ◌⊎◌, [], Option, Some, None}
+use Rattle.std.specs.Prelude.{◌≡◌, ◌⊎◌, Option, Some, None}
 use Rattle.sc_ids.specs.declared.attempts.AttemptId.{AttemptId}
 use Rattle.sc_ids.specs.declared.blocks.BlockId.{BlockId}
 use Rattle.sc_ids.specs.declared.failures.FailureCause.TheVariants as causes
@@ -8,6 +8,7 @@ use Rattle.sc_tracker.specs.Tracking.{after_gone, registered}
 use Rattle.sc_dag.specs.DagData.{stage_at}
 use Rattle.sc_dag.specs.Reports.{block_by}
 use Rattle.sc_core.specs.CoreData.{CoreData}
+use Rattle.sc_core.specs.Posts.{is_save}
 use Rattle.sc_core.specs.Tells.{Tells}
 use Rattle.sc_core.specs.declared.answers.Answer.{Answer}
 use Rattle.sc_core.specs.declared.events.Outcome.{Outcome}
@@ -34,7 +35,7 @@ pub record Tracks (c : CoreData) (a : AttemptId) (outcome : Outcome) (after : Co
     pub tracker : (after.dag.tracker ≡ c.dag.tracker)
         ⊎ Learns c.dag.tracker (own_block c a) outcome after.dag.tracker
     pub stays : after.left_first ≡ c.left_first
-    pub saves : c.committers ≡ [] → after.committers ≡ []
+    pub saves : is_save after.committers ≡ is_save c.committers
 
 abbrev pub ReportsMoveTrackers : Type 0
 ReportsMoveTrackers =

@@ -8,10 +8,11 @@ use Rattle.sc_lineage.specs.ScriptData.{WorkData}
 use Rattle.sc_core.specs.CoreData.{CoreData, job_runs}
 use Rattle.sc_core.specs.Takes.{is_lost}
 use Rattle.sc_core.specs.declared.answers.Answer.{Answer}
+use Rattle.sc_core.specs.declared.answers.SideAnswer.{SideAnswer}
 use Rattle.sc_store.specs.declared.answers.WipeAnswer.{WipeAnswer}
 use Rattle.sc_desk.specs.Dues.{IsDueLoss, IsDueReport}
 use Rattle.sc_desk.specs.Orders.{ComesNext}
-use Rattle.sc_world.specs.Steps.{Computes, EvictsOne, HandsOrder, LosesOne, Posts, Puts, Reads, ReleasesOne, Takes, WipesOne}
+use Rattle.sc_world.specs.Steps.{AsksOne, Computes, EvictsOne, HandsOrder, LosesOne, Moves, Posts, Puts, Reads, ReleasesOne, Stages, Takes, WipesOne}
 use Rattle.sc_world.specs.WorldData.{WorldData, core_in, held_at}
 
 -- ---- whose turn it is
@@ -86,13 +87,23 @@ pub record HasNoDue (work : WorkData) (exec : ℕ) (w : WorldData) : Type 0 wher
 
 -- ---- what an executor does
 
--- an executor's attempt goes on by one step
-abbrev pub AdvancesOne : WorkData → ℕ → WorldData → WorldData → Type 0
-AdvancesOne work exec w after =
+-- an attempt of a save writes its part, asks, or moves it
+abbrev pub GoesInSave : WorldData → ℕ → SideAnswer → WorldData → Type 0
+GoesInSave w exec answer after =
+    Stages w exec answer after ⊎ (AsksOne w exec answer after ⊎ Moves w exec answer after)
+
+-- an executor's attempt goes on by one step that does nothing with files
+abbrev pub AdvancesPlain : WorkData → ℕ → WorldData → WorldData → Type 0
+AdvancesPlain work exec w after =
     Reads w exec after
     ⊎ (Computes work w exec after
     ⊎ (((loc : Loc) × Puts work w exec loc after)
     ⊎ ((answer : Answer) × Posts work w exec answer after)))
+
+-- an executor's attempt goes on by one step
+abbrev pub AdvancesOne : WorkData → ℕ → WorldData → WorldData → Type 0
+AdvancesOne work exec w after =
+    AdvancesPlain work exec w after ⊎ ((answer : SideAnswer) × GoesInSave w exec answer after)
 
 -- it goes on by steps, one after the other
 pub data AdvancesBy (work : WorkData) (exec : ℕ) (w : WorldData) : WorldData → Type 0 where
@@ -107,7 +118,7 @@ pub record WorksSoFar (work : WorkData) (exec : ℕ) (w after : WorldData) : Typ
   pub asks : Takes w exec answer asked
   pub goes : AdvancesBy work exec asked after
 
--- it has reported, if it got one
+-- it has reported, or was over, if it got one
 pub record Works (work : WorkData) (exec : ℕ) (w after : WorldData) : Type 0 where
   pub so_far : WorksSoFar work exec w after
   pub reported : held_at after exec ≡ None

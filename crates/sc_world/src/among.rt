@@ -1,18 +1,20 @@
 //! The attempts and the stores of all executors, of which one goes on.
 #![tactic(auto)]
 
-ghost use Rattle.std.specs.Prelude.{◌≡◌, ◌<◌, IfOk, IfSome, None, OnErr, OnOk, Some, length};
+ghost use Rattle.std.specs.Prelude.{◌≡◌, ◌<◌, IfOk, IfSome, None, OnErr, OnOk, Some, is_some, length, true};
 ghost use Rattle.sc_base.specs.Lists.{at_or};
 ghost use Rattle.sc_ids.specs.Changes.{change_at};
 ghost use Rattle.sc_store.specs.Storing.{IsWipe};
 ghost use Rattle.sc_task.specs.Attempts.{reported};
-ghost use Rattle.sc_world.specs.Places.{AreInOrder, ComputesAmong, EvictsAmong, PutsAmong, ReadStands, ReadsAmong, WipesAmong, held_with};
+ghost use Rattle.sc_desk.specs.Saving.{IsEvidentAnswer};
+ghost use Rattle.sc_world.specs.Places.{AreInOrder, ComputesAmong, EvictsAmong, HasPart, IsAside, IsAttemptOf, PutsAmong, ReadStands, ReadsAmong, WipesAmong, held_with, settled};
 ghost use Rattle.sc_world.specs.declared.places.AttemptState.{AttemptState};
 ghost use Rattle.sc_world.specs.Steps.{phase_of};
 
-use crate::places::Place;
+use crate::places::{Part, Place};
+use sc_core::SideAnswer;
 use sc_desk::Taken;
-use sc_ids::{ExecId, Loc};
+use sc_ids::{AttemptId, ExecId, Loc};
 use sc_net::Report;
 use sc_plan::Order;
 use sc_store::{Store, WipeAnswer};
@@ -85,6 +87,37 @@ pub(crate) fn put_among<W: Naming>(
 {
     let own = &mut stores[exec as usize];
     held[exec as usize].put(own)
+}
+
+/// What the attempt of an executor is to write.
+pub(crate) fn part_among<W: Naming>(
+    held: &[Place<W>],
+    alloc: Global,
+    exec: ExecId,
+) -> Result<Part, AllocError>
+    requires stages { phase_of (at_or held.now exec None) ≡ AttemptState.Stages }
+    ensures { IfOk result (λ p. HasPart W.work (at_or held.now exec None) p.attempt p.text.items) }
+{
+    held[exec as usize].part(alloc)
+}
+
+/// The numbers of the attempt of an executor.
+pub(crate) fn attempt_among<W: Naming>(held: &[Place<W>], exec: ExecId) -> AttemptId
+    requires taken { is_some (at_or held.now exec None) ≡ true }
+    ensures { IsAttemptOf (at_or held.now exec None) result }
+{
+    held[exec as usize].attempt()
+}
+
+/// The attempt of an executor, which is one of a save, did something beside the reports, which is
+/// answered so.
+pub(crate) fn settle_among<W: Naming>(held: &mut Vec<Place<W>>, exec: ExecId, answer: SideAnswer)
+    requires aside { IsAside (at_or held.old.items exec None) }
+    requires evident { IsEvidentAnswer answer }
+    ensures { held.new.items ≡ change_at held.old.items exec
+        (λ _. settled (at_or held.old.items exec None) answer) }
+{
+    held[exec as usize].settle(answer);
 }
 
 /// The attempt of an executor goes, and what it reports goes on.

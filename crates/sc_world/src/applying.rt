@@ -4,6 +4,7 @@
 ghost use Rattle.std.specs.Prelude.{◌≡◌, ◌↔◌, ◌<◌, IfOk, IsTrue, OnErr, length};
 ghost use Rattle.sc_desk.specs.Orders.{IsDueAmong};
 ghost use Rattle.sc_plan.specs.Orders.{wipes_of};
+ghost use Rattle.sc_world.specs.Files.{OutputGoesOn, OutputStands};
 ghost use Rattle.sc_world.specs.Runs.{Reaches, Runs};
 ghost use Rattle.sc_world.specs.Steps.{Goes};
 ghost use Rattle.sc_world.specs.WorldData.{core_in};
@@ -13,23 +14,35 @@ use crate::places::AttemptState;
 use crate::steps::{Applied, Step};
 use crate::worlds::World;
 use sc_base::OrMemory;
+use sc_files::Files;
 use sc_ids::ExecId;
 use sc_plan::Order;
+use sc_staging::Output;
 use sc_work::Naming;
 use std::alloc::{AllocError, Global};
 
 impl<W: Naming> World<W> {
-    /// Does one step, where it is enabled; one that isn't changes nothing. A refused call changes
-    /// nothing.
-    pub fn apply(&mut self, alloc: Global, step: Step) -> Result<Applied, AllocError>
+    /// Does one step, where it is enabled; one that isn't changes nothing. The files are those of
+    /// its job, and stand as its journal tells. A refused call changes nothing.
+    pub fn apply<F: Files>(
+        &mut self,
+        alloc: Global,
+        output: &mut Output<F>,
+        step: Step,
+    ) -> Result<Applied, AllocError>
+        requires stand { OutputStands W.work self.old F.state output.old }
         ensures goes { IfOk result (λ a. Goes W.work self.old step a self.new) }
         ensures refused { OnErr result (self.new ≡ self.old) }
+        ensures files { OutputGoesOn W.work self.new F.state output.old output.new }
     {
         match step {
             Step::Take { exec } => self.apply_take(alloc, exec),
             Step::Read { exec } => self.apply_read(exec),
             Step::Compute { exec } => self.apply_compute(alloc, exec),
             Step::Put { exec } => self.apply_put(exec),
+            Step::Stage { exec } => self.apply_stage(alloc, output, exec),
+            Step::Ask { exec } => self.apply_ask(exec),
+            Step::Move { exec } => self.apply_move(alloc, output, exec),
             Step::Post { exec } => self.apply_post(exec),
             Step::Release { key } => self.apply_release(key),
             Step::TellLost { exec } => self.apply_loss(exec),
@@ -40,14 +53,21 @@ impl<W: Naming> World<W> {
     }
 
     /// Does some steps, one after the other. Whatever comes, the world is one that steps lead to.
-    pub fn apply_all(&mut self, alloc: Global, steps: &[Step]) -> Result<Vec<Applied>, AllocError>
+    pub fn apply_all<F: Files>(
+        &mut self,
+        alloc: Global,
+        output: &mut Output<F>,
+        steps: &[Step],
+    ) -> Result<Vec<Applied>, AllocError>
+        requires stand { OutputStands W.work self.old F.state output.old }
         ensures runs { IfOk result
             (λ answers. Runs W.work self.old steps.now answers.items self.new) }
         ensures reaches { Reaches W.work self.old self.new }
+        ensures files { OutputGoesOn W.work self.new F.state output.old output.new }
     {
         let mut answers = Vec::with_capacity(alloc, steps.len())?;
         for step in steps {
-            answers.push(self.apply(alloc, *step)?)?;
+            answers.push(self.apply(alloc, output, *step)?)?;
         }
         Ok(answers)
     }
@@ -93,6 +113,53 @@ impl<W: Naming> World<W> {
     {
         if self.phase(exec) == AttemptState::Puts {
             Ok(Applied::Put(self.put(exec)?))
+        } else {
+            Ok(Applied::NotEnabled)
+        }
+    }
+
+    fn apply_stage<F: Files>(
+        &mut self,
+        alloc: Global,
+        output: &mut Output<F>,
+        exec: ExecId,
+    ) -> Result<Applied, AllocError>
+        requires stand { OutputStands W.work self.old F.state output.old }
+        ensures goes { IfOk result (λ a. Goes W.work self.old (steps.Stage exec) a self.new) }
+        ensures refused { OnErr result (self.new ≡ self.old) }
+        ensures files { OutputGoesOn W.work self.new F.state output.old output.new }
+    {
+        if self.phase(exec) == AttemptState::Stages {
+            Ok(Applied::Noted(self.stage(alloc, output, exec)?))
+        } else {
+            Ok(Applied::NotEnabled)
+        }
+    }
+
+    fn apply_ask(&mut self, exec: ExecId) -> Result<Applied, AllocError>
+        ensures goes { IfOk result (λ a. Goes W.work self.old (steps.Ask exec) a self.new) }
+        ensures refused { OnErr result (self.new ≡ self.old) }
+    {
+        if self.phase(exec) == AttemptState::Asks {
+            Ok(Applied::Noted(self.ask(exec)?))
+        } else {
+            Ok(Applied::NotEnabled)
+        }
+    }
+
+    fn apply_move<F: Files>(
+        &mut self,
+        alloc: Global,
+        output: &mut Output<F>,
+        exec: ExecId,
+    ) -> Result<Applied, AllocError>
+        requires stand { OutputStands W.work self.old F.state output.old }
+        ensures goes { IfOk result (λ a. Goes W.work self.old (steps.Move exec) a self.new) }
+        ensures refused { OnErr result (self.new ≡ self.old) }
+        ensures files { OutputGoesOn W.work self.new F.state output.old output.new }
+    {
+        if self.phase(exec) == AttemptState::Moves {
+            Ok(Applied::Noted(self.move_part(alloc, output, exec)?))
         } else {
             Ok(Applied::NotEnabled)
         }

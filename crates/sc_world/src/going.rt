@@ -10,7 +10,7 @@ ghost use Rattle.sc_task.specs.Nexts.{next_of};
 ghost use Rattle.sc_task.specs.Steps.{Computes};
 ghost use Rattle.sc_task.specs.declared.next.Next.{Next};
 ghost use Rattle.sc_world.specs.Places.{AreInOrder, FetchStands, FetchesTo, IsAtRest, NextStands};
-ghost use Rattle.sc_world.specs.Steps.{HasMade, Makes, ReadsAt, phase_of, phase_reading};
+ghost use Rattle.sc_world.specs.Steps.{HasMade, Makes, ReadsAt, is_put_aside, phase_of, phase_reading};
 
 use crate::places::AttemptState;
 use sc_net::Task;
@@ -25,7 +25,10 @@ pub(crate) fn phase_of<W: Naming>(attempt: &Attempt<W>) -> AttemptState
 {
     match attempt {
         Attempt::Assigned(state) => phase_reading(state.next()),
-        Attempt::Computed(_) => AttemptState::Puts,
+        Attempt::Computed(state) if is_map(state.task()) => AttemptState::Puts,
+        Attempt::Computed(_) => AttemptState::Stages,
+        Attempt::Staged(_) => AttemptState::Asks,
+        Attempt::Granted(_) => AttemptState::Moves,
         Attempt::Stored(_) | Attempt::Reported(_) => AttemptState::Reports,
     }
 }
@@ -51,7 +54,7 @@ pub(crate) fn read_next<W: Naming>(
     requires reads { phase_reading (next_of state.task state.got) ≡ AttemptState.Reads }
     ensures reads { IfOk result (λ next. ReadsAt stores.now
         (Some (assigned state.task state.got)) (Some (attempt_data_of next))) }
-    ensures rests { IfOk result (λ next. IsAtRest (Some (attempt_data_of next))) }
+    ensures rests { IfOk result (λ next. IsAtRest W.work (Some (attempt_data_of next))) }
     ensures back { IfErr result (λ failed. failed.value ≡ state) }
 {
     match state.next() {
@@ -69,7 +72,7 @@ fn fetch_next<W: Naming>(
     requires stands { FetchStands store.now (next_of state.task state.got) }
     ensures fetches { IfOk result (λ next. FetchesTo store.now state.task state.got
         (next_of state.task state.got) (attempt_data_of next)) }
-    ensures rests { IfOk result (λ next. IsAtRest (Some (attempt_data_of next))) }
+    ensures rests { IfOk result (λ next. IsAtRest W.work (Some (attempt_data_of next))) }
     ensures back { IfErr result (λ failed. failed.value ≡ state) }
 {
     match state.read(store) {
@@ -90,7 +93,7 @@ pub(crate) fn compute_next<W: Naming>(
 ) -> Result<Attempt<W>, AllocFailed<Assigned<W>>>
     requires complete { next_of state.task state.got ≡ Next.Complete }
     ensures makes { IfOk result (λ next. Makes W.work state.task (attempt_data_of next)) }
-    ensures rests { IfOk result (λ next. IsAtRest (Some (attempt_data_of next))) }
+    ensures rests { IfOk result (λ next. IsAtRest W.work (Some (attempt_data_of next))) }
     ensures cached { OnOk result (IsSameButCache store.old store.new) }
     ensures back { IfErr result (λ failed. failed.value ≡ state) }
     ensures same { OnErr result (store.new ≡ store.old) }
@@ -137,17 +140,25 @@ fn kept<W: Naming>(computed: Computed<W>, store: &mut Store<W>) -> Computed<W>
     }
 }
 
-/// What an attempt has that has computed: a block to be put, or rows to report.
+/// What an attempt has that has computed: a block or a part that is to be put aside, or what it
+/// hands over, to report.
 fn made_of<W: Naming>(computed: Computed<W>) -> Attempt<W>
     ensures made { HasMade W.work computed.task (attempt_data_of result) }
-    ensures rests { IsAtRest (Some (attempt_data_of result)) }
+    ensures rests { IsAtRest W.work (Some (attempt_data_of result)) }
 {
-    if is_map(computed.task()) {
+    if is_put_aside(computed.task()) {
         return Attempt::Computed(computed);
     }
     let report = computed.result();
     report.is_true();
     Attempt::Reported(report)
+}
+
+/// Whether what a task computes is put or written before it is reported.
+fn is_put_aside<W: Naming>(task: &Task<W>) -> bool
+    ensures { result ≡ is_put_aside W.work task.now }
+{
+    is_map(task) || task.job().saves(task.work())
 }
 
 /// Whether a task is one of a map stage.

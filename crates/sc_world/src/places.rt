@@ -1,14 +1,17 @@
 //! The place of the attempt that an executor has out.
 #![tactic(auto)]
 
-ghost use Rattle.std.specs.Prelude.{◌≡◌, IfOk, IfSome, None, OnErr, OnOk, Some, is_some};
+ghost use Rattle.std.specs.Prelude.{◌≡◌, IfOk, IfSome, None, OnErr, OnOk, Some, is_some, true};
 ghost use Rattle.sc_task.specs.Attempts.{assigned, reported};
 ghost use Rattle.sc_task.specs.Caches.{IsSameButCache};
-ghost use Rattle.sc_world.specs.Places.{AreInOrder, ComputesAt, PutsAt, ReadStands};
+ghost use Rattle.sc_desk.specs.Saving.{IsEvidentAnswer};
+ghost use Rattle.sc_world.specs.Places.{AreInOrder, ComputesAt, HasPart, IsAside, IsAttemptOf, PutsAt, ReadStands, settled};
 ghost use Rattle.sc_world.specs.Steps.{ReadsAt, phase_of};
 
 use crate::going::{compute_next, phase_of, read_next};
-use sc_ids::Loc;
+use crate::saving::settled;
+use sc_core::SideAnswer;
+use sc_ids::{AttemptId, Loc};
 use sc_net::{Report, Task};
 use sc_store::Store;
 use sc_task::{Attempt, assign};
@@ -27,8 +30,23 @@ pub enum AttemptState {
     Computes,
     /// It is to put the block that it has computed.
     Puts,
+    /// It is to write the part that it has computed.
+    Stages,
+    /// Its part was written, and it is to ask whether it may commit.
+    Asks,
+    /// It may commit, and is to move its part.
+    Moves,
     /// It is to report.
     Reports,
+}
+
+/// What an attempt is to write.
+#[derive(Drop)]
+pub(crate) struct Part {
+    /// The attempt's numbers.
+    pub(crate) attempt: AttemptId,
+    /// The text of its part.
+    pub(crate) text: Vec<u8>,
 }
 
 /// A place for the attempt that an executor has out.
@@ -50,7 +68,7 @@ impl<W: Naming> Model for Place<W> {
 
     ghost view = { λ p. option_map attempt_data_of p.attempt };
 
-    ghost invariant = { λ p. IsAtRest (option_map attempt_data_of p.attempt) };
+    ghost invariant = { λ p. IsAtRest W.work (option_map attempt_data_of p.attempt) };
 }
 
 impl<W: Naming> Place<W> {
@@ -164,6 +182,47 @@ impl<W: Naming> Place<W> {
                 Err(AllocError)
             }
         }
+    }
+
+    /// What the attempt is to write, which it has computed, and the attempt's numbers.
+    pub(crate) fn part(&self, alloc: Global) -> Result<Part, AllocError>
+        requires stages { phase_of self.now ≡ AttemptState.Stages }
+        ensures { IfOk result (λ p. HasPart W.work self.now p.attempt p.text.items) }
+    {
+        let Some(attempt) = &self.attempt else {
+            unreachable!();
+        };
+        let Attempt::Computed(state) = attempt else {
+            unreachable!();
+        };
+        let text = state.part_text(alloc)?;
+        Ok(Part {
+            attempt: state.task().attempt(),
+            text,
+        })
+    }
+
+    /// The numbers of the attempt.
+    pub(crate) fn attempt(&self) -> AttemptId
+        requires taken { is_some self.now ≡ true }
+        ensures { IsAttemptOf self.now result }
+    {
+        match &self.attempt {
+            Some(attempt) => attempt.task().attempt(),
+            None => unreachable!(),
+        }
+    }
+
+    /// The attempt, which is one of a save, did something beside the reports, which is answered so.
+    pub(crate) fn settle(&mut self, answer: SideAnswer)
+        requires aside { IsAside self.old }
+        requires evident { IsEvidentAnswer answer }
+        ensures { self.new ≡ settled self.old answer }
+    {
+        let Some(attempt) = self.attempt.take() else {
+            unreachable!();
+        };
+        self.attempt = settled(attempt, answer);
     }
 
     /// The attempt leaves the place, and what it reports goes on.

@@ -1,7 +1,7 @@
 //! The steps of a world.
 #![tactic(auto)]
 
-use sc_core::Answer;
+use sc_core::{Answer, SideAnswer};
 use sc_ids::{ExecId, Loc};
 use sc_plan::Order;
 use sc_store::WipeAnswer;
@@ -26,6 +26,21 @@ pub enum Step {
     },
     /// Its attempt puts the block that it has computed.
     Put {
+        /// The executor.
+        exec: ExecId,
+    },
+    /// Its attempt, which is one of a save, writes its part.
+    Stage {
+        /// The executor.
+        exec: ExecId,
+    },
+    /// It asks whether it may commit.
+    Ask {
+        /// The executor.
+        exec: ExecId,
+    },
+    /// It moves its part to where it counts.
+    Move {
         /// The executor.
         exec: ExecId,
     },
@@ -60,6 +75,8 @@ pub enum Step {
 pub enum Applied {
     /// What the scheduler answered.
     Told(Answer),
+    /// What the scheduler answered to what an attempt of a save did.
+    Noted(SideAnswer),
     /// Where a block was put.
     Put(Loc),
     /// What the store answered to a wipe.

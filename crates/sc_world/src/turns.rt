@@ -6,15 +6,20 @@ ghost use Rattle.sc_core.specs.CoreData.{job_runs};
 ghost use Rattle.sc_core.specs.declared.answers.Answer.{Answer};
 ghost use Rattle.sc_desk.specs.Dues.{IsDueLoss, IsDueReport};
 ghost use Rattle.sc_desk.specs.Orders.{IsDueOrder};
+ghost use Rattle.sc_core.specs.declared.answers.SideAnswer.{SideAnswer};
+ghost use Rattle.sc_world.specs.Files.{OutputGoesOn, OutputStands};
+ghost use Rattle.sc_world.specs.Places.{IsAside};
 ghost use Rattle.sc_world.specs.Serial.{Advances, Asks, Drives, Finishes, GoesOn, IsAlone, IsLive, IsResting, Turns};
 ghost use Rattle.sc_world.specs.Steps.{Takes};
-ghost use Rattle.sc_world.specs.Turns.{AdvancesBy, AdvancesOne, CarriesOut, DoesDueIf, StopsWork, Works};
+ghost use Rattle.sc_world.specs.Turns.{AdvancesBy, AdvancesOne, AdvancesPlain, CarriesOut, DoesDueIf, GoesInSave, StopsWork, Works};
 ghost use Rattle.sc_world.specs.WorldData.{core_in, held_at};
 
 use crate::places::AttemptState;
 use crate::worlds::World;
+use sc_files::Files;
 use sc_ids::ExecId;
 use sc_plan::{Order, OrderKind};
+use sc_staging::Output;
 use sc_work::Naming;
 use std::alloc::{AllocError, Global};
 
@@ -94,22 +99,29 @@ impl<W: Naming> World<W> {
     }
 
     /// An executor asks for a task, and its attempt goes on until it has reported.
-    pub(crate) fn run_task(&mut self, alloc: Global, exec: ExecId) -> Result<(), AllocError>
+    pub(crate) fn run_task<F: Files>(
+        &mut self,
+        alloc: Global,
+        output: &mut Output<F>,
+        exec: ExecId,
+    ) -> Result<(), AllocError>
         requires runs { job_runs (core_in self.old) ≡ true }
         requires rests { IsResting self.old }
         requires due { IsDueReport (core_in self.old) exec None }
         requires live { IsLive self.old exec }
+        requires stand { OutputStands W.work self.old F.state output.old }
         ensures turns { OnOk result (Turns W.work self.old self.new) }
         ensures on { GoesOn W.work self.old self.new }
         ensures works { OnOk result (Works W.work exec self.old self.new) }
         ensures stops { OnErr result (StopsWork W.work exec self.old self.new) }
+        ensures files { OutputGoesOn W.work self.new F.state output.old output.new }
     {
-        self.ask(alloc, exec)?;
-        self.finish(alloc, exec)
+        self.request(alloc, exec)?;
+        self.finish(alloc, output, exec)
     }
 
     /// An executor asks for a task. It gets one, or the job ends.
-    fn ask(&mut self, alloc: Global, exec: ExecId) -> Result<(), AllocError>
+    fn request(&mut self, alloc: Global, exec: ExecId) -> Result<(), AllocError>
         requires runs { job_runs (core_in self.old) ≡ true }
         requires rests { IsResting self.old }
         requires due { IsDueReport (core_in self.old) exec None }
@@ -123,30 +135,61 @@ impl<W: Naming> World<W> {
         Ok(())
     }
 
-    /// An executor's attempt goes on until it has reported.
-    fn finish(&mut self, alloc: Global, exec: ExecId) -> Result<(), AllocError>
+    /// An executor's attempt goes on until it has reported, or was over.
+    fn finish<F: Files>(
+        &mut self,
+        alloc: Global,
+        output: &mut Output<F>,
+        exec: ExecId,
+    ) -> Result<(), AllocError>
         requires alone { IsAlone exec self.old }
+        requires stand { OutputStands W.work self.old F.state output.old }
         ensures finishes { OnOk result (Finishes W.work self.old self.new) }
         ensures on { GoesOn W.work self.old self.new }
         ensures goes { AdvancesBy W.work exec self.old self.new }
+        ensures files { OutputGoesOn W.work self.new F.state output.old output.new }
     {
         while self.is_out(exec) {
-            self.advance(alloc, exec)?;
+            self.advance(alloc, output, exec)?;
         }
         Ok(())
     }
 
     /// An executor's attempt goes on by one step.
-    fn advance(&mut self, alloc: Global, exec: ExecId) -> Result<(), AllocError>
+    fn advance<F: Files>(
+        &mut self,
+        alloc: Global,
+        output: &mut Output<F>,
+        exec: ExecId,
+    ) -> Result<(), AllocError>
         requires out { is_some (held_at self.old exec) ≡ true }
         requires alone { IsAlone exec self.old }
+        requires stand { OutputStands W.work self.old F.state output.old }
         ensures advances { OnOk result (Advances W.work exec self.old self.new) }
         ensures goes { OnOk result (AdvancesOne W.work exec self.old self.new) }
+        ensures refused { OnErr result (self.new ≡ self.old) }
+        ensures files { OutputGoesOn W.work self.new F.state output.old output.new }
+    {
+        self.is_world();
+        match self.phase(exec) {
+            AttemptState::Stages | AttemptState::Asks | AttemptState::Moves => {
+                self.advance_save(alloc, output, exec)
+            }
+            _ => self.advance_plain(alloc, exec),
+        }
+    }
+
+    /// The same where it does nothing with files.
+    fn advance_plain(&mut self, alloc: Global, exec: ExecId) -> Result<(), AllocError>
+        requires out { is_some (held_at self.old exec) ≡ true }
+        requires alone { IsAlone exec self.old }
+        requires plain { IsAside (held_at self.old exec) → ⊥ }
+        ensures advances { OnOk result (Advances W.work exec self.old self.new) }
+        ensures goes { OnOk result (AdvancesPlain W.work exec self.old self.new) }
         ensures refused { OnErr result (self.new ≡ self.old) }
     {
         self.is_world();
         match self.phase(exec) {
-            AttemptState::Idle => unreachable!(),
             AttemptState::Reads => self.read(exec),
             AttemptState::Computes => self.compute(alloc, exec),
             AttemptState::Puts => {
@@ -157,7 +200,35 @@ impl<W: Naming> World<W> {
                 let _ = self.post(exec)?;
                 Ok(())
             }
+            AttemptState::Idle => unreachable!(),
+            AttemptState::Stages | AttemptState::Asks | AttemptState::Moves => unreachable!(),
         }
+    }
+
+    /// The same of an attempt of a save that is to write its part, to ask, or to move it.
+    fn advance_save<F: Files>(
+        &mut self,
+        alloc: Global,
+        output: &mut Output<F>,
+        exec: ExecId,
+    ) -> Result<(), AllocError>
+        requires aside { IsAside (held_at self.old exec) }
+        requires alone { IsAlone exec self.old }
+        requires stand { OutputStands W.work self.old F.state output.old }
+        ensures advances { OnOk result (Advances W.work exec self.old self.new) }
+        ensures goes { OnOk result ((answer : SideAnswer)
+            × GoesInSave self.old exec answer self.new) }
+        ensures refused { OnErr result (self.new ≡ self.old) }
+        ensures files { OutputGoesOn W.work self.new F.state output.old output.new }
+    {
+        self.is_world();
+        let _ = match self.phase(exec) {
+            AttemptState::Stages => self.stage(alloc, output, exec)?,
+            AttemptState::Asks => self.ask(exec)?,
+            AttemptState::Moves => self.move_part(alloc, output, exec)?,
+            _ => unreachable!(),
+        };
+        Ok(())
     }
 
     /// Whether an executor has an attempt out.

@@ -1,3 +1,4 @@
+use Rattle.sc_world.specs.Files.{OutputGoesOn}
 use Rattle.sc_world.specs.Serial.{GoesOn, IsAlone, IsNoMore, steps_left}
 use Rattle.sc_world.specs.Turns.{AdvancesBy}
 use Rattle.sc_world.specs.WorldData.{held_at}
@@ -9,6 +10,7 @@ invariant-loop-alloc g l = record {
   alone : IsAlone l.exec l.self;
   no_more : IsNoMore g.W.Naming.work l.fn.self l.self;
   goes : AdvancesBy g.W.Naming.work l.exec l.fn.self l.self;
+  files : OutputGoesOn g.W.Naming.work l.self g.F.Files.state l.fn.output l.output;
 }
 
 abbrev pub decreases-loop-alloc : goal.decreases-loop-alloc

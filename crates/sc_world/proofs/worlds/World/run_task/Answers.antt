@@ -4,21 +4,28 @@ use Rattle.sc_world.specs.Serial.{GoesOn}
 use Rattle.sc_world.specs.WorldData.{WorldData}
 use Rattle.sc_world.proofs.CodeRuns.{goes_then, stays}
 use Rattle.sc_world.proofs.CodeTurns.{asks_then}
+use Rattle.sc_world.proofs.StandLemmas.{takes_stand}
 use Rattle.sc_world.proofs.worlds.World.run_task.Goals as goal
 
-pub returns-in_err-ask-clause-on : goal.returns-in_err-ask-clause-on
-returns-in_err-ask-clause-on g c =
+pub returns-in_err-request-clause-on : goal.returns-in_err-request-clause-on
+returns-in_err-request-clause-on g c =
     subst (λ (x : WorldData). GoesOn g.W.Naming.work c.args.self.now x)
-    (sym c.in_err-ask.ensures.refused) (stays g.W.Naming.work c.args.self.now)
+    (sym c.in_err-request.ensures.refused) (stays g.W.Naming.work c.args.self.now)
 
 pub returns-clause-turns : goal.returns-clause-turns
 returns-clause-turns g c =
     on_ok_weaker c.finish.result
-    (λ finishes. asks_then g.W.Naming.work c.args.self.now c.ask.new.self c.finish.new.self
-    c.args.exec c.in_ok-ask.ensures.asks finishes)
+    (λ finishes. asks_then g.W.Naming.work c.args.self.now c.request.new.self c.finish.new.self
+    c.args.exec c.in_ok-request.ensures.asks finishes)
     c.finish.ensures.finishes
 
 pub returns-clause-on : goal.returns-clause-on
 returns-clause-on g c =
-    goes_then g.W.Naming.work c.args.self.now c.ask.new.self c.finish.new.self
-    c.in_ok-ask.ensures.asks.on c.finish.ensures.on
+    goes_then g.W.Naming.work c.args.self.now c.request.new.self c.finish.new.self
+    c.in_ok-request.ensures.asks.on c.finish.ensures.on
+
+pub finish-requires-clause-stand : goal.finish-requires-clause-stand
+finish-requires-clause-stand g c =
+    let t = c.in_ok-request.ensures.takes in
+    takes_stand g.W.Naming.work c.args.self.now c.request.new.self c.args.exec t.0
+    g.F.Files.state c.args.output.now t.1 c.requires.stand

@@ -1,4 +1,5 @@
 use Rattle.sc_core.specs.CoreData.{job_runs}
+use Rattle.sc_world.specs.Files.{OutputGoesOn}
 use Rattle.sc_world.specs.Serial.{GoesOn, IsResting, left_in}
 use Rattle.sc_world.specs.Turns.{TakesTurns}
 use Rattle.sc_world.specs.WorldData.{core_in}
@@ -10,6 +11,7 @@ invariant-loop-alloc g l = record {
   on : GoesOn g.W.Naming.work l.fn.self l.self;
   rests : IsResting l.self;
   turns : TakesTurns g.W.Naming.work 0 l.fn.self l.exec l.self;
+  files : OutputGoesOn g.W.Naming.work l.self g.F.Files.state l.fn.output l.output;
 }
 
 abbrev pub decreases-loop-alloc : goal.decreases-loop-alloc

@@ -1,0 +1,29 @@
+use Rattle.std.proofs.lemmas.Result.{on_ok_weaker}
+use Rattle.sc_world.proofs.CodeTurns.{computes_advance, posts_advance, puts_advance, reads_advance}
+use Rattle.sc_world.proofs.worlds.World.advance_plain.Goals as goal
+
+pub returns-in-Reads-clause-advances : goal.returns-in-Reads-clause-advances
+returns-in-Reads-clause-advances g c =
+    on_ok_weaker c.read.result
+    (λ reads. reads_advance g.W.Naming.work c.args.self.now c.read.new.self c.args.exec
+    c.requires.alone reads)
+    c.read.ensures.reads
+
+pub returns-in-Computes-clause-advances : goal.returns-in-Computes-clause-advances
+returns-in-Computes-clause-advances g c =
+    on_ok_weaker c.compute.result
+    (λ computes. computes_advance g.W.Naming.work c.args.self.now c.compute.new.self c.args.exec
+    c.requires.alone computes)
+    c.compute.ensures.computes
+
+pub returns-in_ok-put-in-Puts-clause-advances : goal.returns-in_ok-put-in-Puts-clause-advances
+returns-in_ok-put-in-Puts-clause-advances g c =
+    puts_advance g.W.Naming.work c.args.self.now c.put.new.self c.args.exec
+    c.in_ok-put-in-Puts.field-0 c.requires.alone c.in_ok-put-in-Puts.ensures.puts
+
+pub returns-in_ok-post-in-Reports-clause-advances :
+    goal.returns-in_ok-post-in-Reports-clause-advances
+returns-in_ok-post-in-Reports-clause-advances g c =
+    posts_advance g.W.Naming.work c.args.self.now c.post.new.self c.args.exec
+    c.in_ok-post-in-Reports.field-0 c.is_world.ensures.core c.is_world.ensures.sound
+    c.requires.alone c.in_ok-post-in-Reports.ensures.posts
