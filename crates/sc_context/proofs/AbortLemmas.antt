@@ -1,5 +1,5 @@
 -- What the history of an aborted job shows.
-use Rattle.std.proofs.Common.{◌≡◌, ◌∙◌, ◌⊎◌, inl, inr, ap, ℕ, ◌<◌, ◌≤◌, ◌&&◌, true, false, List, [], ◌∷◌, ◌++◌, Option, Some, None, IfSome, length, refl, sym, subst, arith, true≢false}
+use Rattle.std.proofs.Common.{◌≡◌, ◌∙◌, ◌⊎◌, inl, inr, ap, ℕ, ◌<◌, ◌≤◌, ◌&&◌, true, List, [], ◌∷◌, ◌++◌, Option, Some, None, IfSome, length, refl, sym, subst, arith, true≢false}
 use Rattle.std.specs.List.{All, Contains}
 use Rattle.std.proofs.lemmas.Bool.{and_parts, false≢true}
 use Rattle.std.proofs.lemmas.List.Elements.{All-append, All-cons, All-contains, All-head, All-nil}
@@ -97,30 +97,37 @@ pub record AreCauses : Type 0 where
   pub empty : EmptyPlansLoseNone
   pub missing : MissingInputsWereLost
 
+-- a job that saves is that of the action
+pub saves_itself : (work : WorkData) (p : Progress) (goal : Goal) → IsNext work p goal
+    → saves work goal ≡ true → saves work (goals.Action p.actions) ≡ true
+saves_itself work p (goals.Action number) next e =
+    ap (λ n. saves work (goals.Action n)) (sym next.0) ∙ e
+saves_itself work p (goals.Bounds sort) next e = absurd (false≢true e)
+
 module _ (known_causes : AreCauses) (work : WorkData) (sound : IsSoundWork work) (p : Progress)
     (goal : Goal) (h : JobHistory) (is : IsHistory work p goal h) (core : IsSoundCore h.end)
     (fits : FitsRun work h.end) where
   -- every executor was told lost
   all_lost : h.end.job ≡ jobs.Aborted NoExecutor → are_lost h.end.dag.tracker.trust ≡ true
   all_lost e =
-      no_executors_are_shown is.graph work.limits false work.plan p.last h.opening h.end
+      no_executors_are_shown is.graph work.limits (saves work goal) work.plan p.last h.opening h.end
       h.entries.items is.opening is.began is.replays e
 
   -- the history shows the abort
   pub shows_abort : (abort : Abort) → h.end.job ≡ jobs.Aborted abort
       → ShowsAbort work h is.replays abort
   shows_abort (TaskLimit stage number partition) e =
-      task_limits_are_shown is.graph work.limits false work.plan p.last h.opening h.end
+      task_limits_are_shown is.graph work.limits (saves work goal) work.plan p.last h.opening h.end
       h.entries.items stage number partition is.opening is.began is.replays e
   shows_abort (StageLimit stage) e =
-      stage_limits_are_shown is.graph work.limits false work.plan p.last h.opening h.end
+      stage_limits_are_shown is.graph work.limits (saves work goal) work.plan p.last h.opening h.end
       h.entries.items stage is.opening is.began is.replays e
   shows_abort NoExecutor e = λ exec within.
       let lost = known_causes.losses work.plan h.end exec core fits.plan (all_lost e)
       (subst (λ n. exec < n) (sym fits.execs) within) in
       (lost, losses_are_shown h.opening h.end h.entries.items exec is.began is.replays lost.lost)
   shows_abort Budget e =
-      budgets_are_shown is.graph work.limits false work.plan p.last h.opening h.end
+      budgets_are_shown is.graph work.limits (saves work goal) work.plan p.last h.opening h.end
       h.entries.items is.opening is.replays e
 
   -- Where the plan has no line.
@@ -140,13 +147,6 @@ module _ (known_causes : AreCauses) (work : WorkData) (sound : IsSoundWork work)
         (action_outcome work (goal_action work (goals.Action p.actions)) ≡ never)
         ⊎ (saves work (goals.Action p.actions) ≡ true)
 
-    -- a job that saves is that of the action
-    saves_itself : (g : Goal) → IsNext work p g → saves work g ≡ true
-        → saves work (goals.Action p.actions) ≡ true
-    saves_itself (goals.Action number) next e =
-        ap (λ n. saves work (goals.Action n)) (sym next.0) ∙ e
-    saves_itself (goals.Bounds sort) next e = absurd (false≢true e)
-
     -- a failure that counts is a raise, or one of a call on the files
     counted_raises : (told : ℕ) (a : AttemptId) (cause : FailureCause) → is_counted cause ≡ true
         → EndedFor work job told a (outcomes.Failed cause) → RaisesOrSaves
@@ -158,7 +158,7 @@ module _ (known_causes : AreCauses) (work : WorkData) (sound : IsSoundWork work)
         sound.script carried known is.cut raised.task raised.own).served p.actions
         (serves goal is.next))
     counted_raises told a (causes.Device fault) counted failed =
-        inr (saves_itself goal is.next failed.1)
+        inr (saves_itself work p goal is.next failed.1)
     counted_raises told a (causes.Gone exec wanted found) counted failed =
         absurd (false≢true counted)
     counted_raises told a (causes.Metadata last) counted failed = absurd (false≢true counted)
@@ -201,8 +201,8 @@ module _ (known_causes : AreCauses) (work : WorkData) (sound : IsSoundWork work)
     unplanned_abort (StageLimit stage) e =
         gives_none_up work job empty known_causes.empty.none known_causes.missing h.opening h.end
         h.entries.items stage
-        (opening_calm work job empty known_causes.empty.none known_causes.missing is.graph p.last
-        h.opening is.opening is.began before)
+        (opening_calm work job empty known_causes.empty.none known_causes.missing is.graph
+        (saves work goal) p.last h.opening is.opening is.began before)
         (is.replays, is.evidence) (omega (arith, sound.limits.stage_attempts.above))
         (shows_abort (StageLimit stage) e)
     unplanned_abort NoExecutor e =

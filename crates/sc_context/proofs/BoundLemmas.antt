@@ -22,7 +22,7 @@ places_left (None ∷ bounds) = suc (places_left bounds)
 places_left (Some found ∷ bounds) = places_left bounds
 
 -- one less where some are put at a place that has none
-pub fewer_left : (bounds : List (Option (List KeyData))) (k : ℕ) (found : List KeyData)
+fewer_left : (bounds : List (Option (List KeyData))) (k : ℕ) (found : List KeyData)
     → k < length bounds → at_or bounds k None ≡ None
     → places_left (change_at bounds k (λ _. Some found)) < places_left bounds
 fewer_left [] k found within none = absurd (omega arith)
@@ -33,6 +33,12 @@ fewer_left (None ∷ bounds) (suc k) found within none =
     let rest = fewer_left bounds k found (omega arith) none in omega (arith, rest)
 fewer_left (Some b ∷ bounds) (suc k) found within none =
     fewer_left bounds k found (omega arith) none
+
+pub fewer_behind : (old new : List (Option (List KeyData))) (k : ℕ) (found : List KeyData)
+    → new ≡ change_at old k (λ _. Some found) → k < length old → at_or old k None ≡ None
+    → places_left new < places_left old
+fewer_behind old new k found is within none =
+    subst (λ bs. places_left bs < places_left old) (sym is) (fewer_left old k found within none)
 
 -- a node that lacks bounds has none
 pub lacks_none : (node : Option NodeData) (bounds : Option (List KeyData))

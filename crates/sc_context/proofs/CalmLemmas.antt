@@ -524,16 +524,16 @@ module _ (work : WorkData) (job : JobData) (empty : work.plan ≡ [])
   behind_plan None fits = empty
   behind_plan (Some last) fits = fits.plan ∙ empty
 
-  pub opening_calm : (graph : List StageData) (last : Option CoreData) (c : CoreData)
-      → IsOpening graph work.limits false work.plan last c → IsSoundCore c → FitsLast work last
-      → IsCalm c
-  opening_calm graph last c opening sound fits =
+  pub opening_calm : (graph : List StageData) (saving : Bool) (last : Option CoreData)
+      (c : CoreData) → IsOpening graph work.limits saving work.plan last c → IsSoundCore c
+      → FitsLast work last → IsCalm c
+  opening_calm graph saving last c opening sound fits =
       record {
         sound = sound;
         plan = opening.plan_is ∙ behind_plan last fits;
         unseen = λ exec. subst (λ trust. (trust_at trust exec).seen ≤ 0)
             (sym (ap (λ (t : TrackerData). t.trust)
-            (opened_tracker graph work.limits false work.plan last c opening)
+            (opened_tracker graph work.limits saving work.plan last c opening)
             ∙ sized_all_trust (tracker_behind last work.limits) graph))
             (behind_unseen last fits exec);
         inputs = subst (λ running. All HasInputs running) (sym opening.running)

@@ -1,14 +1,15 @@
 -- Jobs one behind the other.
-use Rattle.std.proofs.Common.{true≢false, Bool, true, false, ◌≡◌, ◌∙◌, inl, inr, ◌+◌, ◌-◌, ◌<◌, List, [], ◌∷◌, ◌++◌, Some, length, slice_get, refl, ap, sym, subst, arith, append_assoc}
+use Rattle.std.proofs.Common.{◌≡◌, ◌∙◌, inl, inr, ◌+◌, ◌-◌, ◌<◌, List, [], ◌∷◌, ◌++◌, Option, Some, None, length, slice_get, refl, ap, sym, subst, arith, append_assoc}
 use Rattle.std.specs.Option.{option_map}
 use Rattle.std.proofs.lemmas.List.{append-nil, length-append}
+use Rattle.sc_base.specs.Outside.{FilesState}
+use Rattle.sc_base.specs.Trees.{Path}
 use Rattle.sc_base.specs.declared.refusals.OrMemory.{OrMemory}
 use Rattle.sc_base.specs.declared.refusals.OrMemory.TheVariants.{Fault, OutOfMemory}
+use Rattle.sc_compute.specs.declared.evaluation.Evaluated.{Evaluated}
 use Rattle.sc_compute.specs.declared.results.TaskResult.{TaskResult}
 use Rattle.sc_lineage.specs.ScriptData.{WorkData, IsSoundScript}
-use Rattle.sc_core.specs.declared.answers.Abort.{Abort}
 use Rattle.sc_core.specs.CoreData.{CoreData}
-use Rattle.sc_core.specs.declared.answers.JobState.{JobState}
 use Rattle.sc_core.specs.declared.answers.JobState.TheVariants as jobs
 use Rattle.sc_core.specs.declared.journals.JobHistory.{JobHistory}
 use Rattle.sc_stagecut.specs.Carrying.{HasBounds}
@@ -16,14 +17,21 @@ use Rattle.sc_jobs.specs.JobData.{IsGoal, goal_action, goal_node}
 use Rattle.sc_jobs.specs.declared.goals.Goal.{Goal}
 use Rattle.sc_jobs.specs.declared.goals.Goal.TheVariants as goals
 use Rattle.sc_jobs.proofs.SortLemmas.{first_bounds_can_be_found}
+use Rattle.sc_staging.specs.Laws.{WaysGoOn}
 use Rattle.sc_store.specs.StoreData.{StoreData}
 use Rattle.sc_desk.specs.DeskData.{PassedData}
-use Rattle.sc_context.specs.Aborts.{IsAborted}
+use Rattle.sc_desk.specs.Files.{dir_of_job}
+use Rattle.sc_context.specs.Aborts.{IsHalted}
 use Rattle.sc_context.specs.Bounding.{GoesOn}
-use Rattle.sc_compute.specs.declared.evaluation.Evaluated.{Evaluated}
-use Rattle.sc_context.specs.Contexts.{ContextData, Evaluates, GivesNext, IsEnded, StandBehind, Stops}
+use Rattle.sc_context.specs.Contexts.{ContextData, Evaluates, GivesNext, IsEnded, ShowsStop, StandBehind, Stops}
+use Rattle.sc_context.specs.Files.{StopsFiles}
 use Rattle.sc_context.specs.Histories.{HasCome, IsCutShort, IsDone, IsHistory, IsUnaborted, last_end}
+use Rattle.sc_context.specs.Outputs.{IsOpenIn, RefusesOutput}
 use Rattle.sc_context.specs.Progress.{IsNext, Progress, behind_job, first_progress, next_node}
+use Rattle.sc_context.specs.declared.stops.JobFault.{JobFault}
+use Rattle.sc_context.specs.declared.stops.JobFault.TheVariants as faults
+use Rattle.sc_context.proofs.DoneLemmas.{aborted_undone}
+use Rattle.sc_context.proofs.FilesLemmas.{HaveGone, gone_then, left_stops, refused_stops, stops_for, unbegun_stops, unchanged_stops}
 
 -- one job more is done
 pub come_more : (work : WorkData) (p mid after : Progress) (histories : List JobHistory)
@@ -80,79 +88,151 @@ ended_short work p before after h goal come is unaborted all = (
   inr (goal, h, record { before = before; all = all; come = come; is = is }, unaborted),
 )
 
--- a job that is done was not aborted
-is_done_job : JobState → Bool
-is_done_job jobs.Done = true
-is_done_job job = false
-
-done_unaborted : (end : CoreData) → end.job ≡ jobs.Done → IsUnaborted end
-unfolding is_done_job
-done_unaborted end done abort aborted = true≢false (ap is_done_job (sym done ∙ aborted))
-
--- memory ran out before a job
-pub stops_short : (work : WorkData) (c : ContextData) (why : OrMemory Abort)
-    (histories : List JobHistory) → HasCome work (first_progress work) c.histories c.progress
-    → why ≡ OutOfMemory → histories ≡ c.histories → Stops work c why histories
-stops_short work c why histories come none all =
-    subst (λ w. Stops work c w histories) (sym none) (
-      ([], all ∙ sym (append-nil c.histories)),
-      (
-        c.progress,
-        refl,
-        inl (subst (λ hs. HasCome work (first_progress work) hs c.progress) (sym all) come),
-      ),
+-- memory ran out before a job began
+cut_short : (work : WorkData) (c : ContextData) (histories : List JobHistory)
+    → HasCome work (first_progress work) c.histories c.progress → histories ≡ c.histories
+    → IsHalted work c.progress.actions histories
+cut_short work c histories come all =
+    inl (
+      c.progress,
+      refl,
+      inl (subst (λ hs. HasCome work (first_progress work) hs c.progress) (sym all) come),
     )
+
+-- a job that is done was not aborted
+done_unaborted : (end : CoreData) → end.job ≡ jobs.Done → IsUnaborted end
+done_unaborted end done abort aborted = aborted_undone end.job abort aborted done
+
+-- ---- memory that runs out
+
+-- before a job
+pub stops_short : (work : WorkData) (c : ContextData) (why : OrMemory JobFault)
+    (histories : List JobHistory) (files : FilesState)
+    → HasCome work (first_progress work) c.histories c.progress
+    → why ≡ OutOfMemory → histories ≡ c.histories → files ≡ c.files
+    → Stops work c why histories files
+stops_short work c why histories files come none all same =
+    subst (λ w. Stops work c w histories files) (sym none)
+    (record {
+      behind = ([], all ∙ sym (append-nil c.histories));
+      shows = cut_short work c histories come all;
+      over = unchanged_stops (dir_of_job work (goals.Action c.progress.actions)) c.files files
+          OutOfMemory same tt;
+    })
 
 -- or behind one that is done
-pub stops_ended : (work : WorkData) (c : ContextData) (goal : Goal) (why : OrMemory Abort)
+pub stops_ended : (work : WorkData) (c : ContextData) (goal : Goal) (why : OrMemory JobFault)
     (passed : PassedData) (stores : List StoreData) (histories left : List JobHistory)
-    (given : List TaskResult) → HasCome work (first_progress work) c.histories c.progress
-    → IsEnded work c goal passed stores histories given → why ≡ OutOfMemory → left ≡ histories
-    → Stops work c why left
-stops_ended work c goal why passed stores histories left given come ended none all =
-    subst (λ w. Stops work c w left) (sym none) (
-      (ended.history ∷ [], all ∙ ended.all),
-      ended_short work c.progress c.histories left ended.history goal come ended.is
-          (done_unaborted ended.history.end ended.done) (all ∙ ended.all),
+    (given : List TaskResult) (files files_left : FilesState) → IsNext work c.progress goal
+    → HasCome work (first_progress work) c.histories c.progress
+    → IsEnded work c goal passed stores histories given files → why ≡ OutOfMemory
+    → left ≡ histories → files_left ≡ files → Stops work c why left files_left
+stops_ended work c goal why passed stores histories left given files files_left next come ended
+    none all same =
+    subst (λ w. Stops work c w left files_left) (sym none)
+    (record {
+      behind = (ended.history ∷ [], all ∙ ended.all);
+      shows = inl (ended_short work c.progress c.histories left ended.history goal come ended.is
+          (done_unaborted ended.history.end ended.done) (all ∙ ended.all));
+      over = subst (λ f. StopsFiles work c.progress.actions c.files f OutOfMemory) (sym same)
+          (stops_for work c.progress goal c.files files OutOfMemory next
+          (left_stops (dir_of_job work goal) work goal ended.history c.files files ended.left));
+    })
+
+-- the files of a job weren't opened, so it never began
+pub stops_unbegun : (work : WorkData) (c : ContextData) (goal : Goal) (why : OrMemory JobFault)
+    (histories : List JobHistory) (files : FilesState) → IsNext work c.progress goal
+    → HasCome work (first_progress work) c.histories c.progress
+    → RefusesOutput (dir_of_job work goal) c.files files why → histories ≡ c.histories
+    → Stops work c why histories files
+stops_unbegun work c goal why histories files next come refused all =
+    record {
+      behind = ([], all ∙ sym (append-nil c.histories));
+      shows = shows (dir_of_job work goal) why refused;
+      over = stops_for work c.progress goal c.files files why next
+          (refused_stops (dir_of_job work goal) c.files files why refused);
+    }
+  where
+    shows : (dir : Option Path) (why : OrMemory JobFault)
+        → RefusesOutput dir c.files files why → ShowsStop work c.progress.actions why histories
+    shows None why refused = absurd refused
+    shows (Some dir) (Fault (faults.Aborted abort)) refused = absurd refused.1
+    shows (Some dir) (Fault (faults.Exists path)) refused = (
+      c.progress,
+      subst (λ hs. HasCome work (first_progress work) hs c.progress) (sym all) come,
+      refl,
     )
+    shows (Some dir) (Fault (faults.Device path)) refused = cut_short work c histories come all
+    shows (Some dir) OutOfMemory refused = cut_short work c histories come all
+
+-- they were opened, and memory ran out before it began
+pub stops_opened : WaysGoOn → (work : WorkData) (c : ContextData) (goal : Goal)
+    (why : OrMemory JobFault) (histories : List JobHistory) (files : FilesState)
+    → IsNext work c.progress goal → HasCome work (first_progress work) c.histories c.progress
+    → IsOpenIn (dir_of_job work goal) c.files files → why ≡ OutOfMemory
+    → histories ≡ c.histories → Stops work c why histories files
+stops_opened ways work c goal why histories files next come opened none all =
+    subst (λ w. Stops work c w histories files) (sym none)
+    (record {
+      behind = ([], all ∙ sym (append-nil c.histories));
+      shows = cut_short work c histories come all;
+      over = stops_for work c.progress goal c.files files OutOfMemory next
+          (unbegun_stops ways (dir_of_job work goal) c.files files opened);
+    })
 
 -- ---- contexts that go on
 
-pub goes_on : (c d e : ContextData) → GoesOn c d → GoesOn d e → GoesOn c e
-goes_on c d e h k =
+pub goes_on : (work : WorkData) (c d e : ContextData) → GoesOn work c d → GoesOn work d e
+    → GoesOn work c e
+goes_on work c d e h k =
     record {
       actions = k.actions ∙ h.actions;
       more = h.more ++ k.more;
       all = k.all ∙ ap (λ hs. hs ++ k.more) h.all ∙ append_assoc c.histories h.more k.more;
+      come = gone.come;
+      left = gone.left;
+      files = k.files ∙ h.files;
+    }
+  where
+    gone : HaveGone work c.progress (h.more ++ k.more) e.progress c.files e.files
+    gone =
+        gone_then work c.progress d.progress e.progress h.more k.more c.files d.files e.files
+        (record { come = h.come; left = h.left }) (record { come = k.come; left = k.left })
+
+pub stays : (work : WorkData) (c : ContextData) → GoesOn work c c
+stays work c =
+    record {
+      actions = refl;
+      more = [];
+      all = sym (append-nil c.histories);
+      come = refl;
+      left = refl;
+      files = refl;
     }
 
-pub stays : (c : ContextData) → GoesOn c c
-stays c = record { actions = refl; more = []; all = sym (append-nil c.histories) }
-
 -- what stands behind more jobs stands behind these too
-stand_behind : (c d : ContextData) (histories : List JobHistory) → GoesOn c d
-    → StandBehind d histories → StandBehind c histories
-stand_behind c d histories on (more, all) = (
+stand_behind : (work : WorkData) (c d : ContextData) (histories : List JobHistory)
+    → GoesOn work c d → StandBehind d histories → StandBehind c histories
+stand_behind work c d histories on (more, all) = (
   on.more ++ more,
   all ∙ ap (λ hs. hs ++ more) on.all ∙ append_assoc c.histories on.more more,
 )
 
 -- and what stops there stops here
-pub stops_behind : (work : WorkData) (c d : ContextData) (why : OrMemory Abort)
-    (histories : List JobHistory) → GoesOn c d → Stops work d why histories
-    → Stops work c why histories
-stops_behind work c d (Fault abort) histories on (stand, shows) = (
-  stand_behind c d histories on stand,
-  subst (λ k. IsAborted work k histories abort) on.actions shows,
-)
-stops_behind work c d OutOfMemory histories on (stand, shows) = (
-  stand_behind c d histories on stand,
-  subst (λ k. IsCutShort work k histories) on.actions shows,
-)
+pub stops_behind : (work : WorkData) (c d : ContextData) (why : OrMemory JobFault)
+    (histories : List JobHistory) (files : FilesState) → GoesOn work c d
+    → Stops work d why histories files → Stops work c why histories files
+stops_behind work c d why histories files on stops =
+    record {
+      behind = stand_behind work c d histories on stops.behind;
+      shows = subst (λ k. ShowsStop work k why histories) on.actions stops.shows;
+      over = subst (λ f. StopsFiles work c.progress.actions f files why) on.files
+          (subst (λ k. StopsFiles work k d.files files why) on.actions stops.over);
+    }
 
 -- what the next action gave it gave behind fewer jobs too
-pub gives_behind : (work : WorkData) (c d after : ContextData) (value : Evaluated) → GoesOn c d
-    → GivesNext work d value after → GivesNext work c value after
+pub gives_behind : (work : WorkData) (c d after : ContextData) (value : Evaluated)
+    → GoesOn work c d → GivesNext work d value after → GivesNext work c value after
 gives_behind work c d after value on gives =
     record {
       evaluates = subst (λ k. Evaluates work (goal_action work (goals.Action k)) value) on.actions
@@ -161,4 +241,12 @@ gives_behind work c d after value on gives =
       more = on.more ++ gives.more;
       all = gives.all ∙ ap (λ hs. hs ++ gives.more) on.all
           ∙ append_assoc c.histories on.more gives.more;
+      come = gone.come;
+      left = gone.left;
     }
+  where
+    gone : HaveGone work c.progress (on.more ++ gives.more) after.progress c.files after.files
+    gone =
+        gone_then work c.progress d.progress after.progress on.more gives.more c.files d.files
+        after.files (record { come = on.come; left = on.left })
+        (record { come = gives.come; left = gives.left })

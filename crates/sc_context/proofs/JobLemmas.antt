@@ -1,6 +1,7 @@
 -- What a job leaves that went somehow.
-use Rattle.std.proofs.Common.{◌≡◌, ◌∙◌, ℕ, zero, suc, ◌<◌, ◌≤◌, false, List, [], ◌∷◌, ◌++◌, Option, Some, None, length, replicate, refl, ap, sym, subst}
+use Rattle.std.proofs.Common.{◌≡◌, ◌∙◌, inl, inr, ℕ, zero, suc, ◌<◌, ◌≤◌, List, [], ◌∷◌, ◌++◌, Option, Some, None, length, replicate, refl, ap, sym, subst}
 use Rattle.sc_base.specs.Lists.{at_or}
+use Rattle.sc_base.specs.Outside.{FilesState}
 use Rattle.sc_base.specs.declared.refusals.OrMemory.{OrMemory}
 use Rattle.sc_base.specs.declared.refusals.OrMemory.TheVariants.{Fault, OutOfMemory}
 use Rattle.sc_compute.specs.declared.results.TaskResult.{TaskResult}
@@ -12,23 +13,31 @@ use Rattle.sc_core.specs.Journals.{Replays}
 use Rattle.sc_core.specs.Openings.{IsOpening}
 use Rattle.sc_core.specs.Sound.{IsSoundCore}
 use Rattle.sc_core.specs.declared.answers.Abort.{Abort}
-use Rattle.sc_core.specs.declared.answers.JobState.TheVariants.{Done}
+use Rattle.sc_core.specs.declared.answers.JobState.{JobState}
+use Rattle.sc_core.specs.declared.answers.JobState.TheVariants as jobs
 use Rattle.sc_core.specs.declared.journals.JobHistory.{JobHistory}
-use Rattle.sc_jobs.specs.JobData.{IsGoal, JobData, goal_node, job_data}
+use Rattle.sc_jobs.specs.JobData.{IsGoal, JobData, goal_node, job_data, saves}
 use Rattle.sc_jobs.specs.declared.goals.Goal.{Goal}
 use Rattle.sc_store.specs.StoreData.{StoreData}
 use Rattle.sc_desk.specs.Begins.{FitsLast, FitsRun, IsPassedFor}
 use Rattle.sc_desk.specs.DeskData.{DeskData, PassedData}
+use Rattle.sc_desk.specs.Files.{dir_of_job}
 use Rattle.sc_desk.specs.Sound.{AreEvident}
 use Rattle.sc_task.specs.Attempts.{AttemptData}
 use Rattle.sc_world.specs.Serial.{IsResting}
 use Rattle.sc_world.specs.WorldData.{WorldData}
-use Rattle.sc_context.specs.Contexts.{ContextData, IsContext, IsEnded, IsReady, Stops, context_data}
-use Rattle.sc_context.specs.Histories.{HasCome, IsHistory, last_end}
-use Rattle.sc_context.specs.Jobs.{AreResultsFor, HasBegunFor, HasNoResults, HasResults}
+use Rattle.sc_context.specs.Aborts.{IsAborted, IsHalted}
+use Rattle.sc_context.specs.Contexts.{ContextData, IsContext, IsEnded, IsReady, ShowsStop, Stops, context_data}
+use Rattle.sc_context.specs.Files.{LeavesFiles, StopsIn}
+use Rattle.sc_context.specs.Histories.{HasCome, IsCutShort, IsHistory, IsUnaborted, last_end}
+use Rattle.sc_context.specs.Jobs.{AreResultsFor, HasBegunFor, HasNoResults, HasResults, IsUnabortedOrSave}
 use Rattle.sc_context.specs.Progress.{IsNext, Progress, actions_behind, behind_job, carried_behind, first_progress, progress}
-use Rattle.sc_context.proofs.AbortLemmas.{AreCauses, is_aborted}
+use Rattle.sc_context.specs.declared.stops.JobFault.{JobFault}
+use Rattle.sc_context.specs.declared.stops.JobFault.TheVariants as faults
+use Rattle.sc_context.proofs.AbortLemmas.{AreCauses, is_aborted, saves_itself}
 use Rattle.sc_context.proofs.ChainLemmas.{ended_come, ended_short, last_more}
+use Rattle.sc_context.proofs.DoneLemmas.{aborted_undone, running_unaborted}
+use Rattle.sc_context.proofs.FilesLemmas.{HaveGone, gone_once, stops_for}
 
 -- a job went somehow behind others, and this goes on
 pub record HasWent (work : WorkData) (p : Progress) (goal : Goal) (h : JobHistory)
@@ -64,7 +73,8 @@ module _ (work : WorkData) (p : Progress) (goal : Goal) (passed : PassedData)
           graph = begun.desk.job.graph;
           cut = subst (λ c. IsCut work c (goal_node work goal) begun.desk.job.graph) same
               begun.begins.cut;
-          opening = subst (IsOpening begun.desk.job.graph work.limits false work.plan p.last)
+          opening = subst
+              (IsOpening begun.desk.job.graph work.limits (saves work goal) work.plan p.last)
               (sym (opening ∙ ap (λ (x : DeskData). x.journal.opening) desk_is))
               begun.begins.opening;
           began = core;
@@ -88,11 +98,12 @@ results_for work own goal end given same has =
 -- a job that is done
 pub ended_is : (work : WorkData) (c : ContextData) (goal : Goal) (h : JobHistory)
     (passed : PassedData) (stores : List StoreData) (histories : List JobHistory)
-    (given : List TaskResult) → HasWent work c.progress goal h passed
-    → histories ≡ c.histories ++ h ∷ [] → h.end.job ≡ Done
+    (given : List TaskResult) (files : FilesState) → HasWent work c.progress goal h passed
+    → histories ≡ c.histories ++ h ∷ [] → h.end.job ≡ jobs.Done
     → IsReady work passed stores (Some h.end) → AreResultsFor work goal given
-    → IsEnded work c goal passed stores histories given
-ended_is work c goal h passed stores histories rows went all done ready given_are =
+    → LeavesFiles work goal h c.files files
+    → IsEnded work c goal passed stores histories given files
+ended_is work c goal h passed stores histories given files went all done ready given_are left =
     record {
       history = h;
       all = all;
@@ -101,65 +112,108 @@ ended_is work c goal h passed stores histories rows went all done ready given_ar
       carried = went.carried;
       ready = ready;
       results = given_are;
+      left = left;
     }
 
 -- one that has no results
-pub stops_job : AreCauses → (work : WorkData) → IsSoundWork work → (c : ContextData) (goal : Goal)
-    (h : JobHistory) (histories : List JobHistory) → IsHistory work c.progress goal h
-    → IsSoundCore h.end → FitsRun work h.end
-    → HasCome work (first_progress work) c.histories c.progress
-    → histories ≡ c.histories ++ h ∷ [] → c.progress.actions < length work.script.actions
-    → IsCarriedFor work.script.nodes c.progress.carried → IsGoal work goal
-    → FitsLast work c.progress.last → (why : OrMemory Abort) → HasNoResults h.end why
-    → Stops work c why histories
-stops_job causes work sound c goal h histories is core fits come all within carried known last
-    (Fault abort) e = (
-      (h ∷ [], all),
-      is_aborted causes work sound c.progress goal h is core fits histories c.histories abort come
-          all within carried known last e,
-    )
-stops_job causes work sound c goal h histories is core fits come all within carried known last
-    OutOfMemory e =
-    ((h ∷ [], all), ended_short work c.progress c.histories histories h goal come is e all)
+module _ (known_causes : AreCauses) (work : WorkData) (sound : IsSoundWork work)
+    (c : ContextData) (goal : Goal) (h : JobHistory) (histories : List JobHistory)
+    (is : IsHistory work c.progress goal h) (core : IsSoundCore h.end)
+    (fits : FitsRun work h.end)
+    (come : HasCome work (first_progress work) c.histories c.progress)
+    (all : histories ≡ c.histories ++ h ∷ [])
+    (within : c.progress.actions < length work.script.actions)
+    (carried : IsCarriedFor work.script.nodes c.progress.carried) (known : IsGoal work goal)
+    (last : FitsLast work c.progress.last) where
+  aborts : (abort : Abort) → h.end.job ≡ jobs.Aborted abort
+      → IsAborted work c.progress.actions histories abort
+  aborts abort e =
+      is_aborted known_causes work sound c.progress goal h is core fits histories c.histories abort
+      come all within carried known last e
+
+  cut_short : IsUnaborted h.end → IsCutShort work c.progress.actions histories
+  cut_short unaborted =
+      ended_short work c.progress c.histories histories h goal come is unaborted all
+
+  halts : IsUnabortedOrSave work goal h.end → IsHalted work c.progress.actions histories
+  halts (inl unaborted) = inl (cut_short unaborted)
+  halts (inr saved) = by h.end.job refl
+    where
+      by : (job : JobState) → h.end.job ≡ job → IsHalted work c.progress.actions histories
+      by (jobs.Aborted abort) e =
+          inr (saves_itself work c.progress goal is.next saved, (abort, aborts abort e))
+      by jobs.Done e =
+          inl (cut_short (λ abort aborted. aborted_undone h.end.job abort aborted e))
+      by jobs.Running e =
+          inl (cut_short (λ abort aborted. running_unaborted h.end.job abort e aborted))
+
+  shows_stop : (why : OrMemory JobFault) → HasNoResults work goal h.end why
+      → ShowsStop work c.progress.actions why histories
+  shows_stop (Fault (faults.Aborted abort)) e = aborts abort e
+  shows_stop (Fault (faults.Exists path)) e = absurd e
+  shows_stop (Fault (faults.Device path)) e = halts e
+  shows_stop OutOfMemory e = halts e
+
+  pub stops_job : (why : OrMemory JobFault) (files : FilesState)
+      → HasNoResults work goal h.end why → StopsIn (dir_of_job work goal) c.files files why
+      → Stops work c why histories files
+  stops_job why files none stops =
+      record {
+        behind = (h ∷ [], all);
+        shows = shows_stop why none;
+        over = stops_for work c.progress goal c.files files why is.next stops;
+      }
 
 -- ---- the context behind a job
 
--- behind a job that is done stands a context
-pub context_behind : (work : WorkData) (c : ContextData) (goal : Goal) (passed after : PassedData)
+-- A job that is done, and what goes on behind it.
+module _ (work : WorkData) (c : ContextData) (goal : Goal) (passed after : PassedData)
     (stores : List StoreData) (histories : List JobHistory) (given : List TaskResult)
-    (actions : ℕ) → HasCome work (first_progress work) c.histories c.progress
-    → (ended : IsEnded work c goal passed stores histories given)
-    → after.carried ≡ carried_behind work goal ended.is.graph c.progress.carried
-    → actions ≡ actions_behind goal c.progress.actions → actions ≤ length work.script.actions
-    → IsPassedFor work after → length after.carried.bounds ≡ length work.script.nodes
-    → IsContext work after stores (context_data actions after.carried histories)
-context_behind work c goal passed after stores histories given actions come ended carried many
-    within serves places =
-    record {
-      come = subst (λ hs. HasCome work (first_progress work) hs
-          (progress actions after.carried (last_end histories))) (sym ended.all)
-          (subst (HasCome work (first_progress work) (c.histories ++ ended.history ∷ []))
-          (sym progress_is)
-          (ended_come work c.progress c.histories ended.history goal come ended.is ended.done));
-      within = within;
-      ready = subst (IsReady work after stores) (sym last_is) (record {
-        passed_on = serves;
-        fits = ended.ready.fits;
-        stores_are = ended.ready.stores_are;
-      });
-      places = places;
-    }
-  where
-    last_is : last_end histories ≡ Some ended.history.end
-    last_is = ap last_end ended.all ∙ last_more c.histories ended.history
+    (actions : ℕ) (files : FilesState)
+    (come : HasCome work (first_progress work) c.histories c.progress)
+    (ended : IsEnded work c goal passed stores histories given files)
+    (carried : after.carried ≡ carried_behind work goal ended.is.graph c.progress.carried)
+    (many : actions ≡ actions_behind goal c.progress.actions) where
+  abbrev behind : ContextData
+  behind = context_data actions after.carried histories files
 
-    progress_is : progress actions after.carried (last_end histories)
-        ≡ behind_job work c.progress goal ended.is.graph ended.history.end
-    progress_is =
-        ap (λ l. progress actions after.carried l) last_is
-        ∙ ap (λ k. progress actions k (Some ended.history.end)) carried
-        ∙ ap (λ n. progress n (carried_behind work goal ended.is.graph c.progress.carried)
-        (Some ended.history.end)) many
+  last_is : last_end histories ≡ Some ended.history.end
+  last_is = ap last_end ended.all ∙ last_more c.histories ended.history
+
+  progress_is : progress actions after.carried (last_end histories)
+      ≡ behind_job work c.progress goal ended.is.graph ended.history.end
+  progress_is =
+      ap (λ l. progress actions after.carried l) last_is
+      ∙ ap (λ k. progress actions k (Some ended.history.end)) carried
+      ∙ ap (λ n. progress n (carried_behind work goal ended.is.graph c.progress.carried)
+      (Some ended.history.end)) many
+
+  -- a context stands behind it
+  pub context_behind : actions ≤ length work.script.actions → IsPassedFor work after
+      → length after.carried.bounds ≡ length work.script.nodes
+      → IsContext work after stores behind
+  context_behind within serves places =
+      record {
+        come = subst (λ hs. HasCome work (first_progress work) hs
+            (progress actions after.carried (last_end histories))) (sym ended.all)
+            (subst (HasCome work (first_progress work) (c.histories ++ ended.history ∷ []))
+            (sym progress_is)
+            (ended_come work c.progress c.histories ended.history goal come ended.is ended.done));
+        within = within;
+        ready = subst (IsReady work after stores) (sym last_is) (record {
+          passed_on = serves;
+          fits = ended.ready.fits;
+          stores_are = ended.ready.stores_are;
+        });
+        places = places;
+      }
+
+  -- and it left the files so
+  pub gone_behind : HaveGone work c.progress (ended.history ∷ []) behind.progress c.files files
+  gone_behind =
+      gone_once work c.progress behind.progress ended.history c.files files
+      (record { goal = goal; is = ended.is; done = ended.done; behind = progress_is })
+      ended.left
 
 -- ---- worlds that begin
 

@@ -19,6 +19,7 @@ use Rattle.sc_dag.specs.Openings.{sized_by, sized_for_all}
 use Rattle.sc_dag.specs.Submission.{IsSubmitted}
 use Rattle.sc_core.specs.CoreData.{CoreData}
 use Rattle.sc_core.specs.Openings.{IsOpening, tracker_behind}
+use Rattle.sc_jobs.specs.JobData.{saves}
 use Rattle.sc_jobs.specs.declared.goals.Goal.{Goal}
 use Rattle.sc_store.specs.StoreData.{StoreData}
 use Rattle.sc_desk.specs.Begins.{Begins}
@@ -142,8 +143,8 @@ ready_opening work stores passed last goal desk ready begins =
       many = ready.many;
       own = ready.own;
       tied = subst (AreTied stores)
-          (sym (opened_tracker desk.job.graph work.limits false work.plan last desk.journal.opening
-          begins.opening))
+          (sym (opened_tracker desk.job.graph work.limits (saves work goal) work.plan last
+          desk.journal.opening begins.opening))
           (sized_tied stores (tracker_behind last work.limits) desk.job.graph ready.tied);
       due = λ exec. subst (λ told. generation_at stores exec ≤ wipes_due work told exec)
           (sym begins.opening.told) (ready.due exec);

@@ -2,17 +2,17 @@
 use Rattle.std.proofs.Common.{◌≡◌, ◌∙◌, ℕ, zero, suc, ◌+◌, ◌≤◌, List, [], ◌∷◌, ◌++◌, Option, Some, None, IfSome, length, map, replicate, slice_get, refl, ap, sym, subst, arith}
 use Rattle.std.proofs.lemmas.List.{length-map, length-replicate}
 use Rattle.sc_base.specs.Lists.{numbers_below, numbers_from}
+use Rattle.sc_base.specs.Outside.{FilesState}
 use Rattle.sc_lineage.specs.ScriptData.{WorkData}
 use Rattle.sc_lineage.proofs.PlaceLemmas.{length-numbers_below}
 use Rattle.sc_jobs.proofs.KnownLemmas.{known-more}
-use Rattle.sc_stagecut.specs.Carrying.{CarriedData, carried_data}
+use Rattle.sc_stagecut.specs.Carrying.{CarriedData}
 use Rattle.sc_tracker.specs.Trust.{trust_at, untold}
 use Rattle.sc_store.specs.StoreData.{StoreData}
-use Rattle.sc_desk.specs.Begins.{IsPassedFor}
 use Rattle.sc_desk.specs.DeskData.{PassedData}
 use Rattle.sc_desk.specs.Dues.{wipes_due}
 use Rattle.sc_world.specs.Ties.{generation_at, generation_in}
-use Rattle.sc_context.specs.Contexts.{AreReadyBehind, IsContext, context_data, new_context}
+use Rattle.sc_context.specs.Contexts.{AreReadyBehind, IsContext, IsReady, context_data, new_context}
 use Rattle.sc_context.specs.Progress.{first_progress, progress}
 use Rattle.sc_context.specs.Starts.{new_store, new_stores}
 
@@ -70,28 +70,28 @@ fresh_ready work =
 
 -- the first context
 pub first_progress_is : (work : WorkData) (passed : PassedData)
-    → passed.carried ≡ carried_data [] 0 (replicate (length work.script.nodes) None)
+    → passed.carried ≡ (first_progress work).carried
     → progress 0 passed.carried None ≡ first_progress work
 first_progress_is work passed is = ap (λ c. progress 0 c None) is
 
-pub first_context : (work : WorkData) (passed : PassedData)
-    → passed.carried ≡ carried_data [] 0 (replicate (length work.script.nodes) None)
-    → IsPassedFor work passed
-    → IsContext work passed (new_stores work) (context_data 0 passed.carried [])
-first_context work passed is passed_for =
+pub first_context : (work : WorkData) (passed : PassedData) (stores : List StoreData)
+    (files : FilesState) → passed.carried ≡ (first_progress work).carried
+    → IsReady work passed stores None
+    → IsContext work passed stores (context_data 0 passed.carried [] files)
+first_context work passed stores files is ready =
     record {
       come = first_progress_is work passed is;
       within = omega arith;
-      ready = record { passed_on = passed_for; fits = tt; stores_are = fresh_ready work };
+      ready = ready;
       places = ap (λ (c : CarriedData). length c.bounds) is
           ∙ length-replicate (length work.script.nodes) None;
     }
 
 -- its view
-pub first_view : (work : WorkData) (passed : PassedData)
-    → passed.carried ≡ carried_data [] 0 (replicate (length work.script.nodes) None)
-    → context_data 0 passed.carried [] ≡ new_context work
-first_view work passed is = ap (λ c. context_data 0 c []) is
+pub first_view : (work : WorkData) (passed : PassedData) (files : FilesState)
+    → passed.carried ≡ (first_progress work).carried
+    → context_data 0 passed.carried [] files ≡ new_context work files
+first_view work passed files is = ap (λ c. context_data 0 c [] files) is
 
 -- one store more
 pub stores_more : (work : WorkData) (k : ℕ) (old new : List StoreData) (s : StoreData)

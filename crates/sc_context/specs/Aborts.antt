@@ -16,7 +16,7 @@ use Rattle.sc_history.specs.Tellings.{tellings}
 use Rattle.sc_jobs.specs.JobData.{goal_action, saves}
 use Rattle.sc_jobs.specs.declared.goals.Goal.{Goal}
 use Rattle.sc_jobs.specs.declared.goals.Goal.TheVariants as goals
-use Rattle.sc_context.specs.Histories.{HasGone}
+use Rattle.sc_context.specs.Histories.{HasGone, IsCutShort}
 use Rattle.sc_context.specs.Progress.{Progress}
 
 -- What a job's history shows of an abort: as many failed attempts of the partition as are allowed;
@@ -57,3 +57,11 @@ pub record IsAborted (work : WorkData) (k : ℕ) (histories : List JobHistory) (
   pub aborted : history.end.job ≡ jobs.Aborted abort
   pub shows : ShowsAbort work history gone.is.replays abort
   pub unplanned : work.plan ≡ [] → IsUnplanned work k abort
+
+-- A job for this action, or for bounds that it needs, went no further without being aborted; or it
+-- saves, was aborted, and its files stood in the way then.
+abbrev pub IsHalted : WorkData → ℕ → List JobHistory → Type 0
+IsHalted work k histories =
+    IsCutShort work k histories
+    ⊎ ((saves work (goals.Action k) ≡ true)
+    × ((abort : Abort) × IsAborted work k histories abort))

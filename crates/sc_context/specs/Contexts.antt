@@ -1,5 +1,6 @@
 -- A context: the jobs of a run so far, and what goes on to the next one.
 use Rattle.std.specs.Prelude.{ℕ, ◌+◌, ◌≡◌, ◌≤◌, List, [], ◌∷◌, ◌++◌, Option, Some, length}
+use Rattle.sc_base.specs.Outside.{FilesState}
 use Rattle.sc_base.specs.declared.refusals.OrMemory.{OrMemory}
 use Rattle.sc_base.specs.declared.refusals.OrMemory.TheVariants.{Fault, OutOfMemory}
 use Rattle.sc_compute.specs.Evaluations.{IsOfSave}
@@ -11,7 +12,6 @@ use Rattle.sc_compute.specs.declared.evaluation.Evaluated.TheVariants as evaluat
 use Rattle.sc_stagecut.specs.Carrying.{CarriedData, after_job}
 use Rattle.sc_core.specs.CoreData.{CoreData}
 use Rattle.sc_core.specs.Openings.{told_before, tracker_behind}
-use Rattle.sc_core.specs.declared.answers.Abort.{Abort}
 use Rattle.sc_core.specs.declared.answers.JobState.TheVariants.{Done}
 use Rattle.sc_core.specs.declared.journals.JobHistory.{JobHistory}
 use Rattle.sc_jobs.specs.JobData.{goal_action}
@@ -21,10 +21,13 @@ use Rattle.sc_store.specs.StoreData.{StoreData}
 use Rattle.sc_desk.specs.Begins.{FitsLast, IsPassedFor}
 use Rattle.sc_desk.specs.DeskData.{PassedData}
 use Rattle.sc_world.specs.Runs.{AreReady}
-use Rattle.sc_context.specs.Aborts.{IsAborted}
-use Rattle.sc_context.specs.Histories.{HasCome, IsCutShort, IsHistory, last_end}
+use Rattle.sc_context.specs.Aborts.{IsAborted, IsHalted}
+use Rattle.sc_context.specs.Files.{HaveLeft, LeavesFiles, StopsFiles}
+use Rattle.sc_context.specs.Histories.{HasCome, HasDone, IsHistory, last_end}
 use Rattle.sc_context.specs.Jobs.{AreResultsFor}
 use Rattle.sc_context.specs.Progress.{Progress, first_progress, progress}
+use Rattle.sc_context.specs.declared.stops.JobFault.{JobFault}
+use Rattle.sc_context.specs.declared.stops.JobFault.TheVariants as faults
 
 -- a context
 pub record ContextData : Type 0 where
@@ -32,14 +35,21 @@ pub record ContextData : Type 0 where
   pub progress : Progress
   -- how they went
   pub histories : List JobHistory
+  -- the files that saves write to
+  pub files : FilesState
 
-abbrev pub context_data : ℕ → CarriedData → List JobHistory → ContextData
-context_data actions carried histories =
-    record { progress = progress actions carried (last_end histories); histories = histories }
+abbrev pub context_data : ℕ → CarriedData → List JobHistory → FilesState → ContextData
+context_data actions carried histories files =
+    record {
+      progress = progress actions carried (last_end histories);
+      histories = histories;
+      files = files;
+    }
 
 -- a context in which no job has run
-abbrev pub new_context : WorkData → ContextData
-new_context work = record { progress = first_progress work; histories = [] }
+abbrev pub new_context : WorkData → FilesState → ContextData
+new_context work files =
+    record { progress = first_progress work; histories = []; files = files }
 
 -- the stores are ready for the job behind a core or none
 abbrev pub AreReadyBehind : WorkData → List StoreData → Option CoreData → Type 0
@@ -63,10 +73,10 @@ pub record IsContext (work : WorkData) (passed : PassedData) (stores : List Stor
   pub places : length c.progress.carried.bounds ≡ length work.script.nodes
 
 -- the job that came next is done: its history stands behind the others, what goes on serves the
--- next job, and these are its results
+-- next job, these are its results, and the files are as it left them
 pub record IsEnded (work : WorkData) (c : ContextData) (goal : Goal) (passed : PassedData)
     (stores : List StoreData) (histories : List JobHistory) (given : List TaskResult)
-    : Type 0 where
+    (files : FilesState) : Type 0 where
   pub history : JobHistory
   pub all : histories ≡ c.histories ++ history ∷ []
   pub is : IsHistory work c.progress goal history
@@ -74,6 +84,7 @@ pub record IsEnded (work : WorkData) (c : ContextData) (goal : Goal) (passed : P
   pub carried : passed.carried ≡ after_job c.progress.carried is.graph
   pub ready : IsReady work passed stores (Some history.end)
   pub results : AreResultsFor work goal given
+  pub left : LeavesFiles work goal history c.files files
 
 -- an action gives this, by the sequential meaning
 abbrev pub Evaluates : WorkData → ActionData → Evaluated → Type 0
@@ -89,15 +100,26 @@ pub record GivesNext (work : WorkData) (c : ContextData) (value : Evaluated) (af
   pub one_more : after.progress.actions ≡ c.progress.actions + 1
   pub more : List JobHistory
   pub all : after.histories ≡ c.histories ++ more
+  -- what the jobs left of the files that were done since
+  pub come : HasCome work c.progress more after.progress
+  pub left : HaveLeft work c.progress more after.progress come c.files after.files
 
 -- the histories so far stand, perhaps with more behind them
 abbrev pub StandBehind : ContextData → List JobHistory → Type 0
 StandBehind c histories = (more : List JobHistory) × (histories ≡ c.histories ++ more)
 
--- The next action gave no value, and the histories show why: a job for it was aborted, or memory
--- ran out.
-abbrev pub Stops : WorkData → ContextData → OrMemory Abort → List JobHistory → Type 0
-Stops work c (Fault abort) histories =
-    StandBehind c histories × IsAborted work c.progress.actions histories abort
-Stops work c OutOfMemory histories =
-    StandBehind c histories × IsCutShort work c.progress.actions histories
+-- what the histories show where a job for an action came to no end: that it was aborted, or that
+-- it went no further; where its directory was there it never began
+abbrev pub ShowsStop : WorkData → ℕ → OrMemory JobFault → List JobHistory → Type 0
+ShowsStop work k (Fault (faults.Aborted abort)) histories = IsAborted work k histories abort
+ShowsStop work k (Fault (faults.Exists path)) histories = HasDone work histories k
+ShowsStop work k (Fault (faults.Device path)) histories = IsHalted work k histories
+ShowsStop work k OutOfMemory histories = IsHalted work k histories
+
+-- The next action gave no value, and the histories show why: a job for it was aborted, or its files
+-- stood in the way, or memory ran out.
+pub record Stops (work : WorkData) (c : ContextData) (why : OrMemory JobFault)
+    (histories : List JobHistory) (files : FilesState) : Type 0 where
+  pub behind : StandBehind c histories
+  pub shows : ShowsStop work c.progress.actions why histories
+  pub over : StopsFiles work c.progress.actions c.files files why

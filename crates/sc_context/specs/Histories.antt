@@ -1,5 +1,5 @@
 -- How the jobs of a run went, one behind the other.
-use Rattle.std.specs.Prelude.{ℕ, ◌-◌, ◌≡◌, ◌≢◌, ◌⊎◌, false, List, [], ◌∷◌, ◌++◌, Option, length, slice_get}
+use Rattle.std.specs.Prelude.{ℕ, ◌-◌, ◌≡◌, ◌≢◌, ◌⊎◌, List, [], ◌∷◌, ◌++◌, Option, length, slice_get}
 use Rattle.std.specs.Option.{option_map}
 use Rattle.sc_ids.specs.Graphs.{StageData}
 use Rattle.sc_lineage.specs.ScriptData.{WorkData}
@@ -11,7 +11,7 @@ use Rattle.sc_core.specs.Sound.{IsSoundCore}
 use Rattle.sc_core.specs.declared.answers.Abort.{Abort}
 use Rattle.sc_core.specs.declared.answers.JobState.TheVariants as jobs
 use Rattle.sc_core.specs.declared.journals.JobHistory.{JobHistory}
-use Rattle.sc_jobs.specs.JobData.{goal_node, job_data}
+use Rattle.sc_jobs.specs.JobData.{goal_node, job_data, saves}
 use Rattle.sc_jobs.specs.declared.goals.Goal.{Goal}
 use Rattle.sc_desk.specs.Sound.{AreEvident}
 use Rattle.sc_context.specs.Progress.{IsNext, Progress, behind_job, first_progress}
@@ -23,7 +23,7 @@ pub record IsHistory (work : WorkData) (p : Progress) (goal : Goal) (h : JobHist
   pub next : IsNext work p goal
   pub graph : List StageData
   pub cut : IsCut work p.carried (goal_node work goal) graph
-  pub opening : IsOpening graph work.limits false work.plan p.last h.opening
+  pub opening : IsOpening graph work.limits (saves work goal) work.plan p.last h.opening
   pub began : IsSoundCore h.opening
   pub replays : Replays h.opening h.entries.items h.end
   pub evidence : AreEvident work (job_data goal graph) h.opening h.entries.items h.end replays

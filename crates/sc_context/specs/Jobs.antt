@@ -1,14 +1,13 @@
 -- How one job of a run begins and ends.
-use Rattle.std.specs.Prelude.{◌≡◌, List, Option}
+use Rattle.std.specs.Prelude.{◌≡◌, ◌⊎◌, true, List, Option}
 use Rattle.sc_base.specs.declared.refusals.OrMemory.{OrMemory}
 use Rattle.sc_base.specs.declared.refusals.OrMemory.TheVariants.{Fault, OutOfMemory}
 use Rattle.sc_lineage.specs.ScriptData.{WorkData}
 use Rattle.sc_compute.specs.Results.{AreResultsOf}
 use Rattle.sc_compute.specs.declared.results.TaskResult.{TaskResult}
 use Rattle.sc_core.specs.CoreData.{CoreData}
-use Rattle.sc_core.specs.declared.answers.Abort.{Abort}
 use Rattle.sc_core.specs.declared.answers.JobState.TheVariants as jobs
-use Rattle.sc_jobs.specs.JobData.{goal_action}
+use Rattle.sc_jobs.specs.JobData.{goal_action, saves}
 use Rattle.sc_jobs.specs.declared.goals.Goal.{Goal}
 use Rattle.sc_store.specs.StoreData.{StoreData}
 use Rattle.sc_desk.specs.Begins.{Begins}
@@ -16,6 +15,8 @@ use Rattle.sc_desk.specs.DeskData.{DeskData, PassedData}
 use Rattle.sc_world.specs.Runs.{idle_world}
 use Rattle.sc_world.specs.WorldData.{WorldData}
 use Rattle.sc_context.specs.Histories.{IsUnaborted}
+use Rattle.sc_context.specs.declared.stops.JobFault.{JobFault}
+use Rattle.sc_context.specs.declared.stops.JobFault.TheVariants as faults
 
 -- the world of a job that begins behind what goes on and another job or none, over these stores
 pub record HasBegunFor (work : WorkData) (passed : PassedData) (stores : List StoreData)
@@ -34,7 +35,14 @@ pub record HasResults (work : WorkData) (goal : Goal) (end : CoreData) (results 
   pub done : end.job ≡ jobs.Done
   pub all : AreResultsFor work goal results
 
--- it has none, since it was aborted or memory ran out
-abbrev pub HasNoResults : CoreData → OrMemory Abort → Type 0
-HasNoResults end (Fault abort) = end.job ≡ jobs.Aborted abort
-HasNoResults end OutOfMemory = IsUnaborted end
+-- it wasn't aborted, unless it saves
+abbrev pub IsUnabortedOrSave : WorkData → Goal → CoreData → Type 0
+IsUnabortedOrSave work goal end = IsUnaborted end ⊎ (saves work goal ≡ true)
+
+-- It has none, since it was aborted, or memory ran out, or a call on its files failed; in a save
+-- these two may come behind an abort.
+abbrev pub HasNoResults : WorkData → Goal → CoreData → OrMemory JobFault → Type 0
+HasNoResults work goal end (Fault (faults.Aborted abort)) = end.job ≡ jobs.Aborted abort
+HasNoResults work goal end (Fault (faults.Exists path)) = ⊥
+HasNoResults work goal end (Fault (faults.Device path)) = IsUnabortedOrSave work goal end
+HasNoResults work goal end OutOfMemory = IsUnabortedOrSave work goal end

@@ -4,5 +4,7 @@ pub mod Aborts
 pub mod Starts
 pub mod Results
 pub mod Jobs
+pub mod Files
 pub mod Contexts
 pub mod Bounding
+pub mod Outputs

@@ -13,6 +13,7 @@ use crate::context::Context;
 use crate::jobs::Ended;
 use crate::stops::Stopped;
 use sc_compute::{Evaluated, TaskResult, settle};
+use sc_files::Files;
 use sc_jobs::Goal;
 use sc_laws::outcome_law;
 use sc_work::{Naming, SharedWork};
@@ -20,36 +21,43 @@ use std::alloc::{AllocError, Global};
 
 /// What an action gave, and the context behind its jobs.
 #[derive(Drop)]
-pub struct Given<W: Naming> {
+pub struct Given<W: Naming, F: Files> {
     /// The context.
-    pub context: Context<W>,
+    pub context: Context<W, F>,
     /// What the action gave: its text, a saved directory, or the fault of the driver.
     pub value: Evaluated,
 }
 
-impl<W: Naming> Context<W> {
+impl<W: Naming, F: Files> Context<W, F> {
     /// Runs the next action: first the jobs that find the bounds which it needs and that weren't
     /// found yet, and then its own.
     ///
+    /// Where it saves, its directory is made before its own job begins, and the parts of the
+    /// winners are moved there once that is done.
+    ///
     /// # Errors
     ///
-    /// The abort of one of these jobs, which its history shows, or want of memory.
-    pub fn run_action(self, alloc: Global) -> Result<Given<W>, Stopped>
+    /// The abort of one of these jobs, which its history shows; a directory that is there already;
+    /// a call on the files of a save that failed at its beginning or end; or want of memory. The
+    /// files are handed back.
+    pub fn run_action(self, alloc: Global) -> Result<Given<W, F>, Stopped<F>>
         requires within { self.progress.actions < length W.work.script.actions }
         ensures given { IfOk result (λ g. GivesNext W.work self g.value g.context) }
-        ensures stops { IfErr result (λ s. Stops W.work self s.why s.histories.items) }
+        ensures stops { IfErr result (λ s. Stops W.work self s.why s.histories.items
+            (F.state s.files)) }
     {
         let context = self.find_all_bounds(alloc)?;
         context.run_own_job(alloc)
     }
 
     /// Runs the own job of the next action, whose bounds were all found.
-    fn run_own_job(self, alloc: Global) -> Result<Given<W>, Stopped>
+    fn run_own_job(self, alloc: Global) -> Result<Given<W, F>, Stopped<F>>
         requires within { self.progress.actions < length W.work.script.actions }
         requires found { HasBounds W.work.script.nodes self.progress.carried
             (next_node W.work self.progress) }
         ensures given { IfOk result (λ g. GivesNext W.work self g.value g.context) }
-        ensures stops { IfErr result (λ s. Stops W.work self s.why s.histories.items) }
+        ensures stops { IfErr result (λ s. Stops W.work self s.why s.histories.items
+            (F.state s.files)) }
     {
         self.is_sound();
         let number = self.actions;
@@ -63,10 +71,11 @@ impl<W: Naming> Context<W> {
             stores,
             histories,
             results,
+            files,
             ..
         } = ended;
         let Ok(value) = value_of(alloc, &work, number, results) else {
-            return Err(Stopped::without_memory(histories));
+            return Err(Stopped::without_memory(histories, files));
         };
         let context = Context {
             work,
@@ -74,6 +83,7 @@ impl<W: Naming> Context<W> {
             stores,
             histories,
             actions: behind,
+            files,
         };
         Ok(Given { context, value })
     }

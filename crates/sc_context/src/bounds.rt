@@ -17,6 +17,7 @@ use crate::context::Context;
 use crate::jobs::Ended;
 use crate::stops::Stopped;
 use sc_compute::bounds_of_results;
+use sc_files::Files;
 use sc_jobs::Goal;
 use sc_lineage::{Action, Node, NodeId};
 use sc_part::Bounds;
@@ -24,12 +25,13 @@ use sc_stagecut::unbounded_sort;
 use sc_work::Naming;
 use std::alloc::{AllocError, Global};
 
-impl<W: Naming> Context<W> {
+impl<W: Naming, F: Files> Context<W, F> {
     /// Runs the jobs that find the bounds which the next action needs and that weren't found yet.
-    pub(crate) fn find_all_bounds(self, alloc: Global) -> Result<Context<W>, Stopped>
+    pub(crate) fn find_all_bounds(self, alloc: Global) -> Result<Context<W, F>, Stopped<F>>
         requires within { self.progress.actions < length W.work.script.actions }
         ensures finds { IfOk result (FindsAll W.work self) }
-        ensures stops { IfErr result (λ s. Stops W.work self s.why s.histories.items) }
+        ensures stops { IfErr result (λ s. Stops W.work self s.why s.histories.items
+            (F.state s.files)) }
     {
         let mut context = self;
         loop {
@@ -58,17 +60,18 @@ impl<W: Naming> Context<W> {
     }
 
     /// Runs the job that finds the bounds of a sort, which comes next.
-    fn find_bounds(self, alloc: Global, sort: NodeId) -> Result<Context<W>, Stopped>
+    fn find_bounds(self, alloc: Global, sort: NodeId) -> Result<Context<W, F>, Stopped<F>>
         requires within { self.progress.actions < length W.work.script.actions }
         requires next { IsFirstLacking W.work.script.nodes self.progress.carried
             (next_node W.work self.progress) (Some sort) }
         ensures finds { IfOk result (Finds W.work self sort) }
-        ensures stops { IfErr result (λ s. Stops W.work self s.why s.histories.items) }
+        ensures stops { IfErr result (λ s. Stops W.work self s.why s.histories.items
+            (F.state s.files)) }
     {
         self.is_sound();
         let ended = self.run_job(alloc, Goal::Bounds { sort })?;
         let Ok(bounds) = ended.bounds(alloc, sort) else {
-            return Err(Stopped::without_memory(ended.histories));
+            return Err(Stopped::without_memory(ended.histories, ended.files));
         };
         let Ended {
             work,
@@ -76,6 +79,7 @@ impl<W: Naming> Context<W> {
             stores,
             histories,
             actions,
+            files,
             ..
         } = ended;
         passed.carried.set_bounds(sort, bounds);
@@ -85,11 +89,12 @@ impl<W: Naming> Context<W> {
             stores,
             histories,
             actions,
+            files,
         })
     }
 }
 
-impl<W: Naming> Ended<W> {
+impl<W: Naming, F: Files> Ended<W, F> {
     /// The bounds of a sort, whose parent's rows its results are.
     fn bounds(&self, alloc: Global, sort: NodeId) -> Result<Bounds, AllocError>
         requires sort { IsGoal W.work (goals.Bounds sort) }

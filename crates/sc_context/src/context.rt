@@ -1,8 +1,8 @@
 //! The context.
 #![tactic(auto)]
 
-ghost use Rattle.std.specs.Prelude.{◌≡◌, ◌≤◌, IfOk, length};
-ghost use Rattle.sc_context.specs.Contexts.{new_context};
+ghost use Rattle.std.specs.Prelude.{◌≡◌, ◌≤◌, IfErr, IfOk, None, length};
+ghost use Rattle.sc_context.specs.Contexts.{IsReady, new_context};
 ghost use Rattle.sc_context.specs.Histories.{HasCome};
 ghost use Rattle.sc_context.specs.Progress.{first_progress};
 ghost use Rattle.sc_desk.specs.Begins.{FitsLast};
@@ -11,48 +11,61 @@ ghost use Rattle.sc_stagecut.specs.Carrying.{IsCarriedFor};
 use crate::starts::new_stores;
 use sc_core::JobHistory;
 use sc_desk::Passed;
+use sc_files::Files;
 use sc_store::Store;
 use sc_work::{Naming, SharedWork};
-use std::alloc::{AllocError, Global};
+use std::alloc::{AllocError, AllocFailed, Global};
 use std::marker::Model;
 
-/// The jobs of a run so far, and what goes on to the next one.
+/// The jobs of a run so far, what goes on to the next one, and the files that saves write to.
 #[derive(Drop)]
-pub struct Context<W: Naming> {
+pub struct Context<W: Naming, F: Files> {
     pub(crate) work: SharedWork<W>,
     pub(crate) passed: Passed,
     pub(crate) stores: Vec<Store<W>>,
     pub(crate) histories: Vec<JobHistory>,
     pub(crate) actions: u32,
+    pub(crate) files: F,
 }
 
-impl<W: Naming> Model for Context<W> {
+impl<W: Naming, F: Files> Model for Context<W, F> {
+    ghost use Rattle.std.specs.Coded.{codes};
+    ghost use Rattle.sc_base.specs.Outside.{files_state_code};
     ghost use Rattle.sc_context.specs.Contexts.{ContextData, IsContext, context_data};
 
     ghost Value = { ContextData };
 
-    ghost view = { λ c. context_data c.actions c.passed.carried c.histories.items };
+    ghost coded = { Prim.hlevel (codes, files_state_code) };
+
+    ghost view = { λ c.
+        context_data c.actions c.passed.carried c.histories.items (F.state c.files) };
 
     ghost invariant = { λ c. IsContext W.work c.passed c.stores.items
-        (context_data c.actions c.passed.carried c.histories.items) };
+        (context_data c.actions c.passed.carried c.histories.items (F.state c.files)) };
 }
 
-impl<W: Naming> Context<W> {
-    /// A context in which no job has run: the executors have empty stores.
-    pub fn new(alloc: Global, work: SharedWork<W>) -> Result<Context<W>, AllocError>
-        ensures { IfOk result (λ c. c ≡ new_context W.work) }
+impl<W: Naming, F: Files> Context<W, F> {
+    /// A context in which no job has run: the executors have empty stores. Where memory is wanting
+    /// the files are handed back.
+    pub fn new(
+        alloc: Global,
+        work: SharedWork<W>,
+        files: F,
+    ) -> Result<Context<W, F>, AllocFailed<F>>
+        ensures new { IfOk result (λ c. c ≡ new_context W.work (F.state files)) }
+        ensures back { IfErr result (λ failed. F.state failed.value ≡ F.state files) }
     {
-        work.is_named();
-        work.get().is_sound();
-        let passed = Passed::first(alloc, work.get())?;
-        let stores = new_stores(alloc, &work)?;
-        Ok(Context {
-            work,
-            passed,
-            stores,
-            histories: Vec::new(alloc),
-            actions: 0,
-        })
+        match make_starts(alloc, &work) {
+            Ok(starts) => Ok(Context {
+                work,
+                passed: starts.passed,
+                stores: starts.stores,
+                histories: Vec::new(alloc),
+                actions: 0,
+                files,
+            }),
+            Err(_) => Err(AllocFailed { value: files }),
+        }
     }
 
     /// The work.
@@ -84,10 +97,30 @@ impl<W: Naming> Context<W> {
         let _ = &self.histories;
     }
 
-    /// How the jobs went.
-    pub fn into_histories(self) -> Vec<JobHistory>
-        ensures { result.items ≡ self.histories }
+    /// How the jobs went, and the files.
+    pub fn into_parts(self) -> (Vec<JobHistory>, F)
+        ensures histories { result.0.items ≡ self.histories }
+        ensures files { F.state result.1 ≡ self.files }
     {
-        self.histories
+        (self.histories, self.files)
     }
+}
+
+/// What a run begins with: what goes on to its first job, and the stores.
+#[derive(Drop)]
+struct Starts<W: Naming> {
+    passed: Passed,
+    stores: Vec<Store<W>>,
+}
+
+/// What the jobs of a work begin with.
+fn make_starts<W: Naming>(alloc: Global, work: &SharedWork<W>) -> Result<Starts<W>, AllocError>
+    ensures carried { IfOk result (λ s. s.passed.carried ≡ (first_progress W.work).carried) }
+    ensures ready { IfOk result (λ s. IsReady W.work s.passed s.stores.items None) }
+{
+    work.is_named();
+    work.get().is_sound();
+    let passed = Passed::first(alloc, work.get())?;
+    let stores = new_stores(alloc, work)?;
+    Ok(Starts { passed, stores })
 }

@@ -5,11 +5,13 @@
 //! behind what the ones before left: stages, bounds, registered map outputs, the stores of the
 //! executors, and how many reports were told. Each leaves its history. An action gives what the
 //! sequential meaning says, whatever the fault plan does, or a job is aborted, and then the last
-//! history shows why.
+//! history shows why. A job that saves has its files opened before it begins, and committed or
+//! aborted at its end.
 //!
 //! `specs/Progress.antt` says which job comes next, `specs/Histories.antt` how jobs follow one
-//! another, `specs/Aborts.antt` what an abort shows, and `specs/Contexts.antt` what an action
-//! answers. One thread runs the jobs (`World::serial`); nothing is written here.
+//! another, `specs/Files.antt` what they leave of the files, `specs/Aborts.antt` what an abort
+//! shows, and `specs/Contexts.antt` what an action answers. One thread runs the jobs
+//! (`World::serial`); no text is written here.
 //!
 //! After `SparkContext.runJob` of Spark.
 #![tactic(auto)]
@@ -19,6 +21,7 @@ mod bounds;
 mod context;
 mod jobs;
 mod lasts;
+mod outputs;
 mod results;
 mod starts;
 mod stops;
@@ -26,4 +29,4 @@ mod went;
 
 pub use actions::Given;
 pub use context::Context;
-pub use stops::Stopped;
+pub use stops::{JobFault, Stopped};

@@ -7,36 +7,54 @@ ghost use Rattle.sc_base.specs.declared.refusals.OrMemory.TheVariants.{OutOfMemo
 use crate::context::Context;
 use sc_base::OrMemory;
 use sc_core::{Abort, JobHistory};
+use sc_files::Files;
+use sc_value::Name;
 use sc_work::Naming;
 
-/// Why a context ran no further, and how its jobs went.
+/// Why the job of an action came to no end.
 #[derive(Drop)]
-pub struct Stopped {
-    /// The abort of the last job, or want of memory.
-    pub why: OrMemory<Abort>,
-    /// How the jobs went: all but the last are done.
-    pub histories: Vec<JobHistory>,
+pub enum JobFault {
+    /// It was aborted; where it saves, its staging area was removed, and its directory stands.
+    Aborted(Abort),
+    /// It was to save to a directory that is there already. Nothing in it has changed.
+    Exists(Name),
+    /// It saves, and a call on the files failed where it was opened, committed or aborted.
+    Device(Name),
 }
 
-impl Stopped {
+/// Why a context ran no further, how its jobs went, and the files.
+#[derive(Drop)]
+pub struct Stopped<F: Files> {
+    /// Why the last job came to no end, or want of memory.
+    pub why: OrMemory<JobFault>,
+    /// How the jobs went: all but the last are done.
+    pub histories: Vec<JobHistory>,
+    /// The files.
+    pub files: F,
+}
+
+impl<F: Files> Stopped<F> {
     /// Memory ran out behind these jobs.
-    pub(crate) fn without_memory(histories: Vec<JobHistory>) -> Stopped
+    pub(crate) fn without_memory(histories: Vec<JobHistory>, files: F) -> Stopped<F>
         ensures why { result.why ≡ OutOfMemory }
         ensures histories { result.histories.items ≡ histories.items }
+        ensures files { F.state result.files ≡ F.state files }
     {
         Stopped {
             why: OrMemory::OutOfMemory,
             histories,
+            files,
         }
     }
 }
 
-impl<W: Naming> Context<W> {
+impl<W: Naming, F: Files> Context<W, F> {
     /// Memory ran out before the next job began.
-    pub(crate) fn without_memory(self) -> Stopped
+    pub(crate) fn without_memory(self) -> Stopped<F>
         ensures why { result.why ≡ OutOfMemory }
         ensures histories { result.histories.items ≡ self.histories }
+        ensures files { F.state result.files ≡ self.files }
     {
-        Stopped::without_memory(self.histories)
+        Stopped::without_memory(self.histories, self.files)
     }
 }

@@ -1,12 +1,12 @@
-use Rattle.std.proofs.Common.{◌<◌, None, length, arith, subst, sym}
+use Rattle.std.proofs.Common.{◌<◌, None, length, arith, subst}
 use Rattle.std.specs.List.{slice_get}
 use Rattle.std.proofs.lemmas.Result.{err_from_is_err_and}
 use Rattle.sc_base.specs.Lists.{at_or}
 use Rattle.sc_compute.specs.Stages.{bounds_at}
 use Rattle.sc_stagecut.specs.Carrying.{IsFirstLacking}
 use Rattle.sc_context.specs.Progress.{next_node}
-use Rattle.sc_context.proofs.BoundLemmas.{fewer_left, lacks_none, lacks_within, places_left}
-use Rattle.sc_context.proofs.ChainLemmas.{stops_behind, stops_short}
+use Rattle.sc_context.proofs.BoundLemmas.{fewer_behind, lacks_none, lacks_within}
+use Rattle.sc_context.proofs.ChainLemmas.{goes_on, stays, stops_behind, stops_short}
 use Rattle.sc_context.proofs.context.Context.find_all_bounds.Goals as goal
 
 pub loop-sort-smaller : goal.loop-sort-smaller
@@ -19,11 +19,10 @@ loop-sort-smaller g c =
     let there = lacks_within work.script.nodes sort (at_or p.carried.bounds sort None)
     first.0.unbounded in
     let within : sort < length p.carried.bounds = omega (arith, there, c.is_sound.ensures.places) in
-    subst (λ bs. places_left bs < places_left p.carried.bounds)
-    (sym c.in_ok-context-in-Ok-Some.ensures.finds.bounds)
-    (fewer_left p.carried.bounds sort (bounds_at work sort) within
+    fewer_behind p.carried.bounds c.in_ok-context-in-Ok-Some.context.progress.carried.bounds sort
+    (bounds_at work sort) c.in_ok-context-in-Ok-Some.ensures.finds.bounds within
     (lacks_none (slice_get work.script.nodes sort) (at_or p.carried.bounds sort None)
-    first.0.unbounded))
+    first.0.unbounded)
 
 pub returns-in_err-context-in-Ok-Some-clause-stops :
     goal.returns-in_err-context-in-Ok-Some-clause-stops
@@ -32,12 +31,23 @@ returns-in_err-context-in-Ok-Some-clause-stops g c =
     let stopped = c.in_err-context-in-Ok-Some.field-0.0 in
     rw (p.1, p.2)
     (stops_behind g.W.Naming.work c.args.self c.loop-sort.context stopped.why
-    stopped.histories.items c.loop-sort.invariant c.in_err-context-in-Ok-Some.ensures.stops)
+    stopped.histories.items (g.F.Files.state stopped.files) c.loop-sort.invariant
+    c.in_err-context-in-Ok-Some.ensures.stops)
 
 pub returns-in-Err-clause-stops : goal.returns-in-Err-clause-stops
 returns-in-Err-clause-stops g c =
     let left = c.without_memory.result in
+    let files = g.F.Files.state left.files in
     stops_behind g.W.Naming.work c.args.self c.loop-sort.context left.why left.histories.items
-    c.loop-sort.invariant
-    (stops_short g.W.Naming.work c.loop-sort.context left.why left.histories.items
-    c.is_sound.ensures.come c.without_memory.ensures.why c.without_memory.ensures.histories)
+    files c.loop-sort.invariant
+    (stops_short g.W.Naming.work c.loop-sort.context left.why left.histories.items files
+    c.is_sound.ensures.come c.without_memory.ensures.why c.without_memory.ensures.histories
+    c.without_memory.ensures.files)
+
+pub loop-sort-init : goal.loop-sort-init
+loop-sort-init g c = stays g.W.Naming.work c.args.self
+
+pub loop-sort-preserved : goal.loop-sort-preserved
+loop-sort-preserved g c =
+    goes_on g.W.Naming.work c.args.self c.loop-sort.context c.in_ok-context-in-Ok-Some.context
+    c.loop-sort.invariant c.in_ok-context-in-Ok-Some.ensures.finds.on

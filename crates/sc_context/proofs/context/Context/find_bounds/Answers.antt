@@ -8,7 +8,7 @@ use Rattle.sc_desk.specs.Begins.{IsPassedFor}
 use Rattle.sc_desk.specs.DeskData.{PassedData, passed_data}
 use Rattle.sc_context.proofs.BoundLemmas.{found_passed, lacking_is}
 use Rattle.sc_context.proofs.ChainLemmas.{stops_ended}
-use Rattle.sc_context.proofs.JobLemmas.{context_behind}
+use Rattle.sc_context.proofs.JobLemmas.{context_behind, gone_behind}
 use Rattle.sc_context.proofs.context.Context.find_bounds.Goals as goal
 
 pub bounds-requires-clause-sort : goal.bounds-requires-clause-sort
@@ -19,10 +19,12 @@ bounds-requires-clause-sort g c =
 pub returns-in_default-clause-stops : goal.returns-in_default-clause-stops
 returns-in_default-clause-stops g c =
     let e = c.in_ok-ended.ended in
-    stops_ended g.W.Naming.work c.args.self (goals.Bounds c.args.sort)
-    c.without_memory.result.why e.passed e.stores.items e.histories.items
-    c.without_memory.result.histories.items e.results.items c.is_sound.ensures.come
-    c.in_ok-ended.ensures.ended c.without_memory.ensures.why c.without_memory.ensures.histories
+    let left = c.without_memory in
+    stops_ended g.W.Naming.work c.args.self (goals.Bounds c.args.sort) left.result.why e.passed
+    e.stores.items e.histories.items left.result.histories.items e.results.items
+    (g.F.Files.state e.files) (g.F.Files.state left.result.files) c.requires.next
+    c.is_sound.ensures.come c.in_ok-ended.ensures.ended left.ensures.why left.ensures.histories
+    left.ensures.files
 
 pub invariant_of-result : goal.invariant_of-result
 invariant_of-result g c =
@@ -51,22 +53,32 @@ invariant_of-result g c =
     omega (arith, many, c.requires.within) in
     context_behind work c.args.self (goals.Bounds sort) e.passed
     (passed_data c.set_bounds.new.self c.passed.inside.ordered) e.stores.items e.histories.items
-    e.results.items e.actions c.is_sound.ensures.come ended carried many within serves places
+    e.results.items e.actions (g.F.Files.state e.files) c.is_sound.ensures.come ended carried many
+    within serves places
 
 pub returns-clause-finds : goal.returns-clause-finds
 returns-clause-finds g c =
     let work = g.W.Naming.work in
     let sort = c.args.sort in
+    let e = c.in_ok-ended.ended in
     let ended = c.in_ok-ended.ensures.ended in
     let from = ap (λ (x : PassedData). x.carried) c.passed.view_is ∙ ended.carried in
+    let carried = c.set_bounds.ensures
+    ∙ ap (λ (k : CarriedData). with_bounds k sort c.in-Ok.bounds) from
+    ∙ ap (λ b. with_bounds (after_job c.args.self.progress.carried ended.is.graph) sort b)
+    c.in-Ok.ensures in
+    let gone = gone_behind work c.args.self (goals.Bounds sort) e.passed
+    (passed_data c.set_bounds.new.self c.passed.inside.ordered) e.stores.items e.histories.items
+    e.results.items e.actions (g.F.Files.state e.files) c.is_sound.ensures.come ended carried
+    c.in_ok-ended.ensures.actions in
     record {
       on = record {
         actions = c.in_ok-ended.ensures.actions;
         more = ended.history ∷ [];
         all = ended.all;
+        come = gone.come;
+        left = gone.left;
+        files = ended.left;
       };
-      bounds = ap (λ (k : CarriedData). k.bounds) (c.set_bounds.ensures
-          ∙ ap (λ (k : CarriedData). with_bounds k sort c.in-Ok.bounds) from
-          ∙ ap (λ b. with_bounds (after_job c.args.self.progress.carried ended.is.graph) sort b)
-          c.in-Ok.ensures);
+      bounds = ap (λ (k : CarriedData). k.bounds) carried;
     }

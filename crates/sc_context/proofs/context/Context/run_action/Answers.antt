@@ -17,8 +17,8 @@ pub returns-clause-stops : goal.returns-clause-stops
 returns-clause-stops g c =
     let work = g.W.Naming.work in
     IfErr-weaker c.run_own_job.result
-    (λ x. Stops work c.in_ok-context.context x.why x.histories.items)
-    (λ x. Stops work c.args.self x.why x.histories.items)
+    (λ x. Stops work c.in_ok-context.context x.why x.histories.items (g.F.Files.state x.files))
+    (λ x. Stops work c.args.self x.why x.histories.items (g.F.Files.state x.files))
     (λ x h. stops_behind work c.args.self c.in_ok-context.context x.why x.histories.items
-    c.in_ok-context.ensures.finds.on h)
+    (g.F.Files.state x.files) c.in_ok-context.ensures.finds.on h)
     c.run_own_job.ensures.stops

@@ -1,9 +1,10 @@
-use Rattle.std.proofs.Common.{◌≡◌, ◌∙◌, ◌+◌, ◌≤◌, length, arith, ap}
+use Rattle.std.proofs.Common.{◌≡◌, ◌∙◌, ◌+◌, ◌≤◌, [], ◌∷◌, length, arith, ap, subst}
 use Rattle.sc_stagecut.specs.Carrying.{CarriedData}
+use Rattle.sc_jobs.specs.JobData.{goal_action}
 use Rattle.sc_jobs.specs.declared.goals.Goal.TheVariants as goals
-use Rattle.sc_context.specs.Contexts.{ContextData}
+use Rattle.sc_context.specs.Contexts.{ContextData, Evaluates}
 use Rattle.sc_context.proofs.ChainLemmas.{stops_ended}
-use Rattle.sc_context.proofs.JobLemmas.{context_behind}
+use Rattle.sc_context.proofs.JobLemmas.{context_behind, gone_behind}
 use Rattle.sc_context.proofs.context.Context.run_own_job.Goals as goal
 
 pub returns-in_default-value_of-clause-stops : goal.returns-in_default-value_of-clause-stops
@@ -12,8 +13,11 @@ returns-in_default-value_of-clause-stops g c =
     let left = c.without_memory-in_default-value_of in
     stops_ended g.W.Naming.work c.args.self (goals.Action c.self.inside.actions)
     left.result.why e.passed e.stores.items e.histories.items
-    left.result.histories.items e.results.items c.is_sound.ensures.come c.in_ok-ended.ensures.ended
-    left.ensures.why left.ensures.histories
+    left.result.histories.items e.results.items (g.F.Files.state e.files)
+    (g.F.Files.state left.result.files)
+    (ap (λ (x : ContextData). x.progress.actions) c.self.view_is, c.requires.found)
+    c.is_sound.ensures.come c.in_ok-ended.ensures.ended
+    left.ensures.why left.ensures.histories left.ensures.files
 
 pub invariant_of-context : goal.invariant_of-context
 invariant_of-context g c =
@@ -26,6 +30,27 @@ invariant_of-context g c =
     let within : c.in-Some.behind ≤ length work.script.actions =
     omega (arith, many, c.requires.within) in
     context_behind work c.args.self (goals.Action c.self.inside.actions) e.passed e.passed
-    e.stores.items e.histories.items e.results.items c.in-Some.behind c.is_sound.ensures.come ended
-    ended.carried many within ended.ready.passed_on
+    e.stores.items e.histories.items e.results.items c.in-Some.behind (g.F.Files.state e.files)
+    c.is_sound.ensures.come ended ended.carried many within ended.ready.passed_on
     (ap (λ (k : CarriedData). length k.bounds) ended.carried ∙ c.is_sound.ensures.places)
+
+pub returns-clause-given : goal.returns-clause-given
+returns-clause-given g c =
+    let work = g.W.Naming.work in
+    let e = c.in_ok-ended.ended in
+    let ended = c.in_ok-ended.ensures.ended in
+    let at = ap (λ (x : ContextData). x.progress.actions) c.self.view_is in
+    let many : c.in-Some.behind ≡ c.args.self.progress.actions + 1 =
+    omega (arith, c.in-Some.ensures, at) in
+    let gone = gone_behind work c.args.self (goals.Action c.self.inside.actions) e.passed e.passed
+    e.stores.items e.histories.items e.results.items c.in-Some.behind (g.F.Files.state e.files)
+    c.is_sound.ensures.come ended ended.carried many in
+    record {
+      evaluates = subst (λ k. Evaluates work (goal_action work (goals.Action k)) c.in-Ok.value) at
+          c.in-Ok.ensures;
+      one_more = many;
+      more = ended.history ∷ [];
+      all = ended.all;
+      come = gone.come;
+      left = gone.left;
+    }

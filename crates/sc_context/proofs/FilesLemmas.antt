@@ -1,0 +1,196 @@
+-- What jobs leave of the files, one behind the other, and how the files of a save stand.
+use Rattle.std.proofs.Common.{◌≡◌, ◌∙◌, inl, inr, false, List, [], ◌∷◌, ◌++◌, Option, Some, None, refl, sym, subst, arith}
+use Rattle.std.specs.Prelude.{Result, Ok, Err}
+use Rattle.sc_base.specs.Outside.{Changes, FilesState, IsLaterFiles}
+use Rattle.sc_base.specs.Trees.{Path, has_dir}
+use Rattle.sc_base.specs.declared.refusals.OrMemory.{OrMemory}
+use Rattle.sc_base.specs.declared.refusals.OrMemory.TheVariants.{Fault, OutOfMemory}
+use Rattle.sc_base.proofs.ChangeLemmas.{changes-compose, changes-none}
+use Rattle.sc_lineage.specs.ScriptData.{WorkData}
+use Rattle.sc_output.specs.Calls.{Call}
+use Rattle.sc_output.specs.Commits.{abort_calls, commit_calls}
+use Rattle.sc_output.specs.Saved.{IsUnderWay}
+use Rattle.sc_output.proofs.CallLemmas.{later-then}
+use Rattle.sc_staging.specs.Laws.{StaysUnderWay, WaysGoOn}
+use Rattle.sc_staging.specs.Opening.{IsOpened}
+use Rattle.sc_core.specs.CoreData.{CoreData}
+use Rattle.sc_core.specs.declared.journals.JobHistory.{JobHistory}
+use Rattle.sc_jobs.specs.declared.goals.Goal.{Goal}
+use Rattle.sc_jobs.specs.declared.goals.Goal.TheVariants as goals
+use Rattle.sc_desk.specs.Files.{dir_of_job}
+use Rattle.sc_context.specs.Files.{EndsBy, FailsIn, HaveLeft, IsOfNoFiles, IsOpenSince, LeavesFiles, LeavesIn, StopsFiles, StopsIn}
+use Rattle.sc_context.specs.Histories.{HasCome, IsDone}
+use Rattle.sc_context.specs.Outputs.{FailsAtEnd, IsOpenIn, MakesAtEnd, RefusesIn, RefusesOutput, WentIn}
+use Rattle.sc_context.specs.Progress.{IsNext, Progress}
+use Rattle.sc_context.specs.declared.stops.JobFault.{JobFault}
+use Rattle.sc_context.specs.declared.stops.JobFault.TheVariants as faults
+
+-- ---- jobs one behind the other
+
+-- some jobs were done, and left the files so
+pub record HaveGone (work : WorkData) (p : Progress) (histories : List JobHistory) (q : Progress)
+    (before after : FilesState) : Type 0 where
+  pub come : HasCome work p histories q
+  pub left : HaveLeft work p histories q come before after
+
+pub gone_then : (work : WorkData) (p mid q : Progress) (xs ys : List JobHistory)
+    (before then after : FilesState) → HaveGone work p xs mid before then
+    → HaveGone work mid ys q then after → HaveGone work p (xs ++ ys) q before after
+gone_then work p mid q [] ys before then after one two =
+    subst (λ x. HaveGone work x ys q before after) one.come
+    (subst (λ f. HaveGone work mid ys q f after) one.left two)
+gone_then work p mid q (x ∷ xs) ys before then after one two =
+    let next = one.come.0 in
+    let rest = gone_then work next mid q xs ys one.left.0 then after
+    (record { come = one.come.2; left = one.left.2 }) two in
+    record {
+      come = (next, one.come.1, rest.come);
+      left = (one.left.0, one.left.1, rest.left);
+    }
+
+-- one job
+pub gone_once : (work : WorkData) (p q : Progress) (h : JobHistory) (before after : FilesState)
+    → (done : IsDone work p h q) → LeavesFiles work done.goal h before after
+    → HaveGone work p (h ∷ []) q before after
+gone_once work p q h before after done left =
+    record { come = (q, done, refl); left = (after, left, refl) }
+
+-- ---- a job that comes to no end
+
+-- nothing was done to the files
+pub unchanged_stops : (dir : Option Path) (before after : FilesState) (why : OrMemory JobFault)
+    → after ≡ before → IsOfNoFiles why → StopsIn dir before after why
+unchanged_stops None before after why same none = (same, none)
+unchanged_stops (Some dir) before after why same none = inl (same, none)
+
+-- the job that comes next is the action's own, or saves nothing
+pub stops_for : (work : WorkData) (p : Progress) (goal : Goal) (before after : FilesState)
+    (why : OrMemory JobFault) → IsNext work p goal
+    → StopsIn (dir_of_job work goal) before after why
+    → StopsFiles work p.actions before after why
+stops_for work p (goals.Action number) before after why next stops =
+    subst (λ k. StopsFiles work k before after why) next.0 stops
+stops_for work p (goals.Bounds sort) before after why next stops =
+    unchanged_stops (dir_of_job work (goals.Action p.actions)) before after why stops.0 stops.1
+
+-- its files weren't opened
+refused_fails : (dir : Path) (before after : FilesState) (why : OrMemory JobFault)
+    → RefusesIn dir before after why → FailsIn dir before after why
+refused_fails dir before after (Fault (faults.Aborted abort)) refused = absurd refused
+refused_fails dir before after (Fault (faults.Exists path)) refused = refused
+refused_fails dir before after (Fault (faults.Device path)) refused = inl refused
+refused_fails dir before after OutOfMemory refused = inl refused
+
+pub refused_stops : (dir : Option Path) (before after : FilesState) (why : OrMemory JobFault)
+    → RefusesOutput dir before after why → StopsIn dir before after why
+refused_stops None before after why refused = absurd refused
+refused_stops (Some dir) before after why refused =
+    inr (refused.0, refused_fails dir before after why refused.1)
+
+-- it is done, and memory ran out then
+pub left_stops : (dir : Option Path) (work : WorkData) (goal : Goal) (h : JobHistory)
+    (before after : FilesState) → LeavesIn dir work goal h before after
+    → StopsIn dir before after OutOfMemory
+left_stops None work goal h before after left = (left, tt)
+left_stops (Some dir) work goal h before after left =
+    let c = left.0 in
+    inr (
+      left.1,
+      inr (
+        commit_calls dir c.winners,
+        inr (c.winners, refl),
+        inl (record { mid = c.mid; way = c.way; makes = c.commits }),
+      ),
+    )
+
+-- ---- a save that was opened
+
+module _ (ways : WaysGoOn) (dir : Path) (before opened : FilesState)
+    (open_is : IsOpenIn (Some dir) before opened) where
+  -- it is under way
+  open_since : (mid : FilesState) → IsLaterFiles opened mid
+      → Changes (StaysUnderWay dir) opened.shown mid.shown → IsOpenSince dir before mid
+  open_since mid later goes =
+      record {
+        later = later-then before opened mid open_is.0 later;
+        way = changes-compose (IsOpened dir) (StaysUnderWay dir)
+            (λ t u. (has_dir t dir ≡ false) × IsUnderWay dir t u) before.shown opened.shown
+            mid.shown
+            (λ t u v is stays. (
+              is.place,
+              stays t (subst (IsUnderWay dir t) (sym is.made) (ways.opened dir t)),
+            ))
+            open_is.2 goes;
+      }
+
+  pub ends_by : (after : FilesState) (calls : List Call)
+      (result : Result (Unit {0}) (OrMemory Path)) → MakesAtEnd dir opened after calls result
+      → EndsBy dir before after calls result
+  ends_by after calls result made =
+      record {
+        mid = made.mid;
+        way = open_since made.mid made.later made.goes;
+        makes = made.makes;
+      }
+
+  went_fails : (after : FilesState) (why : OrMemory JobFault) → FailsAtEnd dir opened after why
+      → FailsIn dir before after why
+  went_fails after (Fault (faults.Aborted abort)) made =
+      ends_by after (abort_calls dir) (Ok tt) made
+  went_fails after (Fault (faults.Exists path)) made = absurd made
+  went_fails after (Fault (faults.Device path)) (calls, ending, made) =
+      inr (calls, ending, ends_by after calls (Err (Fault path)) made)
+  went_fails after OutOfMemory (calls, ending, inl made) =
+      inr (calls, ending, inl (ends_by after calls (Ok tt) made))
+  went_fails after OutOfMemory (calls, ending, inr made) =
+      inr (calls, ending, inr (ends_by after calls (Err OutOfMemory) made))
+
+  -- memory ran out before its job began
+  unbegun_fails : FailsIn dir before opened OutOfMemory
+  unbegun_fails =
+      inr (
+        abort_calls dir,
+        inl refl,
+        inr (record {
+          mid = opened;
+          way = open_since opened same (changes-none (StaysUnderWay dir) opened.shown
+              (λ t opening under. under));
+          makes = (
+            record { faults = refl; clashes = refl },
+            changes-none _ opened.shown (λ t. inl refl),
+          );
+        }),
+      )
+    where
+      same : IsLaterFiles opened opened
+      same =
+          record {
+            shown = changes-none (λ t u. Unit {0}) opened.shown (λ t. tt);
+            faults = omega arith;
+            clashes = omega arith;
+          }
+
+-- the files of a job that was opened, and came to no end
+pub went_stops : {A : Type 0} (ways : WaysGoOn) (dir : Option Path) (work : WorkData)
+    (goal : Goal) (end : CoreData) (before opened after : FilesState) (why : OrMemory JobFault)
+    (results : Result A (OrMemory JobFault)) → results ≡ Err why → IsOpenIn dir before opened
+    → WentIn dir work goal end opened after results → StopsIn dir before after why
+went_stops ways dir work goal end before opened after why results is open_is went =
+    by dir open_is went
+  where
+    by : (dir : Option Path) → IsOpenIn dir before opened
+        → WentIn dir work goal end opened after results → StopsIn dir before after why
+    by None open_is went =
+        let w = subst (WentIn None work goal end opened after) is went in (w.0 ∙ open_is, w.1)
+    by (Some dir) open_is went =
+        let w = subst (WentIn (Some dir) work goal end opened after) is went in
+        inr (
+          later-then before opened after open_is.0 w.0,
+          went_fails ways dir before opened open_is after why w.1,
+        )
+
+pub unbegun_stops : (ways : WaysGoOn) (dir : Option Path) (before opened : FilesState)
+    → IsOpenIn dir before opened → StopsIn dir before opened OutOfMemory
+unbegun_stops ways None before opened open_is = (open_is, tt)
+unbegun_stops ways (Some dir) before opened open_is =
+    inr (open_is.0, unbegun_fails ways dir before opened open_is)

@@ -1,0 +1,119 @@
+-- What the jobs of a run leave of the files.
+use Rattle.std.specs.Prelude.{ℕ, ◌≡◌, ◌⊎◌, false, List, [], ◌∷◌, Option, Some, None, Result, Ok, Err}
+use Rattle.sc_base.specs.Outside.{Changes, FilesState, IsLaterFiles, IsQuietFiles}
+use Rattle.sc_base.specs.Saves.{IsApart, saved_tree}
+use Rattle.sc_base.specs.Trees.{Path, Tree, has_dir}
+use Rattle.sc_base.specs.declared.refusals.OrMemory.{OrMemory}
+use Rattle.sc_base.specs.declared.refusals.OrMemory.TheVariants.{Fault, OutOfMemory}
+use Rattle.sc_ids.specs.declared.attempts.AttemptId.{AttemptId}
+use Rattle.sc_lineage.specs.Actions.{action_outcome, saves}
+use Rattle.sc_lineage.specs.ScriptData.{WorkData}
+use Rattle.sc_files.specs.Calls.{CountsClash, CountsFault}
+use Rattle.sc_output.specs.Calls.{Call, MakesCalls}
+use Rattle.sc_output.specs.Commits.{abort_calls, commit_calls}
+use Rattle.sc_output.specs.Saved.{IsUnderWay}
+use Rattle.sc_staging.specs.Opening.{IsHalfOpened, IsInTheWay, IsOfSave, IsOpenedNoFurther}
+use Rattle.sc_core.specs.declared.journals.JobHistory.{JobHistory}
+use Rattle.sc_jobs.specs.JobData.{goal_action}
+use Rattle.sc_jobs.specs.declared.goals.Goal.{Goal}
+use Rattle.sc_jobs.specs.declared.goals.Goal.TheVariants as goals
+use Rattle.sc_desk.specs.Files.{AreWinners, dir_of_job}
+use Rattle.sc_context.specs.Histories.{HasCome}
+use Rattle.sc_context.specs.Progress.{Progress}
+use Rattle.sc_context.specs.declared.stops.JobFault.{JobFault}
+use Rattle.sc_context.specs.declared.stops.JobFault.TheVariants as faults
+
+-- ---- a job that is done
+
+-- A save is under way since the files were so: its directory wasn't there, and since both
+-- directories were made only files in the staging area have changed.
+pub record IsOpenSince (dir : Path) (before after : FilesState) : Type 0 where
+  pub later : IsLaterFiles before after
+  pub way : Changes (λ t u. (has_dir t dir ≡ false) × IsUnderWay dir t u) before.shown after.shown
+
+-- A job that saves is done and committed: the part of each partition is the one that its winner
+-- moved. Where the files show, and nothing was at the directory or under it, there is what a save
+-- leaves by the sequential meaning, and nothing else has changed.
+pub record IsCommitted (work : WorkData) (goal : Goal) (dir : Path) (h : JobHistory)
+    (before after : FilesState) : Type 0 where
+  pub mid : FilesState
+  pub way : IsOpenSince dir before mid
+  pub winners : List AttemptId
+  pub are_winners : AreWinners h.end.committers winners
+  pub commits : MakesCalls (commit_calls dir winners) mid after (Ok tt)
+  pub texts : List (List ℕ)
+  pub gives : action_outcome work (goal_action work goal) ≡ saves dir texts
+  pub saved : (opening : Tree) → before.shown ≡ Some opening → IsApart dir opening
+      → after.shown ≡ Some (saved_tree dir texts opening)
+
+-- what a job that is done leaves of the files, by the directory that it saves to
+abbrev pub LeavesIn :
+    Option Path → WorkData → Goal → JobHistory → FilesState → FilesState → Type 0
+LeavesIn None work goal h before after = after ≡ before
+LeavesIn (Some dir) work goal h before after =
+    IsCommitted work goal dir h before after × IsLaterFiles before after
+
+abbrev pub LeavesFiles : WorkData → Goal → JobHistory → FilesState → FilesState → Type 0
+LeavesFiles work goal h before after =
+    LeavesIn (dir_of_job work goal) work goal h before after
+
+-- what jobs leave that were done, one behind the other
+abbrev pub HaveLeft : (work : WorkData) (p : Progress) (histories : List JobHistory)
+    (q : Progress) → HasCome work p histories q → FilesState → FilesState → Type 0
+HaveLeft work p [] q come before after = after ≡ before
+HaveLeft work p (h ∷ histories) q (mid, done, come) before after =
+    (then : FilesState) × LeavesFiles work done.goal h before then
+    × HaveLeft work mid histories q come then after
+
+-- ---- a job that comes to no end
+
+-- the calls by which a save ends: those of a commit or of an abort
+abbrev pub IsEnding : Path → List Call → Type 0
+IsEnding dir calls =
+    (calls ≡ abort_calls dir) ⊎ ((winners : List AttemptId) × (calls ≡ commit_calls dir winners))
+
+-- a save that was under way made these calls at its end
+pub record EndsBy (dir : Path) (before after : FilesState) (calls : List Call)
+    (result : Result (Unit {0}) (OrMemory Path)) : Type 0 where
+  pub mid : FilesState
+  pub way : IsOpenSince dir before mid
+  pub makes : MakesCalls calls mid after result
+
+-- How the files of a save stand that came to no end, by what ended it: an abort that was through; a
+-- directory that is there already; a call that failed where the save was opened or at its end; or
+-- want of memory anywhere.
+abbrev pub FailsIn : Path → FilesState → FilesState → OrMemory JobFault → Type 0
+FailsIn dir before after (Fault (faults.Aborted abort)) =
+    EndsBy dir before after (abort_calls dir) (Ok tt)
+FailsIn dir before after (Fault (faults.Exists path)) =
+    IsOfSave dir path × CountsClash before after
+    × Changes (IsInTheWay dir path) before.shown after.shown
+FailsIn dir before after (Fault (faults.Device path)) =
+    (IsOfSave dir path × CountsFault before after
+    × Changes (IsHalfOpened dir path) before.shown after.shown)
+    ⊎ ((calls : List Call) × IsEnding dir calls
+    × EndsBy dir before after calls (Err (Fault path)))
+FailsIn dir before after OutOfMemory =
+    (IsQuietFiles before after × Changes (IsOpenedNoFurther dir) before.shown after.shown)
+    ⊎ ((calls : List Call) × IsEnding dir calls
+    × (EndsBy dir before after calls (Ok tt)
+    ⊎ EndsBy dir before after calls (Err OutOfMemory)))
+
+-- what ends a job that calls no files
+abbrev pub IsOfNoFiles : OrMemory JobFault → Type 0
+IsOfNoFiles (Fault (faults.Aborted abort)) = Unit {0}
+IsOfNoFiles (Fault (faults.Exists path)) = ⊥
+IsOfNoFiles (Fault (faults.Device path)) = ⊥
+IsOfNoFiles OutOfMemory = Unit {0}
+
+-- how the files stand where a job came to no end, by the directory that its action saves to
+abbrev pub StopsIn : Option Path → FilesState → FilesState → OrMemory JobFault → Type 0
+StopsIn None before after why = (after ≡ before) × IsOfNoFiles why
+StopsIn (Some dir) before after why =
+    ((after ≡ before) × IsOfNoFiles why)
+    ⊎ (IsLaterFiles before after × FailsIn dir before after why)
+
+-- the same of a job for the action of a number
+abbrev pub StopsFiles : WorkData → ℕ → FilesState → FilesState → OrMemory JobFault → Type 0
+StopsFiles work k before after why =
+    StopsIn (dir_of_job work (goals.Action k)) before after why
