@@ -1,7 +1,6 @@
 -- What an abort shows of a run without a fault plan.
-use Rattle.std.proofs.Common.{◌≡◌, ◌∙◌, ◌⊎◌, inl, inr, ℕ, zero, suc, ◌<◌, true, false, List, [], ◌∷◌, length, subst, sym, ap, refl, arith, true≢false}
+use Rattle.std.proofs.Common.{◌≡◌, ◌∙◌, ◌⊎◌, inl, inr, ℕ, zero, suc, ◌<◌, true, List, [], ◌∷◌, length, subst, ap, refl, arith}
 use Rattle.std.specs.Prelude.{Contains}
-use Rattle.std.proofs.lemmas.List.Elements.{All-contains}
 use Rattle.sc_base.specs.Lists.{at_or}
 use Rattle.sc_core.specs.declared.answers.Abort.TheVariants as aborts
 use Rattle.sc_core.specs.declared.journals.JobHistory.{JobHistory}
@@ -13,10 +12,9 @@ use Rattle.sc_script.specs.Parsing.{HaveOneReading}
 use Rattle.sc_app.specs.declared.ran.Status.{Status}
 use Rattle.sc_app.specs.Ends.{EndsForAbort}
 use Rattle.sc_app.specs.Promises.{Ends}
-use Rattle.sc_app.specs.Exactly.{HasNoNever, TellsNoFailure}
+use Rattle.sc_app.specs.Exactly.{HasNoNever, SavesSome, TellsNoFailure}
 use Rattle.sc_app.specs.Runs.{RunData, HasReadWork}
 use Rattle.sc_app.proofs.ReadingLemmas.{one_work}
-use Rattle.sc_app.proofs.ScriptLemmas.{script_saves_none}
 
 -- the action of a number that is known is among the actions
 action_there : (actions : List ActionData) (k : ℕ) (other : ActionData) → k < length actions
@@ -48,9 +46,9 @@ module _ (law : HaveOneReading) (plans : PlansHaveOneReading) (run : RunData)
   none_given_up : (stage : ℕ) → EndsForAbort run history (aborts.StageLimit stage) → ⊥
   none_given_up stage ends = ends.aborted.unplanned (no_line ends.work ends.read)
 
-  no_failure : HasNoNever work → (stage attempt partition : ℕ)
-      → EndsForAbort run history (aborts.TaskLimit stage attempt partition) → ⊥
-  no_failure outcomes stage attempt partition ends =
+  by_saving : HasNoNever work → (stage attempt partition : ℕ)
+      → EndsForAbort run history (aborts.TaskLimit stage attempt partition) → SavesSome work
+  by_saving outcomes stage attempt partition ends =
       let same : ends.work ≡ work = this_work ends.work ends.read in
       let known : ends.k < length work.script.actions =
       subst (λ (w : WorkData). ends.k < length w.script.actions) same ends.aborted.known in
@@ -59,13 +57,10 @@ module _ (law : HaveOneReading) (plans : PlansHaveOneReading) (run : RunData)
       (subst (λ (w : WorkData). RaisesOrSaves w (at_or w.script.actions ends.k (collect_action 0)))
       same (ends.aborted.unplanned (no_line ends.work ends.read)))
     where
-      -- no script that was read saves
       by : (action : ActionData) → Contains work.script.actions action
-          → RaisesOrSaves work action → ⊥
-      by action there (inl raises) = outcomes action there raises
-      by action there (inr saves) =
-          true≢false (sym saves ∙ All-contains (λ a. is_saving a ≡ false) work.script.actions action
-          (script_saves_none read.read.bytes work.script read.read.is_script) there)
+          → RaisesOrSaves work action → SavesSome work
+      by action there (inl raises) = absurd (outcomes action there raises)
+      by action there (inr saves) = (action, there, saves)
 
 pub tells_no_failure : HaveOneReading → PlansHaveOneReading → (run : RunData)
     (history : List JobHistory) (status : Status) → Ends run history status
@@ -75,6 +70,6 @@ tells_no_failure law plans run history status ends = λ work read none_planned. 
       (subst (λ (s : Status). Ends run history s) e ends)),
   (λ stage e. none_given_up law plans run history work read none_planned stage
       (subst (λ (s : Status). Ends run history s) e ends)),
-  (λ outcomes stage attempt partition e. no_failure law plans run history work read none_planned
+  (λ outcomes stage attempt partition e. by_saving law plans run history work read none_planned
       outcomes stage attempt partition (subst (λ (s : Status). Ends run history s) e ends)),
 )

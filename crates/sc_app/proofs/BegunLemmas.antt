@@ -1,7 +1,7 @@
 -- The script and the plan of a run: they were read, or the reading of the script ends the run.
 use Rattle.std.proofs.Common.{◌≡◌, ◌∙◌, ℕ, List, [], ◌∷◌, ◌++◌, subst, sym, ap, refl, Option, Some, None, inl, inr}
 use Rattle.std.specs.Prelude.{Ok, Err}
-use Rattle.sc_base.specs.Outside.{Files, SourceState, SinkState, HasAsked, IsLaterSource, IsQuietSource, outside_of}
+use Rattle.sc_base.specs.Outside.{Files, FilesState, SourceState, SinkState, HasAsked, IsLaterSource, IsQuietSource, outside_of}
 use Rattle.sc_base.specs.declared.refusals.OrMemory.{OrMemory}
 use Rattle.sc_base.specs.declared.refusals.OrMemory.TheVariants as refusals
 use Rattle.sc_core.specs.declared.journals.JobHistory.{JobHistory}
@@ -93,12 +93,13 @@ module _ (words : List (List ℕ)) (command : Command)
   plan_name = command.plan
 
   -- the reading of the script stops the run
-  pub script-stops : (before after : SourceState) (sink : SinkState) (reads : List Read)
-      (stop : OrMemory ScriptStop) → TakesAsScript before after name [] reads (Err stop)
-      → IsRun (run_of words reads (outside_of before sink) (outside_of after sink)) history
-      (status_of_script name stop)
-  script-stops before after sink reads (refusals.Fault (script_stops.Faulty fault)) x =
-      let run = run_of words reads (outside_of before sink) (outside_of after sink) in
+  pub script-stops : (before after : SourceState) (sink : SinkState) (files : FilesState)
+      (reads : List Read) (stop : OrMemory ScriptStop)
+      → TakesAsScript before after name [] reads (Err stop)
+      → IsRun (run_of words reads (outside_of before sink) (outside_of after sink) files files)
+      history (status_of_script name stop)
+  script-stops before after sink files reads (refusals.Fault (script_stops.Faulty fault)) x =
+      let run = run_of words reads (outside_of before sink) (outside_of after sink) files files in
       record {
         reads = inr (record {
           command = command;
@@ -117,15 +118,15 @@ module _ (words : List (List ℕ)) (command : Command)
           is = x.1.kept;
           faults = x.2;
           quiet = x.1.file.quiet;
-          nothing_written = refl;
+          nothing_written = (refl, refl);
           nothing_ran = none_ran;
         };
         jobs = λ e. absurd cc;
         usage = usage-none (statuses.Script fault) words command is_command
             (λ e. cc);
       }
-  script-stops before after sink reads (refusals.Fault (script_stops.Unreadable why)) x =
-      let run = run_of words reads (outside_of before sink) (outside_of after sink) in
+  script-stops before after sink files reads (refusals.Fault (script_stops.Unreadable why)) x =
+      let run = run_of words reads (outside_of before sink) (outside_of after sink) files files in
       let status = statuses.Input name (is_missing why) in
       record {
         reads = inl x.0;
@@ -134,14 +135,14 @@ module _ (words : List (List ℕ)) (command : Command)
         ends = record {
           is_next = inl (x.0, (command, is_command, refl));
           cause = told_cause before after name why x.1.cause;
-          nothing_written = refl;
+          nothing_written = (refl, refl);
           nothing_ran = none_ran;
         };
         jobs = λ e. absurd cc;
         usage = usage-none status words command is_command (λ e. cc);
       }
-  script-stops before after sink reads refusals.OutOfMemory (inl x) =
-      let run = run_of words reads (outside_of before sink) (outside_of after sink) in
+  script-stops before after sink files reads refusals.OutOfMemory (inl x) =
+      let run = run_of words reads (outside_of before sink) (outside_of after sink) files files in
       record {
         reads = inl x.0;
         asked = asks words command is_command run statuses.OutOfMemory [] refl
@@ -150,14 +151,14 @@ module _ (words : List (List ℕ)) (command : Command)
         ends = record {
           quiet = subst (λ s. IsQuietSource before s) (sym x.1)
               (record { faults = refl; misses = refl });
-          stands = inl (refl, none_ran);
+          stands = inl ((refl, refl), none_ran);
         };
         jobs = λ e. absurd cc;
         usage = usage-none statuses.OutOfMemory words command is_command
             (λ e. cc);
       }
-  script-stops before after sink reads refusals.OutOfMemory (inr x) =
-      let run = run_of words reads (outside_of before sink) (outside_of after sink) in
+  script-stops before after sink files reads refusals.OutOfMemory (inr x) =
+      let run = run_of words reads (outside_of before sink) (outside_of after sink) files files in
       record {
         reads = inr (record {
           command = command;
@@ -171,7 +172,7 @@ module _ (words : List (List ℕ)) (command : Command)
         asked = asks words command is_command run statuses.OutOfMemory (name ∷ []) refl
             x.1.file.asked
             (ap (λ rs. names_of_reads name plan_name rs ++ []) (sym x.1.kept));
-        ends = record { quiet = x.1.file.quiet; stands = inl (refl, none_ran) };
+        ends = record { quiet = x.1.file.quiet; stands = inl ((refl, refl), none_ran) };
         jobs = λ e. absurd cc;
         usage = usage-none statuses.OutOfMemory words command is_command
             (λ e. cc);

@@ -64,6 +64,10 @@ module _ (law : HaveOneReading) (run : RunData) (history : List JobHistory) (tak
       absurd (none ends.work.script ends.work.plan ends.work.inputs ends.read.read)
   tells_fault_here (statuses.DriverFault k f) ends =
       absurd (none ends.work.script ends.work.plan ends.work.inputs ends.read.read)
+  tells_fault_here (statuses.OutputExists dir) ends =
+      absurd (none ends.work.script ends.work.plan ends.work.inputs ends.read.read)
+  tells_fault_here (statuses.Device path) ends =
+      absurd (none ends.work.script ends.work.plan ends.work.inputs ends.read.read)
   tells_fault_here statuses.WriteFault ends =
       absurd (none ends.work.script ends.work.plan ends.work.inputs ends.read.read)
   tells_fault_here statuses.OutOfMemory ends = inr refl
@@ -123,6 +127,10 @@ module _ (law : PlansHaveOneReading) (run : RunData) (history : List JobHistory)
   tells_plan_here (statuses.Aborted abort) ends =
       absurd (no_plan ends.work.script ends.work.plan ends.work.inputs ends.read.read)
   tells_plan_here (statuses.DriverFault k f) ends =
+      absurd (no_plan ends.work.script ends.work.plan ends.work.inputs ends.read.read)
+  tells_plan_here (statuses.OutputExists dir) ends =
+      absurd (no_plan ends.work.script ends.work.plan ends.work.inputs ends.read.read)
+  tells_plan_here (statuses.Device path) ends =
       absurd (no_plan ends.work.script ends.work.plan ends.work.inputs ends.read.read)
   tells_plan_here statuses.WriteFault ends =
       absurd (no_plan ends.work.script ends.work.plan ends.work.inputs ends.read.read)
@@ -214,6 +222,12 @@ module _ (run : RunData) (history : List JobHistory) (taken : Taken) (name conte
       absurd (no_texts ends.work.script ends.work.plan ends.work.inputs ends.read.read
       ends.read.sound.texts)
   tells_not_text_here (statuses.DriverFault k f) ends =
+      absurd (no_texts ends.work.script ends.work.plan ends.work.inputs ends.read.read
+      ends.read.sound.texts)
+  tells_not_text_here (statuses.OutputExists dir) ends =
+      absurd (no_texts ends.work.script ends.work.plan ends.work.inputs ends.read.read
+      ends.read.sound.texts)
+  tells_not_text_here (statuses.Device path) ends =
       absurd (no_texts ends.work.script ends.work.plan ends.work.inputs ends.read.read
       ends.read.sound.texts)
   tells_not_text_here statuses.WriteFault ends =

@@ -1,7 +1,7 @@
 -- The reading of the plan ends a run.
 use Rattle.std.proofs.Common.{◌≡◌, ◌∙◌, ℕ, List, [], ◌∷◌, ◌++◌, subst, sym, ap, refl, Option, Some, None, inl, inr}
 use Rattle.std.specs.Prelude.{Err}
-use Rattle.sc_base.specs.Outside.{Files, SourceState, SinkState, HasAsked, IsLaterSource, IsQuietSource, outside_of}
+use Rattle.sc_base.specs.Outside.{Files, FilesState, SourceState, SinkState, HasAsked, IsLaterSource, IsQuietSource, outside_of}
 use Rattle.sc_base.specs.declared.refusals.OrMemory.{OrMemory}
 use Rattle.sc_base.specs.declared.refusals.OrMemory.TheVariants as refusals
 use Rattle.sc_core.specs.declared.journals.JobHistory.{JobHistory}
@@ -80,13 +80,13 @@ module _ (words : List (List ℕ)) (command : Command)
         (rw (e, taken.kept, is_named, none) refl)
 
     -- the reading of a plan of this name stops the run
-    named-stops : (after : SourceState) (sink : SinkState) (more : List Read)
-        (stop : OrMemory PlanStop) (named : List ℕ) → plan_name ≡ Some named
+    named-stops : (after : SourceState) (sink : SinkState) (files : FilesState)
+        (more : List Read) (stop : OrMemory PlanStop) (named : List ℕ) → plan_name ≡ Some named
         → TakesAsNamedPlan mid after named command.limits.executors first more (Err stop)
-        → IsRun (run_of words more (outside_of start sink) (outside_of after sink)) history
-        (status_of_plan stop)
-    named-stops after sink more (refusals.Fault (plan_stops.Faulty fault)) named is_named x =
-        let run = run_of words more (outside_of start sink) (outside_of after sink) in
+        → IsRun (run_of words more (outside_of start sink) (outside_of after sink) files files)
+        history (status_of_plan stop)
+    named-stops after sink files more (refusals.Fault (plan_stops.Faulty fault)) named is_named x =
+        let run = run_of words more (outside_of start sink) (outside_of after sink) files files in
         record {
           reads = with_plan run named x.0 refl refl is_named x.1.file.shown x.1.kept;
           asked = asked_both run (statuses.Plan fault) named x.0 refl refl is_named refl
@@ -101,14 +101,15 @@ module _ (words : List (List ℕ)) (command : Command)
             is_script = is_script;
             faults = x.2;
             quiet = quiet-more start mid after taken.file.quiet x.1.file.quiet;
-            nothing_written = refl;
+            nothing_written = (refl, refl);
             nothing_ran = none_ran;
           };
           jobs = λ e. absurd cc;
           usage = usage-none (statuses.Plan fault) words command is_command (λ e. cc);
         }
-    named-stops after sink more (refusals.Fault (plan_stops.Unreadable n why)) named is_named x =
-        let run = run_of words more (outside_of start sink) (outside_of after sink) in
+    named-stops after sink files more (refusals.Fault (plan_stops.Unreadable n why)) named is_named
+        x =
+        let run = run_of words more (outside_of start sink) (outside_of after sink) files files in
         let status = statuses.Input n (is_missing why) in
         let is_next : plan_name ≡ Some n = is_named ∙ ap Some (sym x.0) in
         let missed = subst (λ m. MissesFile mid after m why) (sym x.0) x.2 in
@@ -130,14 +131,14 @@ module _ (words : List (List ℕ)) (command : Command)
             cause = told_cause start after n why
                 (unreadable-since script start first mid after n why was taken.file.quiet
                 missed.cause);
-            nothing_written = refl;
+            nothing_written = (refl, refl);
             nothing_ran = none_ran;
           };
           jobs = λ e. absurd cc;
           usage = usage-none status words command is_command (λ e. cc);
         }
-    named-stops after sink more refusals.OutOfMemory named is_named (inl x) =
-        let run = run_of words more (outside_of start sink) (outside_of after sink) in
+    named-stops after sink files more refusals.OutOfMemory named is_named (inl x) =
+        let run = run_of words more (outside_of start sink) (outside_of after sink) files files in
         record {
           reads = alone run refl refl x.0;
           asked = asks words command is_command run statuses.OutOfMemory (name ∷ []) refl
@@ -145,36 +146,36 @@ module _ (words : List (List ℕ)) (command : Command)
               (ap (λ rs. names_of_reads name plan_name rs ++ []) (sym (x.0 ∙ taken.kept)));
           ends = record {
             quiet = subst (λ s. IsQuietSource start s) (sym x.1) taken.file.quiet;
-            stands = inl (refl, none_ran);
+            stands = inl ((refl, refl), none_ran);
           };
           jobs = λ e. absurd cc;
           usage = usage-none statuses.OutOfMemory words command is_command (λ e. cc);
         }
-    named-stops after sink more refusals.OutOfMemory named is_named (inr x) =
-        let run = run_of words more (outside_of start sink) (outside_of after sink) in
+    named-stops after sink files more refusals.OutOfMemory named is_named (inr x) =
+        let run = run_of words more (outside_of start sink) (outside_of after sink) files files in
         record {
           reads = with_plan run named x.0 refl refl is_named x.1.file.shown x.1.kept;
           asked = asked_both run statuses.OutOfMemory named x.0 refl refl is_named refl
               x.1.file.asked x.1.kept;
           ends = record {
             quiet = quiet-more start mid after taken.file.quiet x.1.file.quiet;
-            stands = inl (refl, none_ran);
+            stands = inl ((refl, refl), none_ran);
           };
           jobs = λ e. absurd cc;
           usage = usage-none statuses.OutOfMemory words command is_command (λ e. cc);
         }
 
     -- the reading of the plan stops the run
-    pub plan-stops : (after : SourceState) (sink : SinkState) (more : List Read)
-        (stop : OrMemory PlanStop)
+    pub plan-stops : (after : SourceState) (sink : SinkState) (files : FilesState)
+        (more : List Read) (stop : OrMemory PlanStop)
         → TakesAsPlan mid after plan_name command.limits.executors first more (Err stop)
-        → IsRun (run_of words more (outside_of start sink) (outside_of after sink)) history
-        (status_of_plan stop)
-    plan-stops after sink more stop x = by_name plan_name refl x
+        → IsRun (run_of words more (outside_of start sink) (outside_of after sink) files files)
+        history (status_of_plan stop)
+    plan-stops after sink files more stop x = by_name plan_name refl x
       where
         by_name : (named : Option (List ℕ)) → plan_name ≡ named
             → TakesAsPlan mid after named command.limits.executors first more (Err stop)
-            → IsRun (run_of words more (outside_of start sink) (outside_of after sink)) history
-            (status_of_plan stop)
+            → IsRun (run_of words more (outside_of start sink) (outside_of after sink) files files)
+            history (status_of_plan stop)
         by_name None is y = absurd y
-        by_name (Some n) is y = named-stops after sink more stop n is y
+        by_name (Some n) is y = named-stops after sink files more stop n is y

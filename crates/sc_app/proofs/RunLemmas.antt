@@ -3,17 +3,15 @@ use Rattle.std.proofs.Common.{append_assoc, ◌≡◌, ◌∙◌, ℕ, List, [],
 use Rattle.std.specs.Prelude.{Err}
 use Rattle.std.specs.Option.{option_map}
 use Rattle.std.proofs.lemmas.List.{append-nil}
-use Rattle.sc_base.specs.Outside.{Files, SourceState, SinkState, HasAsked, IsQuietSource, outside_of}
+use Rattle.sc_base.specs.Outside.{Files, FilesState, SourceState, SinkState, HasAsked, IsQuietSource, outside_of}
 use Rattle.sc_base.specs.declared.refusals.OrMemory.{OrMemory}
 use Rattle.sc_base.specs.declared.refusals.OrMemory.TheVariants as refusals
-use Rattle.sc_context.specs.Histories.{HasDone}
-use Rattle.sc_core.specs.declared.answers.Abort.{Abort}
 use Rattle.sc_core.specs.declared.journals.JobHistory.{JobHistory}
 use Rattle.sc_lineage.specs.ScriptData.{ScriptData, WorkData, IsSoundWork, name_of_input}
 use Rattle.sc_plan.specs.declared.lines.PlanLine.{PlanLine}
 use Rattle.sc_print.specs.declared.faults.PrintFault.{PrintFault}
 use Rattle.sc_print.specs.declared.faults.PrintFault.TheVariants as print_faults
-use Rattle.sc_print.specs.Printing.{Prints, PrintsAll}
+use Rattle.sc_print.specs.Printing.{HasDoneOver, Prints, PrintsAll}
 use Rattle.sc_read.specs.declared.reads.Read.{Read}
 use Rattle.sc_read.specs.declared.stops.InputStop.{InputStop}
 use Rattle.sc_read.specs.declared.stops.InputStop.TheVariants as inputs_stops
@@ -22,7 +20,6 @@ use Rattle.sc_read.specs.Reads.{AreFirstInputs, input_read, names_of_reads, read
 use Rattle.sc_read.proofs.ReadLemmas.{asked-more, quiet-more, unreadable-since}
 use Rattle.sc_app.specs.declared.ran.Status.{Status}
 use Rattle.sc_app.specs.declared.ran.Status.TheVariants as statuses
-use Rattle.sc_app.specs.Ends.{EndsForAbort}
 use Rattle.sc_app.specs.Handed.{IsRun, RanAllJobs}
 use Rattle.sc_app.specs.Promises.{Ends}
 use Rattle.sc_app.specs.Runs.{RunData, AreReads, AsksOnce, HasRead, HasReadWork, name_missed, run_of}
@@ -119,13 +116,13 @@ module _ (words : List (List ℕ)) (command : Command)
 
       -- the reading of the inputs stops the run
       pub inputs-stop : (history : List JobHistory) → history ≡ [] → (after : SourceState)
-          (sink : SinkState) (more : List Read) (stop : OrMemory InputStop)
+          (sink : SinkState) (files : FilesState) (more : List Read) (stop : OrMemory InputStop)
           → TakesAsWork script plan command.limits before after reads more (Err stop)
-          → IsRun (run_of words more (outside_of start sink) (outside_of after sink)) history
-          (status_of_input stop)
-      inputs-stop history none_ran after sink more
+          → IsRun (run_of words more (outside_of start sink) (outside_of after sink) files files)
+          history (status_of_input stop)
+      inputs-stop history none_ran after sink files more
           (refusals.Fault (inputs_stops.Unreadable n why)) x =
-          let run = run_of words more (outside_of start sink) (outside_of after sink) in
+          let run = run_of words more (outside_of start sink) (outside_of after sink) files files in
           let status = statuses.Input n (is_missing why) in
           record {
             reads = in_order run x.inputs refl refl x.kept x.first;
@@ -141,14 +138,15 @@ module _ (words : List (List ℕ)) (command : Command)
               cause = told_cause start after n why
                   (unreadable-since script start reads before after n why began.later began.quiet
                   x.cause);
-              nothing_written = refl;
+              nothing_written = (refl, refl);
               nothing_ran = none_ran;
             };
             jobs = λ e. absurd cc;
             usage = usage-none status words command is_command (λ e. cc);
           }
-      inputs-stop history none_ran after sink more (refusals.Fault (inputs_stops.NotText n)) x =
-          let run = run_of words more (outside_of start sink) (outside_of after sink) in
+      inputs-stop history none_ran after sink files more
+          (refusals.Fault (inputs_stops.NotText n)) x =
+          let run = run_of words more (outside_of start sink) (outside_of after sink) files files in
           let inputs = x.inputs ++ (n, x.bytes) ∷ [] in
           record {
             reads = in_order run inputs refl refl x.taken.kept x.taken.first;
@@ -163,21 +161,21 @@ module _ (words : List (List ℕ)) (command : Command)
               is_next = x.is_next;
               no_text = x.no_text;
               quiet = quiet-more start before after began.quiet x.taken.quiet;
-              nothing_written = refl;
+              nothing_written = (refl, refl);
               nothing_ran = none_ran;
             };
             jobs = λ e. absurd cc;
             usage = usage-none (statuses.NotText n) words command is_command
                 (λ e. cc);
           }
-      inputs-stop history none_ran after sink more refusals.OutOfMemory x =
-          let run = run_of words more (outside_of start sink) (outside_of after sink) in
+      inputs-stop history none_ran after sink files more refusals.OutOfMemory x =
+          let run = run_of words more (outside_of start sink) (outside_of after sink) files files in
           record {
             reads = in_order run x.0 refl refl x.1.kept x.1.first;
             asked = asked-all run statuses.OutOfMemory x.0 refl refl x.1.kept x.1.asked refl;
             ends = record {
               quiet = quiet-more start before after began.quiet x.1.quiet;
-              stands = inl (refl, none_ran);
+              stands = inl ((refl, refl), none_ran);
             };
             jobs = λ e. absurd cc;
             usage = usage-none statuses.OutOfMemory words command is_command
@@ -203,9 +201,10 @@ module _ (words : List (List ℕ)) (command : Command)
         quiet = quiet-more start before after began.quiet inputs.quiet
 
         -- a run that read all, with how its jobs went and with what its end says
-        module _ (histories : List JobHistory) (sink sink' : SinkState) where
+        module _ (histories : List JobHistory) (sink sink' : SinkState)
+            (files files' : FilesState) where
           abbrev ran : RunData
-          ran = run_of words more (outside_of start sink) (outside_of after sink')
+          ran = run_of words more (outside_of start sink) (outside_of after sink') files files'
 
           all_read : (status : Status) → name_missed status ≡ [] → (status ≡ statuses.Usage → ⊥)
               → (status ≡ statuses.Done → RanAllJobs ran histories) → Ends ran histories status
@@ -221,7 +220,7 @@ module _ (words : List (List ℕ)) (command : Command)
 
           -- all actions were printed
           pub run-done : PrintsAll work sink sink'
-              → HasDone work histories (length work.script.actions)
+              → HasDoneOver work files files' histories (length work.script.actions)
               → IsRun ran histories statuses.Done
           run-done prints jobs =
               all_read statuses.Done refl (λ e. cc) (λ e. (work, has_work, jobs)) (record {
@@ -230,26 +229,42 @@ module _ (words : List (List ℕ)) (command : Command)
                 quiet = quiet;
                 prints = prints;
                 text = text-printed work sink sink' prints;
+                saves = jobs.saved;
               })
-
-          -- a job was aborted
-          abort-stops : (abort : Abort) → EndsForAbort ran histories abort
-              → IsRun ran histories (statuses.Aborted abort)
-          abort-stops abort ends =
-              all_read (statuses.Aborted abort) refl (λ e. cc) (λ e. absurd cc) ends
 
           -- the printing stops the run
           pub printing-stops : (stop : OrMemory PrintFault)
-              → Prints work sink sink' (Err stop) histories
+              → Prints work sink sink' files files' (Err stop) histories
               → IsRun ran histories (status_of_print stop)
           printing-stops (refusals.Fault (print_faults.Aborted k abort)) x =
-              abort-stops abort (record {
+              all_read (statuses.Aborted abort) refl (λ e. cc) (λ e. absurd cc) (record {
                 work = work;
                 read = has_work;
                 quiet = quiet;
                 k = k;
                 printed = x.0;
                 aborted = x.1;
+                over = x.2;
+              })
+          printing-stops (refusals.Fault (print_faults.Exists k path)) x =
+              all_read (statuses.OutputExists path) refl (λ e. cc) (λ e. absurd cc) (record {
+                work = work;
+                read = has_work;
+                quiet = quiet;
+                k = k;
+                printed = x.0;
+                jobs = x.1;
+                over = x.2;
+              })
+          printing-stops (refusals.Fault (print_faults.Device k path)) x =
+              all_read (statuses.Device path) refl (λ e. cc) (λ e. absurd cc) (record {
+                work = work;
+                read = has_work;
+                quiet = quiet;
+                k = k;
+                printed = x.0;
+                jobs = x.1;
+                over = x.2;
               })
           printing-stops (refusals.Fault (print_faults.Driver k fault)) x =
               all_read (statuses.DriverFault k fault) refl (λ e. cc) (λ e. absurd cc) (record {
@@ -279,10 +294,10 @@ module _ (words : List (List ℕ)) (command : Command)
 
 -- words that are refused
 pub no-command : (words : List (List ℕ)) (source : SourceState) (sink : SinkState)
-    → (AreTaken words → ⊥) → command_of words ≡ None
-    → IsRun (run_of words [] (outside_of source sink) (outside_of source sink)) []
+    (files : FilesState) → (AreTaken words → ⊥) → command_of words ≡ None
+    → IsRun (run_of words [] (outside_of source sink) (outside_of source sink) files files) []
     statuses.Usage
-no-command words source sink refused none =
+no-command words source sink files refused none =
     record {
       reads = inl refl;
       asked = λ command e. absurd cc;
@@ -292,6 +307,7 @@ no-command words source sink refused none =
         nothing_read = refl;
         nothing_ran = refl;
         untouched = refl;
+        nothing_saved = refl;
       };
       jobs = λ e. absurd cc;
       usage = ((λ e. refused), (λ r. inl refl));
@@ -299,15 +315,16 @@ no-command words source sink refused none =
 
 -- memory ran out before anything was read
 pub no-memory : (words : List (List ℕ)) (source : SourceState) (sink : SinkState)
-    → IsRun (run_of words [] (outside_of source sink) (outside_of source sink)) []
+    (files : FilesState)
+    → IsRun (run_of words [] (outside_of source sink) (outside_of source sink) files files) []
     statuses.OutOfMemory
-no-memory words source sink =
+no-memory words source sink files =
     record {
       reads = inl refl;
       asked = λ command e. asked-none source;
       ends = record {
         quiet = record { faults = refl; misses = refl };
-        stands = inl (refl, refl);
+        stands = inl ((refl, refl), refl);
       };
       jobs = λ e. absurd cc;
       usage = ((λ e. absurd cc), (λ r. inr refl));

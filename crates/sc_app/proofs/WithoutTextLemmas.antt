@@ -1,33 +1,25 @@
 -- An action without a text is told.
-use Rattle.std.proofs.Common.{◌≡◌, ◌∙◌, ℕ, zero, suc, ◌<◌, List, [], ◌∷◌, ◌++◌, length, take, subst, sym, ap, refl, arith, inl, inr, None, Some}
+use Rattle.std.proofs.Common.{◌≡◌, ◌∙◌, ℕ, zero, suc, ◌<◌, List, [], ◌∷◌, length, take, subst, sym, ap, refl, arith, inl, inr, None, Some}
 use Rattle.std.specs.Prelude.{◌⊎◌, slice_get}
 use Rattle.std.specs.List.{All}
-use Rattle.std.specs.Str.{IsUtf8}
 use Rattle.std.proofs.lemmas.List.Elements.{All-get_or}
 use Rattle.std.proofs.lemmas.Option.{slice_get_within, get_or_from_slice_get}
-use Rattle.sc_base.specs.Outside.{Files}
 use Rattle.sc_core.specs.declared.journals.JobHistory.{JobHistory}
 use Rattle.sc_lineage.specs.Actions.{action_outcome, faults, never, text_of_outcome, HasText}
-use Rattle.sc_lineage.specs.ScriptData.{ActionData, ScriptData, WorkData}
+use Rattle.sc_lineage.specs.ScriptData.{ActionData, WorkData}
 use Rattle.sc_lineage.specs.declared.nodes.DriverFault.{DriverFault}
 use Rattle.sc_plan.specs.Plans.{PlansHaveOneReading}
-use Rattle.sc_plan.specs.declared.faults.PlanFault.{PlanFault}
-use Rattle.sc_plan.specs.declared.lines.PlanLine.{PlanLine}
-use Rattle.sc_read.specs.declared.reads.Read.{Read}
-use Rattle.sc_read.specs.Reads.{Taken, script_read}
 use Rattle.sc_script.specs.Parsing.{HaveOneReading}
-use Rattle.sc_script.specs.Scripts.{FaultsScript}
-use Rattle.sc_script.specs.declared.faults.ScriptFault.{ScriptFault}
 use Rattle.sc_app.specs.declared.ran.Status.{Status}
 use Rattle.sc_app.specs.declared.ran.Status.TheVariants as statuses
-use Rattle.sc_app.specs.Ends.{EndsForPlan}
 use Rattle.sc_app.specs.Promises.{Ends}
-use Rattle.sc_app.specs.Exactly.{IsFirstWithout, IsUnlessEarlier, TellsAbort, TellsDriverFault, TellsNever}
-use Rattle.sc_app.specs.Runs.{RunData, HasRead, HasReadWork, IsNextName}
-use Rattle.sc_app.proofs.ReadingLemmas.{no_bad_text, no_fault, no_next, no_next_plan, no_plan_fault, one_work}
+use Rattle.sc_app.specs.Exactly.{IsFirstWithout, IsUnlessEarlier, TellsAbort, TellsDriverFault, TellsNever, TellsOutside}
+use Rattle.sc_app.specs.Runs.{RunData, HasReadWork}
+use Rattle.sc_app.proofs.EndingLemmas.{not_bad, not_faulty, not_next, not_planless, not_refused}
+use Rattle.sc_app.proofs.ReadingLemmas.{one_work}
 
 -- an action among the first k has a text, where each of these has
-has_text : (work : WorkData) (actions : List ActionData) (k i : ℕ) (action : ActionData)
+pub has_text : (work : WorkData) (actions : List ActionData) (k i : ℕ) (action : ActionData)
     → All (HasText work) (take k actions) → i < k → slice_get actions i ≡ Some action
     → HasText work action
 has_text work actions k i action all below is =
@@ -46,7 +38,7 @@ has_text work actions k i action all below is =
     slice_get-take (y ∷ xs) (suc k) (suc i) x below e = slice_get-take xs k i x (omega arith) e
 
 -- two numbers are in one order
-in_order : (a b : ℕ) → (a < b) ⊎ ((a ≡ b) ⊎ (b < a))
+pub in_order : (a b : ℕ) → (a < b) ⊎ ((a ≡ b) ⊎ (b < a))
 in_order zero zero = inr (inl refl)
 in_order zero (suc b) = inl (omega arith)
 in_order (suc a) zero = inr (inr (omega arith))
@@ -76,7 +68,7 @@ never_without : (work : WorkData) (a : ActionData) → action_outcome work a ≡
 never_without work a is text =
     let e : None ≡ Some text.0 = sym (ap text_of_outcome is) ∙ text.1 in cc
 
-faults_without : (work : WorkData) (a : ActionData) (f : DriverFault)
+pub faults_without : (work : WorkData) (a : ActionData) (f : DriverFault)
     → action_outcome work a ≡ faults f → HasText work a → ⊥
 faults_without work a f is text =
     let e : None ≡ Some text.0 = sym (ap text_of_outcome is) ∙ text.1 in cc
@@ -95,32 +87,6 @@ module _ (law : HaveOneReading) (plans : PlansHaveOneReading) (run : RunData) (w
       same texts in
       bare (has_text work work.script.actions (length work.script.actions) k action all
       (slice_get_within work.script.actions k action first.is_action) first.is_action)
-
-  not_faulty : (bytes : List ℕ) (fault : ScriptFault) (is : List Read)
-      → run.reads ≡ script_read bytes ∷ is → FaultsScript bytes fault → ⊥
-  not_faulty bytes fault is e faulty =
-      no_fault law run.words run.reads bytes is fault work.script work.plan work.inputs e faulty
-      read.read
-
-  not_planless : (history : List JobHistory) (fault : PlanFault) → EndsForPlan run history fault → ⊥
-  not_planless history fault ends =
-      let taken : Taken =
-      record { script = ends.bytes; plan = Some ends.plan_bytes; inputs = [] } in
-      no_plan_fault run.words run.reads plans ends.command taken ends.plan_bytes fault
-      ends.is_command ends.is refl ends.faults work.script work.plan work.inputs read.read
-
-  not_next : (name : List ℕ) → IsNextName run name → ⊥
-  not_next name (inl empty) = let e = empty.0 in let is = read.read.is in cc
-  not_next name (inr (inl next)) =
-      no_next_plan run name work.script work.plan work.inputs read.read next
-  not_next name (inr (inr next)) =
-      no_next law run.words run.reads work next.0 next.1 next.2 name read next.3 next.4
-
-  not_bad : (script : ScriptData) (plan : List PlanLine) (inputs : Files) (name bytes : List ℕ)
-      → HasRead run.words run.reads script plan (inputs ++ (name, bytes) ∷ [])
-      → (IsUtf8 bytes → ⊥) → ⊥
-  not_bad script plan inputs name bytes was bad =
-      no_bad_text law run.words run.reads work script plan inputs name bytes read was bad
 
   -- an action that stopped the run is this one
   stopped : (other : WorkData) (i : ℕ) (a : ActionData) → HasReadWork run.words run.reads other
@@ -149,19 +115,18 @@ module _ (law : HaveOneReading) (plans : PlansHaveOneReading) (run : RunData)
   no_text = never_without work action is
 
   tells_never_here : (status : Status) → Ends run history status
-      → TellsAbort status ⊎ ((status ≡ statuses.OutOfMemory) ⊎ (status ≡ statuses.WriteFault))
+      → TellsAbort status ⊎ ((status ≡ statuses.OutOfMemory) ⊎ TellsOutside status)
   tells_never_here statuses.Done ends =
       absurd (not_all law plans run work k action read first no_text ends.work ends.read
       ends.prints.texts)
   tells_never_here statuses.Usage ends =
-      let e = ends.nothing_read in let was = read.read.is in absurd cc
+      absurd (not_refused law plans run history work read ends)
   tells_never_here (statuses.Script f) ends =
-      absurd (not_faulty law plans run work k action read first no_text ends.bytes f [] ends.is
-      ends.faults)
+      absurd (not_faulty law plans run history work read f ends)
   tells_never_here (statuses.Plan f) ends =
-      absurd (not_planless law plans run work k action read first no_text history f ends)
+      absurd (not_planless law plans run history work read f ends)
   tells_never_here (statuses.Input name missing) ends =
-      absurd (not_next law plans run work k action read first no_text name ends.is_next)
+      absurd (not_next law plans run history work read name ends.is_next)
   tells_never_here (statuses.Aborted abort) ends = inl (abort, refl)
   tells_never_here (statuses.DriverFault i f) ends =
       let x = stopped law plans run work k action read first no_text ends.work i ends.stops.action
@@ -171,11 +136,12 @@ module _ (law : HaveOneReading) (plans : PlansHaveOneReading) (run : RunData)
       sym (ap (λ (w : WorkData). action_outcome w action) x.1)
       ∙ sym (ap (action_outcome ends.work) x.2) ∙ ends.stops.faults_so in
       absurd cc
-  tells_never_here statuses.WriteFault ends = inr (inr refl)
+  tells_never_here (statuses.OutputExists dir) ends = inr (inr (inr (inl (dir, refl))))
+  tells_never_here (statuses.Device path) ends = inr (inr (inr (inr (path, refl))))
+  tells_never_here statuses.WriteFault ends = inr (inr (inl refl))
   tells_never_here statuses.OutOfMemory ends = inr (inl refl)
   tells_never_here (statuses.NotText name) ends =
-      absurd (not_bad law plans run work k action read first no_text ends.script ends.plan
-      ends.inputs name ends.bytes ends.read ends.no_text)
+      absurd (not_bad law plans run history work read name ends)
 
 pub tells_never : HaveOneReading → PlansHaveOneReading → (run : RunData)
     (history : List JobHistory) (status : Status) → Ends run history status
@@ -198,14 +164,13 @@ module _ (law : HaveOneReading) (plans : PlansHaveOneReading) (run : RunData)
       absurd (not_all law plans run work k action read first no_text_either ends.work ends.read
       ends.prints.texts)
   tells_driver_here statuses.Usage ends =
-      let e = ends.nothing_read in let was = read.read.is in absurd cc
+      absurd (not_refused law plans run history work read ends)
   tells_driver_here (statuses.Script f) ends =
-      absurd (not_faulty law plans run work k action read first no_text_either ends.bytes f []
-      ends.is ends.faults)
+      absurd (not_faulty law plans run history work read f ends)
   tells_driver_here (statuses.Plan f) ends =
-      absurd (not_planless law plans run work k action read first no_text_either history f ends)
+      absurd (not_planless law plans run history work read f ends)
   tells_driver_here (statuses.Input name missing) ends =
-      absurd (not_next law plans run work k action read first no_text_either name ends.is_next)
+      absurd (not_next law plans run history work read name ends.is_next)
   tells_driver_here (statuses.Aborted abort) ends = inl (abort, refl)
   tells_driver_here (statuses.DriverFault i f) ends =
       let x = stopped law plans run work k action read first no_text_either ends.work i
@@ -217,11 +182,12 @@ module _ (law : HaveOneReading) (plans : PlansHaveOneReading) (run : RunData)
       let same : f ≡ fault = cc in
       inr (inl (inl (ap (λ n. statuses.DriverFault n f) x.0
       ∙ ap (statuses.DriverFault k) same)))
-  tells_driver_here statuses.WriteFault ends = inr (inr refl)
+  tells_driver_here (statuses.OutputExists dir) ends = inr (inr (inr (inl (dir, refl))))
+  tells_driver_here (statuses.Device path) ends = inr (inr (inr (inr (path, refl))))
+  tells_driver_here statuses.WriteFault ends = inr (inr (inl refl))
   tells_driver_here statuses.OutOfMemory ends = inr (inl (inr refl))
   tells_driver_here (statuses.NotText name) ends =
-      absurd (not_bad law plans run work k action read first no_text_either ends.script ends.plan
-      ends.inputs name ends.bytes ends.read ends.no_text)
+      absurd (not_bad law plans run history work read name ends)
 
 pub tells_driver_fault : HaveOneReading → PlansHaveOneReading → (run : RunData)
     (history : List JobHistory) (status : Status) → Ends run history status

@@ -2,6 +2,8 @@
 use Rattle.std.specs.Prelude.{ℕ, ◌+◌, ◌≡◌, ◌⊎◌, Bool, true, false, List, [], ◌∷◌, ◌++◌, Some, None}
 use Rattle.std.specs.Str.{IsUtf8}
 use Rattle.sc_base.specs.Outside.{Files, IsQuietSource}
+use Rattle.sc_base.specs.Trees.{Path}
+use Rattle.sc_base.specs.declared.refusals.OrMemory.TheVariants.{Fault}
 use Rattle.sc_lineage.specs.ScriptData.{ScriptData, WorkData}
 use Rattle.sc_lineage.specs.declared.nodes.DriverFault.{DriverFault}
 use Rattle.sc_plan.specs.Plans.{FaultsPlan}
@@ -9,9 +11,10 @@ use Rattle.sc_plan.specs.declared.faults.PlanFault.{PlanFault}
 use Rattle.sc_plan.specs.declared.lines.PlanLine.{PlanLine}
 use Rattle.sc_core.specs.declared.answers.Abort.{Abort}
 use Rattle.sc_core.specs.declared.journals.JobHistory.{JobHistory}
-use Rattle.sc_context.specs.Aborts.{IsAborted}
+use Rattle.sc_context.specs.Aborts.{IsAborted, IsHalted}
 use Rattle.sc_context.specs.Histories.{HasDone}
-use Rattle.sc_print.specs.Printing.{CutsShort, HasPrinted, StopsAtDriver, StopsAtWrite}
+use Rattle.sc_context.specs.declared.stops.JobFault.TheVariants as job_faults
+use Rattle.sc_print.specs.Printing.{CutsShort, EndsOver, HasDoneOver, HasPrinted, StopsAtDriver, StopsAtWrite}
 use Rattle.sc_read.specs.Files.{IsUnreadable}
 use Rattle.sc_read.specs.Inputs.{IsNextInput}
 use Rattle.sc_read.specs.Reads.{plan_read, script_read}
@@ -23,9 +26,13 @@ use Rattle.sc_app.specs.Runs.{RunData, HasRead, HasReadWork, IsNextName}
 use Rattle.sc_words.specs.Words.{AreTaken, command_of}
 use Rattle.sc_words.specs.declared.commands.Command.{Command}
 
--- the sink took nothing, and no count of it rose
+-- the files that saves write to are as they were
+abbrev pub NothingSaved : RunData → Type 0
+NothingSaved run = run.files_after ≡ run.files_before
+
+-- the sink took nothing, the files are as they were, and no count of these rose
 abbrev pub NothingWritten : RunData → Type 0
-NothingWritten run = run.after.sink ≡ run.before.sink
+NothingWritten run = (run.after.sink ≡ run.before.sink) × NothingSaved run
 
 -- no job was begun
 abbrev pub NothingRan : List JobHistory → Type 0
@@ -42,6 +49,7 @@ pub record EndsForUsage (run : RunData) (history : List JobHistory) : Type 0 whe
   pub nothing_read : run.reads ≡ []
   pub nothing_ran : NothingRan history
   pub untouched : run.after ≡ run.before
+  pub nothing_saved : NothingSaved run
 
 -- the bytes read as the script have this fault
 pub record EndsForScript (run : RunData) (history : List JobHistory) (fault : ScriptFault)
@@ -96,7 +104,8 @@ pub record EndsForText (run : RunData) (history : List JobHistory) (name : List 
   pub nothing_ran : NothingRan history
 
 -- All was read, and a job for an action was aborted, the last that was begun, which shows why. The
--- texts of the actions before it stand.
+-- texts of the actions before it stand, and what they saved; of its own save, where it has one, its
+-- directory stands at most.
 pub record EndsForAbort (run : RunData) (history : List JobHistory) (abort : Abort)
     : Type 0 where
   pub work : WorkData
@@ -105,6 +114,8 @@ pub record EndsForAbort (run : RunData) (history : List JobHistory) (abort : Abo
   pub k : ℕ
   pub printed : HasPrinted work run.before.sink run.after.sink k
   pub aborted : IsAborted work k history abort
+  pub over : EndsOver work run.files_before run.files_after history k
+      (Fault (job_faults.Aborted abort))
 
 -- all was read, and the results of an action have no value
 pub record EndsForDriver (run : RunData) (history : List JobHistory) (k : ℕ) (fault : DriverFault)
@@ -113,7 +124,35 @@ pub record EndsForDriver (run : RunData) (history : List JobHistory) (k : ℕ) (
   pub read : HasReadWork run.words run.reads work
   pub quiet : NothingMissed run
   pub stops : StopsAtDriver work run.before.sink run.after.sink k fault
-  pub jobs : HasDone work history (k + 1)
+  pub jobs : HasDoneOver work run.files_before run.files_after history (k + 1)
+
+-- All was read, and this directory is there already, to which an action saves, or which is its
+-- staging area: a count of the files rose, and nothing in it has changed. The texts of the actions
+-- before it stand, and what they saved.
+pub record EndsForExists (run : RunData) (history : List JobHistory) (dir : Path)
+    : Type 0 where
+  pub work : WorkData
+  pub read : HasReadWork run.words run.reads work
+  pub quiet : NothingMissed run
+  pub k : ℕ
+  pub printed : HasPrinted work run.before.sink run.after.sink k
+  pub jobs : HasDone work history k
+  pub over : EndsOver work run.files_before run.files_after history k
+      (Fault (job_faults.Exists dir))
+
+-- All was read, and a call on the files of an action that saves failed where these were opened,
+-- committed or aborted: a count of the files rose. The texts of the actions before it stand, and
+-- what they saved.
+pub record EndsForDevice (run : RunData) (history : List JobHistory) (path : Path)
+    : Type 0 where
+  pub work : WorkData
+  pub read : HasReadWork run.words run.reads work
+  pub quiet : NothingMissed run
+  pub k : ℕ
+  pub printed : HasPrinted work run.before.sink run.after.sink k
+  pub jobs : IsHalted work k history
+  pub over : EndsOver work run.files_before run.files_after history k
+      (Fault (job_faults.Device path))
 
 -- all was read, and the sink failed
 pub record EndsForWrite (run : RunData) (history : List JobHistory) : Type 0 where
@@ -121,15 +160,17 @@ pub record EndsForWrite (run : RunData) (history : List JobHistory) : Type 0 whe
   pub read : HasReadWork run.words run.reads work
   pub quiet : NothingMissed run
   pub stops : StopsAtWrite work run.before.sink run.after.sink
-  pub jobs : HasDone work history (stops.k + 1)
+  pub jobs : HasDoneOver work run.files_before run.files_after history (stops.k + 1)
 
 -- behind the texts of some actions, whose jobs are done, and perhaps jobs of one more
 pub record StandsBehind (run : RunData) (history : List JobHistory) : Type 0 where
   pub work : WorkData
   pub read : HasReadWork run.words run.reads work
-  pub stands : CutsShort work run.before.sink run.after.sink history
+  pub stands : CutsShort work run.before.sink run.after.sink run.files_before run.files_after
+      history
 
--- memory ran out before the first job, or behind the texts of some actions; no count rose
+-- memory ran out before the first job, or behind the texts of some actions; no count of the source
+-- or the sink rose
 pub record EndsForMemory (run : RunData) (history : List JobHistory) : Type 0 where
   pub quiet : NothingMissed run
   pub stands : (NothingWritten run × NothingRan history) ⊎ StandsBehind run history

@@ -1,10 +1,13 @@
 -- What a run tells of what it read: nothing that refuses it is passed over.
-use Rattle.std.specs.Prelude.{ℕ, ◌≡◌, ◌≢◌, ◌⊎◌, List, [], take, Some, slice_get, Contains}
+use Rattle.std.specs.Prelude.{ℕ, ◌≡◌, ◌≢◌, ◌<◌, ◌⊎◌, true, false, List, [], take, Some, slice_get, Contains}
 use Rattle.std.specs.List.{All}
 use Rattle.std.specs.Str.{IsUtf8}
+use Rattle.sc_base.specs.Trees.{Path, Tree, has_dir}
 use Rattle.sc_lineage.specs.Actions.{action_outcome, faults, never, HasText}
+use Rattle.sc_lineage.specs.Saves.{AreApart, SavesAt, saved_by}
 use Rattle.sc_lineage.specs.ScriptData.{ActionData, WorkData}
 use Rattle.sc_lineage.specs.declared.nodes.DriverFault.{DriverFault}
+use Rattle.sc_jobs.specs.JobData.{is_saving}
 use Rattle.sc_plan.specs.Plans.{FaultsPlan}
 use Rattle.sc_plan.specs.declared.faults.PlanFault.{PlanFault}
 use Rattle.sc_core.specs.declared.answers.Abort.{Abort}
@@ -15,7 +18,7 @@ use Rattle.sc_script.specs.declared.faults.ScriptFault.{ScriptFault}
 use Rattle.sc_script.specs.Scripts.{FaultsScript}
 use Rattle.sc_app.specs.declared.ran.Status.{Status}
 use Rattle.sc_app.specs.declared.ran.Status.TheVariants as statuses
-use Rattle.sc_app.specs.Runs.{HasReadWork}
+use Rattle.sc_app.specs.Runs.{RunData, HasReadWork}
 use Rattle.sc_words.specs.Words.{AreTaken, command_of}
 use Rattle.sc_words.specs.declared.commands.Command.{Command}
 
@@ -23,9 +26,22 @@ use Rattle.sc_words.specs.declared.commands.Command.{Command}
 abbrev pub IsUnlessMemory : Status → Status → Type 0
 IsUnlessMemory told status = (status ≡ told) ⊎ (status ≡ statuses.OutOfMemory)
 
--- the status is this one, unless memory ran out or the sink failed before
+-- a call on files failed
+abbrev pub TellsDevice : Status → Type 0
+TellsDevice status = (path : Path) × (status ≡ statuses.Device path)
+
+-- a directory was there already, or a call on files failed
+abbrev pub TellsFiles : Status → Type 0
+TellsFiles status =
+    ((dir : Path) × (status ≡ statuses.OutputExists dir)) ⊎ TellsDevice status
+
+-- the sink failed, or the files did
+abbrev pub TellsOutside : Status → Type 0
+TellsOutside status = (status ≡ statuses.WriteFault) ⊎ TellsFiles status
+
+-- the status is this one, unless memory ran out, or the sink or the files failed before
 abbrev pub IsUnlessEarlier : Status → Status → Type 0
-IsUnlessEarlier told status = IsUnlessMemory told status ⊎ (status ≡ statuses.WriteFault)
+IsUnlessEarlier told status = IsUnlessMemory told status ⊎ TellsOutside status
 
 -- the status is Usage only where `clap` refuses the words, and there always, unless memory ran out
 abbrev pub TellsUsage : List (List ℕ) → Status → Type 0
@@ -66,7 +82,7 @@ abbrev pub TellsNever : List (List ℕ) → List Read → Status → Type 0
 TellsNever words reads status = (work : WorkData) (k : ℕ) (action : ActionData)
     → HasReadWork words reads work → IsFirstWithout work k action
     → action_outcome work action ≡ never
-    → TellsAbort status ⊎ ((status ≡ statuses.OutOfMemory) ⊎ (status ≡ statuses.WriteFault))
+    → TellsAbort status ⊎ ((status ≡ statuses.OutOfMemory) ⊎ TellsOutside status)
 
 -- if the first action without a text has a fault of the driver, the status says so, unless a job
 -- was aborted
@@ -77,17 +93,42 @@ TellsDriverFault words reads status =
     → action_outcome work action ≡ faults fault
     → TellsAbort status ⊎ IsUnlessEarlier (statuses.DriverFault k fault) status
 
+-- The files show, and the saved directories are kept apart. Behind actions that all have texts this
+-- directory is there when action k is to save to it, and none was when one before it was to.
+pub record IsFirstInTheWay (run : RunData) (work : WorkData) (k : ℕ) (dir : Path) : Type 0 where
+  pub opening : Tree
+  pub shown : run.files_before.shown ≡ Some opening
+  pub apart : AreApart work.script opening
+  pub texts : All (HasText work) (take k work.script.actions)
+  pub saves : SavesAt work k dir
+  pub there : has_dir (saved_by work k opening) dir ≡ true
+  pub first : (i : ℕ) (other : Path) → i < k → SavesAt work i other
+      → has_dir (saved_by work i opening) other ≡ false
+
+-- if a directory is there when an action is to save to it, the status says so, unless a job was
+-- aborted, or memory ran out, or the sink or a call on files failed before
+abbrev pub TellsExists : RunData → Status → Type 0
+TellsExists run status = (work : WorkData) (k : ℕ) (dir : Path)
+    → HasReadWork run.words run.reads work → IsFirstInTheWay run work k dir
+    → TellsAbort status ⊎ (IsUnlessMemory (statuses.OutputExists dir) status
+    ⊎ ((status ≡ statuses.WriteFault) ⊎ TellsDevice status))
+
 -- no action of a work is never
 abbrev pub HasNoNever : WorkData → Type 0
 HasNoNever work = (action : ActionData) → Contains work.script.actions action
     → action_outcome work action ≢ never
 
+-- some action of a work saves
+abbrev pub SavesSome : WorkData → Type 0
+SavesSome work = (action : ActionData) × Contains work.script.actions action
+    × (is_saving action ≡ true)
+
 -- if the plan has no line, no executor is lost and no stage is given up; and if moreover no action
--- is never, no task fails
+-- is never, no task fails, unless it is one of an action that saves
 abbrev pub TellsNoFailure : List (List ℕ) → List Read → Status → Type 0
 TellsNoFailure words reads status = (work : WorkData) → HasReadWork words reads work
     → work.plan ≡ []
     → (status ≢ statuses.Aborted aborts.NoExecutor)
     × ((stage : ℕ) → status ≢ statuses.Aborted (aborts.StageLimit stage))
     × (HasNoNever work → (stage attempt partition : ℕ)
-    → status ≢ statuses.Aborted (aborts.TaskLimit stage attempt partition))
+    → status ≡ statuses.Aborted (aborts.TaskLimit stage attempt partition) → SavesSome work)

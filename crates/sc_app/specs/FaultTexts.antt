@@ -12,7 +12,7 @@ use Rattle.sc_lineage.specs.declared.nodes.DriverFault.{DriverFault}
 use Rattle.sc_lineage.specs.declared.nodes.DriverFault.TheVariants as causes
 use Rattle.sc_app.specs.declared.ran.Status.{Status}
 use Rattle.sc_app.specs.declared.ran.Status.TheVariants as statuses
-use Rattle.sc_app.specs.declared.ran.Status.TheVariants.{Aborted, Done, Input, NotText, OutOfMemory, Plan, Script, Usage, WriteFault}
+use Rattle.sc_app.specs.declared.ran.Status.TheVariants.{Aborted, Device, Done, Input, NotText, OutOfMemory, OutputExists, Plan, Script, Usage, WriteFault}
 
 -- the name of a kind of fault
 abbrev pub kind_text : FaultKind → List ℕ
@@ -62,6 +62,8 @@ fault_text (Input name missing) = codes "input: " ++ name ++ codes ": " ++ missi
 fault_text (Aborted abort) = abort_text abort
 fault_text (statuses.DriverFault k kind) =
     codes "driver: action " ++ decimal k ++ codes ": " ++ cause_text kind
+fault_text (OutputExists dir) = codes "output exists: " ++ dir
+fault_text (Device path) = codes "device: " ++ path
 fault_text WriteFault = codes "write failed"
 fault_text OutOfMemory = codes "out of memory"
 fault_text (NotText name) = codes "not text: " ++ name

@@ -3,6 +3,8 @@ use Rattle.std.specs.Prelude.{ℕ, ◌≡◌, ◌≢◌, ◌⊎◌, List, Some, 
 use Rattle.sc_base.specs.Counts.{Rose}
 use Rattle.sc_base.specs.Lists.{content_of}
 use Rattle.sc_base.specs.Outside.{Files}
+use Rattle.sc_base.specs.Trees.{Tree}
+use Rattle.sc_lineage.specs.Saves.{CanSaveAll}
 use Rattle.sc_lineage.specs.ScriptData.{AreTexts, ScriptData, input_names}
 use Rattle.sc_plan.specs.Plans.{FaultsPlan}
 use Rattle.sc_plan.specs.declared.faults.PlanFault.{PlanFault}
@@ -28,13 +30,23 @@ pub record AreAllThere (run : RunData) : Type 0 where
       → ReadsScript taken.script script → Contains (input_names script) name
       → content_of files name ≢ None
 
--- the words are a command, nothing failed outside, each named file is there, and what was read is a
--- script, a plan where one is named, and texts
+-- The files show, and the script that was read can save all: its directories are apart, none of
+-- them is there, and none is saved twice.
+pub record HasRoom (run : RunData) : Type 0 where
+  pub opening : Tree
+  pub shown : run.files_before.shown ≡ Some opening
+  pub free : (taken : Taken) (script : ScriptData) → run.reads ≡ reads_of taken
+      → ReadsScript taken.script script → CanSaveAll script opening
+
+-- the words are a command, nothing failed outside, each named file is there, no directory that is
+-- saved to is there, and what was read is a script, a plan where one is named, and texts
 pub record IsGood (run : RunData) : Type 0 where
   pub command : command_of run.words ≢ None
   pub no_fault : Rose run.before.source.faults run.after.source.faults → ⊥
   pub there : (Rose run.before.source.misses run.after.source.misses → ⊥) ⊎ AreAllThere run
   pub no_write_fault : Rose run.before.sink.faults run.after.sink.faults → ⊥
+  pub no_file_fault : Rose run.files_before.faults run.files_after.faults → ⊥
+  pub room : (Rose run.files_before.clashes run.files_after.clashes → ⊥) ⊎ HasRoom run
   pub script : (taken : Taken) (fault : ScriptFault) → run.reads ≡ reads_of taken
       → FaultsScript taken.script fault → ⊥
   pub plan : (command : Command) (taken : Taken) (bytes : List ℕ) (fault : PlanFault)
@@ -52,6 +64,8 @@ EndsWell (statuses.Plan fault) = ⊥
 EndsWell (statuses.Input name missing) = ⊥
 EndsWell (statuses.Aborted abort) = Unit {0}
 EndsWell (statuses.DriverFault k fault) = Unit {0}
+EndsWell (statuses.OutputExists dir) = ⊥
+EndsWell (statuses.Device path) = ⊥
 EndsWell statuses.WriteFault = ⊥
 EndsWell statuses.OutOfMemory = Unit {0}
 EndsWell (statuses.NotText name) = ⊥

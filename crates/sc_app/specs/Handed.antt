@@ -1,9 +1,9 @@
 -- What the functions below `run` say of a run.
 use Rattle.std.specs.Prelude.{ℕ, ◌≡◌, List, Some, length}
-use Rattle.sc_base.specs.Outside.{Outside}
-use Rattle.sc_context.specs.Histories.{HasDone}
+use Rattle.sc_base.specs.Outside.{FilesState, Outside}
 use Rattle.sc_core.specs.declared.journals.JobHistory.{JobHistory}
 use Rattle.sc_lineage.specs.ScriptData.{WorkData}
+use Rattle.sc_print.specs.Printing.{HasDoneOver}
 use Rattle.sc_read.specs.declared.reads.Read.{Read}
 use Rattle.sc_app.specs.declared.ran.Status.{Status}
 use Rattle.sc_app.specs.declared.ran.Status.TheVariants as statuses
@@ -13,10 +13,10 @@ use Rattle.sc_app.specs.Runs.{RunData, AreReads, AsksOnce, HasReadWork, run_of}
 use Rattle.sc_words.specs.Words.{command_of}
 use Rattle.sc_words.specs.declared.commands.Command.{Command}
 
--- a work was read, and the jobs of all its actions are done
+-- a work was read, and the jobs of all its actions are done, and have left the files so
 abbrev pub RanAllJobs : RunData → List JobHistory → Type 0
 RanAllJobs run history = (work : WorkData) × HasReadWork run.words run.reads work
-    × HasDone work history (length work.script.actions)
+    × HasDoneOver work run.files_before run.files_after history (length work.script.actions)
 
 -- a run with its status: what it read, what it asked for, how it ended, and how its jobs went
 pub record IsRun (run : RunData) (history : List JobHistory) (status : Status) : Type 0 where
@@ -27,8 +27,8 @@ pub record IsRun (run : RunData) (history : List JobHistory) (status : Status) :
   pub usage : TellsUsage run.words status
 
 -- a run of this command, whatever the words that asked for it
-abbrev pub IsRunOf :
-    Command → List Read → List JobHistory → Outside → Outside → Status → Type 0
-IsRunOf command reads history before after status =
+abbrev pub IsRunOf : Command → List Read → List JobHistory → Outside → Outside → FilesState
+    → FilesState → Status → Type 0
+IsRunOf command reads history before after files_before files_after status =
     (words : List (List ℕ)) → command_of words ≡ Some command
-    → IsRun (run_of words reads before after) history status
+    → IsRun (run_of words reads before after files_before files_after) history status

@@ -1,7 +1,7 @@
 -- What a run was given, what it read, and what it left.
 use Rattle.std.specs.Prelude.{ℕ, ◌≡◌, ◌⊎◌, List, [], ◌∷◌, ◌++◌, Option, Some, None}
 use Rattle.std.specs.Option.{option_map}
-use Rattle.sc_base.specs.Outside.{Files, Outside, HasAsked}
+use Rattle.sc_base.specs.Outside.{Files, FilesState, Outside, HasAsked}
 use Rattle.sc_ids.specs.declared.limits.Limits.{Limits}
 use Rattle.sc_lineage.specs.ScriptData.{ScriptData, WorkData, IsSoundWork}
 use Rattle.sc_plan.specs.declared.lines.PlanLine.{PlanLine}
@@ -24,15 +24,21 @@ pub record RunData : Type 0 where
   -- the outside before and after
   pub before : Outside
   pub after : Outside
+  -- the files that saves write to, before and after
+  pub files_before : FilesState
+  pub files_after : FilesState
 
--- a run by its words, its reads and the outside
-abbrev pub run_of : List (List ℕ) → List Read → Outside → Outside → RunData
-run_of words reads before after =
+-- a run by its words, its reads, the outside and the files
+abbrev pub run_of :
+    List (List ℕ) → List Read → Outside → Outside → FilesState → FilesState → RunData
+run_of words reads before after files_before files_after =
     record {
       words = words;
       reads = reads;
       before = before;
       after = after;
+      files_before = files_before;
+      files_after = files_after;
     }
 
 -- the reads are those of a script, of the plan where the words name one, and of these inputs behind

@@ -15,7 +15,7 @@ use Rattle.sc_read.specs.declared.stops.ScriptStop.TheVariants as scripts
 use Rattle.sc_read.specs.declared.stops.Unreadable.{Unreadable}
 use Rattle.sc_read.specs.declared.stops.Unreadable.TheVariants.{Missing, Failed}
 use Rattle.sc_app.specs.declared.ran.Status.{Status}
-use Rattle.sc_app.specs.declared.ran.Status.TheVariants.{Aborted, Done, DriverFault, Input, NotText, OutOfMemory, Plan, Script, Usage, WriteFault}
+use Rattle.sc_app.specs.declared.ran.Status.TheVariants.{Aborted, Device, Done, DriverFault, Input, NotText, OutOfMemory, OutputExists, Plan, Script, Usage, WriteFault}
 
 -- the number of the status where a job was aborted
 abbrev pub number_of_abort : Abort → ℕ
@@ -33,6 +33,8 @@ number_of (Plan fault) = 4
 number_of (Input name missing) = 5
 number_of (Aborted abort) = number_of_abort abort
 number_of (DriverFault k fault) = 9
+number_of (OutputExists dir) = 10
+number_of (Device path) = 11
 number_of WriteFault = 12
 number_of OutOfMemory = 13
 number_of (NotText name) = 15
@@ -63,6 +65,8 @@ status_of_input refusals.OutOfMemory = OutOfMemory
 -- the status where not all actions were printed
 abbrev pub status_of_print : OrMemory PrintFault → Status
 status_of_print (refusals.Fault (prints.Aborted k abort)) = Aborted abort
+status_of_print (refusals.Fault (prints.Exists k path)) = OutputExists path
+status_of_print (refusals.Fault (prints.Device k path)) = Device path
 status_of_print (refusals.Fault (prints.Driver k fault)) = DriverFault k fault
 status_of_print (refusals.Fault prints.Write) = WriteFault
 status_of_print refusals.OutOfMemory = OutOfMemory

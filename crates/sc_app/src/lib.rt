@@ -4,8 +4,8 @@
 //! names, or makes those of a workload, evaluates the script's actions in order, and writes the
 //! text of each to the sink. Its contract is the promise of the whole program: a run that is done
 //! has written exactly the text of the script's sequential meaning over the inputs that it read,
-//! and every other [`Status`] comes only with its cause, and with what then stands.
-//! `specs/Promises.antt` has that on two pages.
+//! and saved exactly its directories, and every other [`Status`] comes only with its cause, and
+//! with what then stands. `specs/Promises.antt` has that on two pages.
 //!
 //! It runs on the thread that calls it, and it returns. The command comes from `sc_words`, what is
 //! read from `sc_read`, and the actions are run and printed by `sc_print`; the program that calls

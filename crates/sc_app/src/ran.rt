@@ -5,6 +5,7 @@ ghost use Rattle.std.specs.Prelude.{◌≡◌};
 ghost use Rattle.sc_app.specs.Statuses.{number_of, number_of_abort};
 
 use sc_core::{Abort, JobHistory};
+use sc_files::Files;
 use sc_lineage::DriverFault;
 use sc_plan::PlanFault;
 use sc_read::Read;
@@ -38,6 +39,16 @@ pub enum Status {
         /// Why they have none.
         kind: DriverFault,
     },
+    /// An action saves to a directory that is there already.
+    OutputExists {
+        /// The directory, or its staging area.
+        dir: Name,
+    },
+    /// A call on the files of an action that saves failed.
+    Device {
+        /// The path that it was to make, or the directory that it was to remove.
+        path: Name,
+    },
     /// The sink failed.
     WriteFault,
     /// Memory ran out.
@@ -62,6 +73,8 @@ impl Status {
             Status::Input { .. } => 5,
             Status::Aborted(abort) => number_of_abort(*abort),
             Status::DriverFault { .. } => 9,
+            Status::OutputExists { .. } => 10,
+            Status::Device { .. } => 11,
             Status::WriteFault => 12,
             Status::OutOfMemory => 13,
             Status::NotText { .. } => 15,
@@ -83,7 +96,7 @@ fn number_of_abort(abort: Abort) -> u8
 
 /// What a run did: how it ended, what it read, and how its jobs went, in order.
 #[derive(Drop)]
-pub struct Ran {
+pub struct Ran<F: Files> {
     /// How it ended.
     pub status: Status,
     /// The script, the plan where one is named, and then the inputs, as far as they were read.
@@ -91,4 +104,6 @@ pub struct Ran {
     /// How the jobs went: for each action that was begun those that found bounds, and its own. All
     /// but the last are done.
     pub history: Vec<JobHistory>,
+    /// The files that it was given to save to.
+    pub files: F,
 }

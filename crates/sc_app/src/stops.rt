@@ -57,6 +57,8 @@ pub(crate) fn status_of_print(stop: OrMemory<PrintFault>) -> Status
 {
     match stop {
         OrMemory::Fault(PrintFault::Aborted { abort, .. }) => Status::Aborted(abort),
+        OrMemory::Fault(PrintFault::Exists { path, .. }) => Status::OutputExists { dir: path },
+        OrMemory::Fault(PrintFault::Device { path, .. }) => Status::Device { path },
         OrMemory::Fault(PrintFault::Driver { action, fault }) => Status::DriverFault {
             action,
             kind: fault,

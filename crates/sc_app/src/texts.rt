@@ -25,6 +25,8 @@ pub fn fault_text(alloc: Global, status: &Status) -> Result<String, AllocError>
         Status::Input { name, missing } => input_text(alloc, name, *missing),
         Status::Aborted(abort) => abort_text(alloc, *abort),
         Status::DriverFault { action, kind } => driver_text(alloc, *action, *kind),
+        Status::OutputExists { dir } => exists_text(alloc, dir),
+        Status::Device { path } => device_text(alloc, path),
         Status::WriteFault => String::from_str(alloc, "write failed"),
         Status::OutOfMemory => String::from_str(alloc, "out of memory"),
         Status::NotText { name } => {
@@ -98,6 +100,22 @@ fn driver_text(alloc: Global, action: u32, kind: DriverFault) -> Result<String, 
 {
     let cause = name_of_cause(kind);
     format!(in alloc; "driver: action {action}: {cause}")
+}
+
+/// The text of a directory that is there already.
+fn exists_text(alloc: Global, dir: &Name) -> Result<String, AllocError>
+    ensures { IfOk result (λ t. string_bytes t ≡ text_of (Status.OutputExists dir.now)) }
+{
+    let dir = dir.as_str();
+    format!(in alloc; "output exists: {dir}")
+}
+
+/// The text of a call on files that failed.
+fn device_text(alloc: Global, path: &Name) -> Result<String, AllocError>
+    ensures { IfOk result (λ t. string_bytes t ≡ text_of (Status.Device path.now)) }
+{
+    let path = path.as_str();
+    format!(in alloc; "device: {path}")
 }
 
 /// The name of the cause of a driver's fault.

@@ -1,2 +1,5 @@
 pub mod PrintLemmas
+pub mod SavedLemmas
+pub mod OverLemmas
 pub mod EndLemmas
+pub mod NextLemmas

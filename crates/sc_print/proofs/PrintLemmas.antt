@@ -7,10 +7,10 @@ use Rattle.std.proofs.lemmas.List.{append-nil, take_more}
 use Rattle.std.proofs.lemmas.List.Elements.{All-nil, All-cons, All-append}
 use Rattle.std.proofs.lemmas.Option.{slice_get_within, get_or_from_slice_get}
 use Rattle.sc_base.specs.Lists.{at_or}
-use Rattle.sc_base.specs.Outside.{SinkState, with_more}
+use Rattle.sc_base.specs.Outside.{FilesState, SinkState, with_more}
 use Rattle.sc_lineage.specs.Actions.{action_text, some_text, texts_by, HasText}
 use Rattle.sc_lineage.specs.ScriptData.{ActionData, WorkData}
-use Rattle.sc_context.specs.Contexts.{ContextData}
+use Rattle.sc_context.specs.Contexts.{ContextData, new_context}
 use Rattle.sc_print.specs.Printing.{HasPrinted, PrintsAll, PrintsNext, PrintsText}
 
 -- one more item at the end of a part
@@ -103,6 +103,13 @@ printed-none work state =
       pieces = sym (with_more-none state.pieces);
       quiet = refl;
     }
+
+-- nor in a context in which no job has run
+pub printed-first : (work : WorkData) (state : SinkState) (files : FilesState) (c : ContextData)
+    → c ≡ new_context work files → HasPrinted work state state c.progress.actions
+printed-first work state files c new =
+    subst (λ (x : ContextData). HasPrinted work state state x.progress.actions) (sym new)
+    (printed-none work state)
 
 -- all is printed
 pub printed-all : (work : WorkData) (before after : SinkState) (k : ℕ)

@@ -1,23 +1,28 @@
--- What the printing of a work's actions does to a sink.
-use Rattle.std.specs.Prelude.{ℕ, ◌+◌, ◌≡◌, ◌≢◌, ◌≤◌, List, [], ◌∷◌, ◌++◌, length, take, Some, slice_get, Result, Ok, Err}
+-- What the running of a work's actions does to a sink and to files.
+use Rattle.std.specs.Prelude.{ℕ, ◌+◌, ◌≡◌, ◌≢◌, ◌≤◌, ◌⊎◌, List, [], ◌∷◌, ◌++◌, length, take, Some, slice_get, Result, Ok, Err}
 use Rattle.std.specs.List.{All}
 use Rattle.std.specs.Option.{option_to_list}
 use Rattle.sc_base.specs.Counts.{Rose}
-use Rattle.sc_base.specs.Outside.{SinkState, with_more}
+use Rattle.sc_base.specs.Outside.{FilesState, IsLaterFiles, SinkState, with_more}
+use Rattle.sc_base.specs.Trees.{Tree}
 use Rattle.sc_base.specs.declared.refusals.OrMemory.{OrMemory}
 use Rattle.sc_base.specs.declared.refusals.OrMemory.TheVariants.{Fault, OutOfMemory}
-use Rattle.sc_lineage.specs.Actions.{action_outcome, action_text, faults, prints, some_text, texts_by, HasText}
+use Rattle.sc_lineage.specs.Actions.{action_outcome, action_text, faults as faulty, prints, some_text, texts_by, HasText}
+use Rattle.sc_lineage.specs.Saves.{AreApart, saved_by}
 use Rattle.sc_lineage.specs.ScriptData.{ActionData, WorkData}
 use Rattle.sc_lineage.specs.declared.nodes.DriverFault.{DriverFault}
 use Rattle.sc_compute.specs.declared.evaluation.Evaluated.{Evaluated}
 use Rattle.sc_compute.specs.declared.evaluation.Evaluated.TheVariants as evaluated
-use Rattle.sc_core.specs.declared.answers.Abort.{Abort}
 use Rattle.sc_core.specs.declared.journals.JobHistory.{JobHistory}
-use Rattle.sc_context.specs.Aborts.{IsAborted}
-use Rattle.sc_context.specs.Contexts.{ContextData}
-use Rattle.sc_context.specs.Histories.{HasDone, IsCutShort}
+use Rattle.sc_context.specs.Aborts.{IsAborted, IsHalted}
+use Rattle.sc_context.specs.Contexts.{ContextData, Stops}
+use Rattle.sc_context.specs.Files.{HaveLeft, StopsFiles}
+use Rattle.sc_context.specs.Histories.{HasCome, HasDone}
+use Rattle.sc_context.specs.Progress.{Progress, first_progress}
+use Rattle.sc_context.specs.declared.stops.JobFault.{JobFault}
+use Rattle.sc_context.specs.declared.stops.JobFault.TheVariants as faults
 use Rattle.sc_print.specs.declared.faults.PrintFault.{PrintFault}
-use Rattle.sc_print.specs.declared.faults.PrintFault.TheVariants.{Aborted, Driver, Write}
+use Rattle.sc_print.specs.declared.faults.PrintFault.TheVariants.{Aborted, Device, Driver, Exists, Write}
 
 -- the first k actions have texts, and a sink took each that isn't empty by one write
 pub record HasPrinted (work : WorkData) (before after : SinkState) (k : ℕ) : Type 0 where
@@ -35,7 +40,7 @@ pub record StopsAtDriver (work : WorkData) (before after : SinkState) (k : ℕ) 
     : Type 0 where
   pub action : ActionData
   pub is_action : slice_get work.script.actions k ≡ Some action
-  pub faults_so : action_outcome work action ≡ faults fault
+  pub faults_so : action_outcome work action ≡ faulty fault
   pub printed : HasPrinted work before after k
 
 -- the sink failed at the text of an action; the texts before it stand, and a prefix of its own
@@ -51,32 +56,70 @@ pub record StopsAtWrite (work : WorkData) (before after : SinkState) : Type 0 wh
   pub pieces : after.pieces ≡ with_more before.pieces (texts_by work k ++ take n printed ∷ [])
   pub rose : Rose before.faults after.faults
 
+-- ---- files
+
+-- The jobs of the first k actions are done, and those that save have left the files so. Where these
+-- show, and the saved directories are kept apart, there is what the saves among these actions leave
+-- by the sequential meaning, and nothing else has changed.
+pub record HasDoneOver (work : WorkData) (before after : FilesState)
+    (histories : List JobHistory) (k : ℕ) : Type 0 where
+  pub progress : Progress
+  pub come : HasCome work (first_progress work) histories progress
+  pub at : progress.actions ≡ k
+  pub left : HaveLeft work (first_progress work) histories progress come before after
+  pub later : IsLaterFiles before after
+  pub saved : (opening : Tree) → before.shown ≡ Some opening → AreApart work.script opening
+      → after.shown ≡ Some (saved_by work k opening)
+
+-- the first k actions are done, and the next one came to no end: how the files stand then
+pub record EndsOver (work : WorkData) (before after : FilesState) (histories : List JobHistory)
+    (k : ℕ) (why : OrMemory JobFault) : Type 0 where
+  pub front : List JobHistory
+  pub mid : FilesState
+  pub done : HasDoneOver work before mid front k
+  pub more : List JobHistory
+  pub all : histories ≡ front ++ more
+  pub over : StopsFiles work k mid after why
+
+-- ---- how it ends
+
 -- memory ran out: some actions are printed, and the jobs of these are done and perhaps those of one
 -- more, which wasn't printed
-pub record CutsShort (work : WorkData) (before after : SinkState) (histories : List JobHistory)
-    : Type 0 where
+pub record CutsShort (work : WorkData) (before after : SinkState) (files then : FilesState)
+    (histories : List JobHistory) : Type 0 where
   pub k : ℕ
   pub printed : HasPrinted work before after k
   pub actions : ℕ
   pub printed_all : k ≤ actions
   pub but_one : actions ≤ k + 1
-  pub jobs : IsCutShort work actions histories
+  pub jobs : IsHalted work actions histories
+  pub over : EndsOver work files then histories actions OutOfMemory
 
--- What the printing of a work's actions answers, by what the sink has then taken and by how the
--- jobs went: all actions have their texts; a job for the next one was aborted; its results have no
--- value together; the sink failed; or memory ran out.
-abbrev pub Prints : WorkData → SinkState → SinkState → Result (Unit {0}) (OrMemory PrintFault)
-    → List JobHistory → Type 0
-Prints work before after (Ok done) histories =
-    PrintsAll work before after × HasDone work histories (length work.script.actions)
-Prints work before after (Err (Fault (Aborted k abort))) histories =
+-- What the running of a work's actions answers, by what the sink has then taken, by how the jobs
+-- went, and by what these left of the files: all actions have their texts; a job for the next one
+-- was aborted; its directory was there, or a call on its files failed; its results have no value
+-- together; the sink failed; or memory ran out.
+abbrev pub Prints : WorkData → SinkState → SinkState → FilesState → FilesState
+    → Result (Unit {0}) (OrMemory PrintFault) → List JobHistory → Type 0
+Prints work before after files then (Ok done) histories =
+    PrintsAll work before after
+    × HasDoneOver work files then histories (length work.script.actions)
+Prints work before after files then (Err (Fault (Aborted k abort))) histories =
     HasPrinted work before after k × IsAborted work k histories abort
-Prints work before after (Err (Fault (Driver k fault))) histories =
-    StopsAtDriver work before after k fault × HasDone work histories (k + 1)
-Prints work before after (Err (Fault Write)) histories =
-    (stops : StopsAtWrite work before after) × HasDone work histories (stops.k + 1)
-Prints work before after (Err OutOfMemory) histories =
-    CutsShort work before after histories
+    × EndsOver work files then histories k (Fault (faults.Aborted abort))
+Prints work before after files then (Err (Fault (Exists k path))) histories =
+    HasPrinted work before after k × HasDone work histories k
+    × EndsOver work files then histories k (Fault (faults.Exists path))
+Prints work before after files then (Err (Fault (Device k path))) histories =
+    HasPrinted work before after k × IsHalted work k histories
+    × EndsOver work files then histories k (Fault (faults.Device path))
+Prints work before after files then (Err (Fault (Driver k fault))) histories =
+    StopsAtDriver work before after k fault × HasDoneOver work files then histories (k + 1)
+Prints work before after files then (Err (Fault Write)) histories =
+    (stops : StopsAtWrite work before after)
+    × HasDoneOver work files then histories (stops.k + 1)
+Prints work before after files then (Err OutOfMemory) histories =
+    CutsShort work before after files then histories
 
 -- the text of an action, where it isn't empty, was taken by one write
 pub record PrintsText (text : List ℕ) (before after : SinkState) : Type 0 where
@@ -95,6 +138,8 @@ abbrev pub Writes : List ℕ → SinkState → SinkState → Result (Unit {0}) (
     → Type 0
 Writes text before after (Ok done) = PrintsText text before after
 Writes text before after (Err (Fault (Aborted k abort))) = ⊥
+Writes text before after (Err (Fault (Exists k path))) = ⊥
+Writes text before after (Err (Fault (Device k path))) = ⊥
 Writes text before after (Err (Fault (Driver k fault))) = ⊥
 Writes text before after (Err (Fault Write)) = FailsInText text before after
 Writes text before after (Err OutOfMemory) = after ≡ before
@@ -125,25 +170,50 @@ pub record PrintsNext (work : WorkData) (before after : SinkState) (c next : Con
   pub prints_so : action_text work action ≡ Some text
   pub printed : PrintsText text before after
   pub one_more : next.progress.actions ≡ c.progress.actions + 1
+  pub more : List JobHistory
+  pub all : next.histories ≡ c.histories ++ more
+  pub come : HasCome work c.progress more next.progress
+  pub left : HaveLeft work c.progress more next.progress come c.files next.files
+
+-- the jobs of the next action are done
+pub record GoesOneFurther (work : WorkData) (c : ContextData) (histories : List JobHistory)
+    (files : FilesState) : Type 0 where
+  pub next : Progress
+  pub one_more : next.actions ≡ c.progress.actions + 1
+  pub more : List JobHistory
+  pub all : histories ≡ c.histories ++ more
+  pub come : HasCome work c.progress more next
+  pub left : HaveLeft work c.progress more next come c.files files
 
 -- what is told where a context ran no further
-abbrev pub fault_of : ℕ → OrMemory Abort → OrMemory PrintFault
-fault_of k (Fault abort) = Fault (Aborted k abort)
+abbrev pub fault_of : ℕ → OrMemory JobFault → OrMemory PrintFault
+fault_of k (Fault (faults.Aborted abort)) = Fault (Aborted k abort)
+fault_of k (Fault (faults.Exists path)) = Fault (Exists k path)
+fault_of k (Fault (faults.Device path)) = Fault (Device k path)
 fault_of k OutOfMemory = OutOfMemory
 
--- what ends the printing at the next action, by how the jobs went
-abbrev pub StopsNext : WorkData → SinkState → SinkState → ℕ → OrMemory PrintFault
-    → List JobHistory → Type 0
-StopsNext work before after k (Fault (Aborted n abort)) histories =
-    (n ≡ k) × (after ≡ before) × IsAborted work k histories abort
-StopsNext work before after k (Fault (Driver n fault)) histories =
-    (n ≡ k) × (after ≡ before) × HasDone work histories (k + 1)
-    × ((action : ActionData) × (slice_get work.script.actions k ≡ Some action)
-    × (action_outcome work action ≡ faults fault))
-StopsNext work before after k (Fault Write) histories =
-    HasDone work histories (k + 1)
-    × ((text : List ℕ) × (action : ActionData) × (slice_get work.script.actions k ≡ Some action)
+-- What ends the running at the next action, by how the jobs went and by what they left of the
+-- files.
+abbrev pub StopsNext : WorkData → SinkState → SinkState → ContextData → FilesState
+    → OrMemory PrintFault → List JobHistory → Type 0
+StopsNext work before after c files (Fault (Aborted n abort)) histories =
+    (n ≡ c.progress.actions) × (after ≡ before)
+    × Stops work c (Fault (faults.Aborted abort)) histories files
+StopsNext work before after c files (Fault (Exists n path)) histories =
+    (n ≡ c.progress.actions) × (after ≡ before)
+    × Stops work c (Fault (faults.Exists path)) histories files
+StopsNext work before after c files (Fault (Device n path)) histories =
+    (n ≡ c.progress.actions) × (after ≡ before)
+    × Stops work c (Fault (faults.Device path)) histories files
+StopsNext work before after c files (Fault (Driver n fault)) histories =
+    (n ≡ c.progress.actions) × (after ≡ before) × GoesOneFurther work c histories files
+    × ((action : ActionData) × (slice_get work.script.actions c.progress.actions ≡ Some action)
+    × (action_outcome work action ≡ faulty fault))
+StopsNext work before after c files (Fault Write) histories =
+    GoesOneFurther work c histories files
+    × ((text : List ℕ) × (action : ActionData)
+    × (slice_get work.script.actions c.progress.actions ≡ Some action)
     × (action_outcome work action ≡ prints text) × FailsInText text before after)
-StopsNext work before after k OutOfMemory histories =
+StopsNext work before after c files OutOfMemory histories =
     (after ≡ before)
-    × ((n : ℕ) × IsCutShort work n histories × (k ≤ n) × (n ≤ k + 1))
+    × (Stops work c OutOfMemory histories files ⊎ GoesOneFurther work c histories files)

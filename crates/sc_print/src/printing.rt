@@ -2,63 +2,89 @@
 #![tactic(auto)]
 
 ghost use Rattle.std.specs.Prelude.{◌≡◌, ◌<◌, ◌≤◌, IfErr, IfOk, length};
+ghost use Rattle.sc_base.specs.Outside.{IsLaterFiles};
 ghost use Rattle.sc_context.specs.Contexts.{new_context};
 ghost use Rattle.sc_print.specs.Printing.{Prints, PrintsNext, StopsNext, fault_of};
 
 use crate::faults::PrintFault;
 use crate::writing::write_value;
 use sc_base::OrMemory;
-use sc_context::{Context, Given, Stopped};
-use sc_core::{Abort, JobHistory};
-use sc_lineage::Work;
+use sc_context::{Context, Given, JobFault, Stopped};
+use sc_core::JobHistory;
+use sc_files::Files;
+use sc_lineage::{Work, meaning_is_lawful};
 use sc_sink::Sink;
 use sc_work::{Naming, SharedWork};
-use std::alloc::{AllocError, Global};
+use std::alloc::{AllocFailed, Global};
 
-/// How the printing of a work's actions went.
+/// How the running of a work's actions went.
 #[derive(Drop)]
-pub struct Printed {
+pub struct Printed<F: Files> {
     /// Whether all were printed, or what ended it.
     pub end: Result<(), OrMemory<PrintFault>>,
     /// How the jobs went, in order.
     pub histories: Vec<JobHistory>,
+    /// The files that saves wrote to.
+    pub files: F,
 }
 
 /// Runs a work's actions in order, and writes their texts to the sink, each by one write where it
 /// isn't empty.
 ///
-/// It ends with the first action of which a job is aborted or whose results have no value, a
-/// failure of the sink, or want of memory; the texts of the actions before it stand.
-pub fn print_work<W: Naming, K: Sink>(alloc: Global, work: Work, sink: &mut K) -> Printed
+/// It ends with the first action of which a job is aborted, whose directory is there already, for
+/// which a call on the files failed, or whose results have no value; with a failure of the sink; or
+/// with want of memory. The texts and the saved directories of the actions before it stand.
+pub fn print_work<W: Naming, K: Sink, F: Files>(
+    alloc: Global,
+    work: Work,
+    files: F,
+    sink: &mut K,
+) -> Printed<F>
     requires named { work ≡ W.work }
     ensures later { (K.state sink.old).faults ≤ (K.state sink.new).faults }
-    ensures prints { Prints W.work (K.state sink.old) (K.state sink.new) result.end
-        result.histories.items }
+    ensures files_later { IsLaterFiles (F.state files) (F.state result.files) }
+    ensures prints { Prints W.work (K.state sink.old) (K.state sink.new) (F.state files)
+        (F.state result.files) result.end result.histories.items }
 {
-    match new_context::<W>(alloc, work) {
+    match new_context::<W, F>(alloc, work, files) {
         Ok(context) => print_actions(alloc, context, sink),
-        Err(_) => Printed {
+        Err(failed) => Printed {
             end: Err(OrMemory::OutOfMemory),
             histories: Vec::new(alloc),
+            files: failed.value,
         },
     }
 }
 
 /// A context of a work in which no job has run.
-fn new_context<W: Naming>(alloc: Global, work: Work) -> Result<Context<W>, AllocError>
+fn new_context<W: Naming, F: Files>(
+    alloc: Global,
+    work: Work,
+    files: F,
+) -> Result<Context<W, F>, AllocFailed<F>>
     requires named { work ≡ W.work }
-    ensures { IfOk result (λ c. c ≡ new_context W.work) }
+    ensures new { IfOk result (λ c. c ≡ new_context W.work (F.state files)) }
+    ensures back { IfErr result (λ failed. F.state failed.value ≡ F.state files) }
 {
-    Context::new(alloc, SharedWork::of(alloc, work)?)
+    match SharedWork::of(alloc, work) {
+        Ok(shared) => Context::new(alloc, shared, files),
+        Err(_) => Err(AllocFailed { value: files }),
+    }
 }
 
 /// Prints the actions of a work from the first on.
-fn print_actions<W: Naming, K: Sink>(alloc: Global, first: Context<W>, sink: &mut K) -> Printed
-    requires { first ≡ new_context W.work }
+fn print_actions<W: Naming, K: Sink, F: Files>(
+    alloc: Global,
+    first: Context<W, F>,
+    sink: &mut K,
+) -> Printed<F>
+    requires { first ≡ new_context W.work first.files }
     ensures later { (K.state sink.old).faults ≤ (K.state sink.new).faults }
-    ensures prints { Prints W.work (K.state sink.old) (K.state sink.new) result.end
-        result.histories.items }
+    ensures files_later { IsLaterFiles first.files (F.state result.files) }
+    ensures prints { Prints W.work (K.state sink.old) (K.state sink.new) first.files
+        (F.state result.files) result.end result.histories.items }
 {
+    meaning_is_lawful();
     let actions = first.work().get().script().actions().len();
     let mut context = first;
     while (context.actions() as usize) < actions {
@@ -68,62 +94,82 @@ fn print_actions<W: Naming, K: Sink>(alloc: Global, first: Context<W>, sink: &mu
                 return Printed {
                     end: Err(stop.why),
                     histories: stop.histories,
+                    files: stop.files,
                 };
             }
         }
     }
     context.is_sound();
+    let (histories, files) = context.into_parts();
     Printed {
         end: Ok(()),
-        histories: context.into_histories(),
+        histories,
+        files,
     }
 }
 
-/// Why no more actions are printed, and how the jobs went.
+/// Why no more actions are printed, how the jobs went, and the files.
 #[derive(Drop)]
-struct Stop {
+struct Stop<F: Files> {
     why: OrMemory<PrintFault>,
     histories: Vec<JobHistory>,
+    files: F,
 }
 
 /// Runs the next action, and writes its text.
-fn print_action<W: Naming, K: Sink>(
+fn print_action<W: Naming, K: Sink, F: Files>(
     alloc: Global,
-    context: Context<W>,
+    context: Context<W, F>,
     sink: &mut K,
-) -> Result<Context<W>, Stop>
+) -> Result<Context<W, F>, Stop<F>>
     requires within { context.progress.actions < length W.work.script.actions }
     ensures later { (K.state sink.old).faults ≤ (K.state sink.new).faults }
     ensures prints { IfOk result
         (PrintsNext W.work (K.state sink.old) (K.state sink.new) context) }
     ensures stops { IfErr result (λ s. StopsNext W.work (K.state sink.old) (K.state sink.new)
-        context.progress.actions s.why s.histories.items) }
+        context (F.state s.files) s.why s.histories.items) }
 {
     let action = context.actions();
     match context.run_action(alloc) {
         Ok(Given { context, value }) => match write_value(action, &value, sink) {
             Ok(()) => Ok(context),
             Err(why) => {
-                context.is_sound();
+                let (histories, files) = context.into_parts();
                 Err(Stop {
                     why,
-                    histories: context.into_histories(),
+                    histories,
+                    files,
                 })
             }
         },
-        Err(Stopped { why, histories }) => Err(Stop {
+        Err(
+            Stopped {
+                why,
+                histories,
+                files,
+            },
+        ) => Err(Stop {
             why: fault_of(action, why),
             histories,
+            files,
         }),
     }
 }
 
 /// What is told where a context ran no further.
-fn fault_of(action: u32, why: OrMemory<Abort>) -> OrMemory<PrintFault>
+fn fault_of(action: u32, why: OrMemory<JobFault>) -> OrMemory<PrintFault>
     ensures { result ≡ fault_of action why }
 {
     match why {
-        OrMemory::Fault(abort) => OrMemory::Fault(PrintFault::Aborted { action, abort }),
+        OrMemory::Fault(JobFault::Aborted(abort)) => {
+            OrMemory::Fault(PrintFault::Aborted { action, abort })
+        }
+        OrMemory::Fault(JobFault::Exists(path)) => {
+            OrMemory::Fault(PrintFault::Exists { action, path })
+        }
+        OrMemory::Fault(JobFault::Device(path)) => {
+            OrMemory::Fault(PrintFault::Device { action, path })
+        }
         OrMemory::OutOfMemory => OrMemory::OutOfMemory,
     }
 }

@@ -5,6 +5,7 @@
 #![tactic(auto)]
 
 use sc_app::{Status, fault_text, run};
+use sc_files::HostFiles;
 use sc_input::HostSource;
 use sc_sink::StdSink;
 use std::process::ExitCode;
@@ -28,7 +29,8 @@ fn start<R: Runtime + AllocGlobal>(rt: &R) -> io::Result<Status> {
     }
     let mut source = HostSource::new(rt.clone()?);
     let mut sink = StdSink::new(rt.clone()?);
-    let ran = run(rt, rt.alloc(), &words, &mut source, &mut sink);
+    let files = HostFiles::new(rt.clone()?);
+    let ran = run(rt, rt.alloc(), &words, &mut source, &mut sink, files);
     Ok(ran.status)
 }
 

@@ -1,6 +1,8 @@
 use Rattle.sc_app.proofs.AbortLemmas.{tells_no_failure}
+use Rattle.sc_app.proofs.AloneLemmas.{alone}
 use Rattle.sc_app.proofs.ExactlyLemmas.{tells_fault, tells_not_text, tells_plan_fault}
 use Rattle.sc_app.proofs.WithoutTextLemmas.{tells_driver_fault, tells_never}
+use Rattle.sc_app.proofs.ExistsLemmas.{tells_exists}
 use Rattle.sc_app.proofs.GoodLemmas.{ends_well, zero_means_text}
 use Rattle.sc_app.proofs.JobLemmas.{zero_shows_jobs}
 use Rattle.sc_app.proofs.SourceLemmas.{over_out, over_weaker}
@@ -25,14 +27,20 @@ returns-clause-histories g c =
     (λ before after is. zero_shows_jobs c.scripts_have_one_reading.ensures
     c.plans_have_one_reading.ensures _ _ _ is) _ _ c.run_words-status.ensures.run
 
+pub returns-clause-alone : goal.returns-clause-alone
+returns-clause-alone g c =
+    over_out _ _ _
+    (λ before after is. alone c.grants_are_sole.ensures.sole c.grants_are_sole.ensures.winners
+    _ _ _ is) _ _ c.run_words-status.ensures.run
+
 pub returns-clause-ends : goal.returns-clause-ends
 returns-clause-ends g c =
     over_weaker _ _ _ (λ before after is. is.ends) _ _ c.run_words-status.ensures.run
 
 pub returns-clause-good : goal.returns-clause-good
 returns-clause-good g c =
-    over_weaker _ _ _ (λ before after is. ends_well _ _ _ is.ends) _ _
-    c.run_words-status.ensures.run
+    over_weaker _ _ _ (λ before after is. ends_well c.meaning_is_lawful.ensures.saves
+    c.laws_of_names.ensures.within _ _ _ is.ends) _ _ c.run_words-status.ensures.run
 
 pub returns-clause-usage : goal.returns-clause-usage
 returns-clause-usage g c =
@@ -54,6 +62,13 @@ returns-clause-never_exactly g c =
     over_out _ _ _
     (λ before after is. tells_never c.scripts_have_one_reading.ensures
     c.plans_have_one_reading.ensures _ _ _ is.ends) _ _ c.run_words-status.ensures.run
+
+pub returns-clause-exists_exactly : goal.returns-clause-exists_exactly
+returns-clause-exists_exactly g c =
+    over_weaker _ _ _
+    (λ before after is. tells_exists c.scripts_have_one_reading.ensures
+    c.plans_have_one_reading.ensures c.meaning_is_lawful.ensures.saves
+    c.laws_of_names.ensures.within _ _ _ is) _ _ c.run_words-status.ensures.run
 
 pub returns-clause-driver_exactly : goal.returns-clause-driver_exactly
 returns-clause-driver_exactly g c =

@@ -17,7 +17,7 @@ returns-in-Err-clause-run g c =
     c.read_script.new.reads.items (Err c.in-Err.stop)) c.requires.empty c.in-Err.ensures.script in
     rw c.status_of_script.ensures (λ words is. script-stops words c.args.command is
     c.args.history.now.items c.requires.none before after (g.K.Sink.state c.args.sink.now)
-    c.read_script.new.reads.items c.in-Err.stop taken)
+    (g.F.Files.state c.args.files) c.read_script.new.reads.items c.in-Err.stop taken)
 
 pub returns-in-Err-read_plan-clause-run : goal.returns-in-Err-read_plan-clause-run
 returns-in-Err-read_plan-clause-run g c =
@@ -29,8 +29,8 @@ returns-in-Err-read_plan-clause-run g c =
     rw c.status_of_plan.ensures (λ words is. plan-stops words c.args.command is
     c.args.history.now.items c.requires.none start mid c.in-Ok.ensures.later
     c.read_script.new.reads.items taken.0 taken.1 c.in-Ok.script taken.2 after
-    (g.K.Sink.state c.args.sink.now) c.read_plan.new.reads.items c.in-Err-read_plan.stop
-    c.in-Err-read_plan.ensures.plan)
+    (g.K.Sink.state c.args.sink.now) (g.F.Files.state c.args.files) c.read_plan.new.reads.items
+    c.in-Err-read_plan.stop c.in-Err-read_plan.ensures.plan)
 
 pub returns-in-Err-read_work-clause-run : goal.returns-in-Err-read_work-clause-run
 returns-in-Err-read_work-clause-run g c =
@@ -47,7 +47,7 @@ returns-in-Err-read_work-clause-run g c =
     rw c.status_of_input.ensures (λ words is. inputs-stop words c.args.command is start before
     c.read_plan.new.reads.items c.in-Ok.script c.in-Ok-read_plan.plan began
     c.args.history.now.items c.requires.none after (g.K.Sink.state c.args.sink.now)
-    c.read_work.new.reads.items c.in-Err-read_work.stop
+    (g.F.Files.state c.args.files) c.read_work.new.reads.items c.in-Err-read_work.stop
     c.in-Err-read_work.ensures.work)
 
 pub returns-in-Ok-end-clause-run : goal.returns-in-Ok-end-clause-run
@@ -63,16 +63,18 @@ returns-in-Ok-end-clause-run g c =
     c.in-Ok-read_plan.ensures.later taken.1 taken.2 c.in-Ok-read_plan.ensures.plan in
     let after = g.S.Source.state c.read_work.new.source in
     let sink = g.K.Sink.state c.args.sink.now in
-    let sink' = g.K.Sink.state c.print_work-printed.new.sink in
+    let sink' = g.K.Sink.state c.print_work-end.new.sink in
+    let files = g.F.Files.state c.args.files in
+    let files' = g.F.Files.state c.print_work-end.result.files in
     let work = c.in-Ok-read_work.work in
-    let histories = c.print_work-printed.result.histories.items in
-    let prints = subst (λ (r : Result (Unit {0}) (OrMemory PrintFault)). Prints work sink sink' r
-    histories) c.in-Ok-end.is c.print_work-printed.ensures.prints in
+    let histories = c.print_work-end.result.histories.items in
+    let prints = subst (λ (r : Result (Unit {0}) (OrMemory PrintFault)). Prints work sink sink'
+    files files' r histories) c.in-Ok-end.is c.print_work-end.ensures.prints in
     λ words is. run-done words c.args.command is start before c.read_plan.new.reads.items
     c.in-Ok.script c.in-Ok-read_plan.plan began after c.read_work.new.reads.items work
     c.in-Ok-read_work.ensures.work.0 c.in-Ok-read_work.ensures.work.1
     c.in-Ok-read_work.ensures.work.2 c.in-Ok-read_work.ensures.work.3 c.is_sound.ensures histories
-    sink sink' prints.0 prints.1
+    sink sink' files files' prints.0 prints.1
 
 pub returns-clause-run : goal.returns-clause-run
 returns-clause-run g c =
@@ -87,14 +89,16 @@ returns-clause-run g c =
     c.in-Ok-read_plan.ensures.later taken.1 taken.2 c.in-Ok-read_plan.ensures.plan in
     let after = g.S.Source.state c.read_work.new.source in
     let sink = g.K.Sink.state c.args.sink.now in
-    let sink' = g.K.Sink.state c.print_work-printed.new.sink in
+    let sink' = g.K.Sink.state c.print_work-end.new.sink in
+    let files = g.F.Files.state c.args.files in
+    let files' = g.F.Files.state c.print_work-end.result.files in
     let work = c.in-Ok-read_work.work in
-    let histories = c.print_work-printed.result.histories.items in
-    let prints = subst (λ (r : Result (Unit {0}) (OrMemory PrintFault)). Prints work sink sink' r
-    histories) c.in-Err-end.is c.print_work-printed.ensures.prints in
+    let histories = c.print_work-end.result.histories.items in
+    let prints = subst (λ (r : Result (Unit {0}) (OrMemory PrintFault)). Prints work sink sink'
+    files files' r histories) c.in-Err-end.is c.print_work-end.ensures.prints in
     rw c.status_of_print.ensures (λ words is. printing-stops words c.args.command is start before
     c.read_plan.new.reads.items c.in-Ok.script c.in-Ok-read_plan.plan began after
     c.read_work.new.reads.items work c.in-Ok-read_work.ensures.work.0
     c.in-Ok-read_work.ensures.work.1 c.in-Ok-read_work.ensures.work.2
-    c.in-Ok-read_work.ensures.work.3 c.is_sound.ensures histories sink sink' c.in-Err-end.stop
-    prints)
+    c.in-Ok-read_work.ensures.work.3 c.is_sound.ensures histories sink sink' files files'
+    c.in-Err-end.stop prints)

@@ -10,7 +10,8 @@ returns-in-Ok-new-clause-run g c =
     runs_over _ _ _
     (λ before after. IsRunOf c.args.command c.run_script.new.reads.items
     c.run_script.new.history.items (outside_of before (g.K.Sink.state c.args.sink.now))
-    (outside_of after (g.K.Sink.state c.run_script.new.sink)) c.run_script.result)
+    (outside_of after (g.K.Sink.state c.run_script.new.sink)) (g.F.Files.state c.args.files)
+    (g.F.Files.state c.run_script.result.1) c.run_script.result.0)
     (c.in-Ok-new.ensures
     ∙ ap (λ script. new_files script c.args.workload.seed c.args.workload.size) c.in-Ok.ensures)
     c.run_script.ensures.later c.run_script.ensures.run

@@ -1,4 +1,4 @@
-use Rattle.sc_print.proofs.EndLemmas.{context-stops, next-printed, next-stops}
+use Rattle.sc_print.proofs.NextLemmas.{context-stops, next-printed, next-stops}
 use Rattle.sc_print.proofs.printing.print_action.Goals as goal
 
 pub returns-in-Ok-write_value-clause-prints : goal.returns-in-Ok-write_value-clause-prints
@@ -10,16 +10,18 @@ returns-in-Ok-write_value-clause-prints g c =
 
 pub returns-in-Ok-clause-stops : goal.returns-in-Ok-clause-stops
 returns-in-Ok-clause-stops g c =
-    rw c.into_histories.ensures
-    (next-stops g.W.Naming.work (g.K.Sink.state c.args.sink.now)
+    let parts = c.into_parts-histories in
+    next-stops g.W.Naming.work (g.K.Sink.state c.args.sink.now)
     (g.K.Sink.state c.write_value.new.sink) c.args.context c.in-Ok.field-0.context
     c.requires.within c.actions-action.result c.actions-action.ensures c.in-Ok.field-0.value
-    c.in-Ok.ensures.given c.is_sound.ensures.come c.in-Err-write_value.why
-    c.in-Err-write_value.ensures.value)
+    c.in-Ok.ensures.given parts.result.0.items (g.F.Files.state parts.result.1)
+    parts.ensures.histories parts.ensures.files c.in-Err-write_value.why
+    c.in-Err-write_value.ensures.value
 
 pub returns-clause-stops : goal.returns-clause-stops
 returns-clause-stops g c =
     rw c.fault_of.ensures
     (context-stops g.W.Naming.work (g.K.Sink.state c.args.sink.now) c.args.context
     c.actions-action.result c.actions-action.ensures c.in-Err.field-0.why
-    c.in-Err.field-0.histories.items c.in-Err.ensures.stops)
+    c.in-Err.field-0.histories.items (g.F.Files.state c.in-Err.field-0.files)
+    c.in-Err.ensures.stops)

@@ -1,0 +1,100 @@
+-- In each job of a run attempts are authorised alone.
+use Rattle.std.proofs.Common.{◌≡◌, ◌⊎◌, ℕ, inl, inr, List, [], ◌∷◌, All, refl, sym, subst}
+use Rattle.std.proofs.lemmas.List.Elements.{All-append, All-cons, All-nil}
+use Rattle.sc_core.specs.declared.journals.JobHistory.{JobHistory}
+use Rattle.sc_history.specs.Committing.{GrantsAreSole, WinnersCommit}
+use Rattle.sc_lineage.specs.ScriptData.{WorkData}
+use Rattle.sc_jobs.specs.JobData.{saves}
+use Rattle.sc_jobs.specs.declared.goals.Goal.{Goal}
+use Rattle.sc_context.specs.Aborts.{IsHalted}
+use Rattle.sc_context.specs.Histories.{HasCome, HasGone, IsHistory}
+use Rattle.sc_context.specs.Progress.{Progress, first_progress}
+use Rattle.sc_app.specs.declared.ran.Status.{Status}
+use Rattle.sc_app.specs.declared.ran.Status.TheVariants as statuses
+use Rattle.sc_app.specs.Ends.{NothingRan, NothingWritten, StandsBehind}
+use Rattle.sc_app.specs.Handed.{IsRun, RanAllJobs}
+use Rattle.sc_app.specs.Promises.{Ends, IsAuthorisedAlone}
+use Rattle.sc_app.specs.Runs.{RunData}
+
+module _ (sole : GrantsAreSole) (winners : WinnersCommit) where
+  -- in a job that went so
+  alone-in : (work : WorkData) (p : Progress) (goal : Goal) (h : JobHistory)
+      → IsHistory work p goal h → IsAuthorisedAlone h
+  alone-in work p goal h is =
+      record {
+        sole = λ first more c a b parts replays one other same.
+            sole h.opening c first a b replays one other same;
+        winners = λ partition winner won.
+            winners is.graph work.limits (saves work goal) work.plan p.last h.opening h.end
+            h.entries.items partition winner is.opening is.began is.replays won;
+      }
+
+  -- in jobs that were done
+  alone-come : (work : WorkData) (p : Progress) (histories : List JobHistory) (q : Progress)
+      → HasCome work p histories q → All IsAuthorisedAlone histories
+  alone-come work p [] q come = All-nil IsAuthorisedAlone
+  alone-come work p (h ∷ histories) q (mid, done, come) =
+      All-cons IsAuthorisedAlone h histories (alone-in work p done.goal h done.is)
+      (alone-come work mid histories q come)
+
+  -- and in one more
+  alone-gone : (work : WorkData) (histories : List JobHistory) (p : Progress) (goal : Goal)
+      (h : JobHistory) → HasGone work histories p goal h → All IsAuthorisedAlone histories
+  alone-gone work histories p goal h gone =
+      subst (λ hs. All IsAuthorisedAlone hs) (sym gone.all)
+      (All-append IsAuthorisedAlone gone.before (h ∷ [])
+      (alone-come work (first_progress work) gone.before p gone.come)
+      (All-cons IsAuthorisedAlone h [] (alone-in work p goal h gone.is)
+      (All-nil IsAuthorisedAlone)))
+
+  alone-halted : (work : WorkData) (k : ℕ) (histories : List JobHistory)
+      → IsHalted work k histories → All IsAuthorisedAlone histories
+  alone-halted work k histories (inl (p, at, inl come)) =
+      alone-come work (first_progress work) histories p come
+  alone-halted work k histories (inl (p, at, inr (goal, h, gone, kept))) =
+      alone-gone work histories p goal h gone
+  alone-halted work k histories (inr (is, (abort, aborted))) =
+      alone-gone work histories aborted.progress aborted.goal aborted.history aborted.gone
+
+  -- where no job was begun
+  alone-none : (histories : List JobHistory) → histories ≡ [] → All IsAuthorisedAlone histories
+  alone-none histories none =
+      subst (λ hs. All IsAuthorisedAlone hs) (sym none) (All-nil IsAuthorisedAlone)
+
+  alone-by : (run : RunData) (history : List JobHistory) (status : Status)
+      → Ends run history status → (status ≡ statuses.Done → RanAllJobs run history)
+      → All IsAuthorisedAlone history
+  alone-by run history statuses.Done ends jobs = done (jobs refl)
+    where
+      done : RanAllJobs run history → All IsAuthorisedAlone history
+      done (work, read, over) =
+          alone-come work (first_progress work) history over.progress over.come
+  alone-by run history statuses.Usage ends jobs = alone-none history ends.nothing_ran
+  alone-by run history (statuses.Script fault) ends jobs = alone-none history ends.nothing_ran
+  alone-by run history (statuses.Plan fault) ends jobs = alone-none history ends.nothing_ran
+  alone-by run history (statuses.Input name missing) ends jobs =
+      alone-none history ends.nothing_ran
+  alone-by run history (statuses.Aborted abort) ends jobs =
+      let aborted = ends.aborted in
+      alone-gone ends.work history aborted.progress aborted.goal aborted.history aborted.gone
+  alone-by run history (statuses.DriverFault k fault) ends jobs =
+      alone-come ends.work (first_progress ends.work) history ends.jobs.progress ends.jobs.come
+  alone-by run history (statuses.OutputExists dir) ends jobs =
+      alone-come ends.work (first_progress ends.work) history ends.jobs.0 ends.jobs.1
+  alone-by run history (statuses.Device path) ends jobs =
+      alone-halted ends.work ends.k history ends.jobs
+  alone-by run history statuses.WriteFault ends jobs =
+      alone-come ends.work (first_progress ends.work) history ends.jobs.progress ends.jobs.come
+  alone-by run history statuses.OutOfMemory ends jobs = by ends.stands
+    where
+      by : (NothingWritten run × NothingRan history) ⊎ StandsBehind run history
+          → All IsAuthorisedAlone history
+      by (inl nothing) = alone-none history nothing.1
+      by (inr behind) =
+          alone-halted behind.work behind.stands.actions history behind.stands.jobs
+  alone-by run history (statuses.NotText name) ends jobs = alone-none history ends.nothing_ran
+
+  -- however a run ended
+  pub alone : (run : RunData) (history : List JobHistory) (status : Status)
+      → IsRun run history status → All IsAuthorisedAlone history
+  alone run history status is = alone-by run history status is.ends is.jobs
