@@ -1,15 +1,30 @@
 -- The worlds that tests begin are worlds of a job that begins.
-use Rattle.std.proofs.Common.{None}
+use Rattle.std.proofs.Common.{◌≡◌, List, None, Option, subst, sym}
+use Rattle.std.specs.Prelude.{IfSome}
+use Rattle.sc_base.specs.Outside.{FilesState}
+use Rattle.sc_base.specs.Trees.{Path}
 use Rattle.sc_lineage.specs.ScriptData.{WorkData}
 use Rattle.sc_jobs.specs.declared.goals.Goal.TheVariants as goals
 use Rattle.sc_desk.specs.DeskData.{DeskData, core_of}
-use Rattle.sc_world.specs.Runs.{AreReady}
+use Rattle.sc_desk.specs.Files.{FilesGoOn, FilesStand, dir_of_job}
+use Rattle.sc_store.specs.StoreData.{StoreData}
+use Rattle.sc_world.specs.Runs.{AreReady, idle_world}
+use Rattle.sc_world.specs.WorldData.{WorldData}
 use Rattle.sc_context.specs.Starts.{new_stores}
 use Rattle.sc_context.proofs.ReadyLemmas.{ready_opening}
 use Rattle.sc_context.proofs.StartLemmas.{fresh_ready}
-use Rattle.sc_rows.specs.Worlds.{IsFirstDesk}
+use Rattle.sc_rows.specs.Worlds.{IsFirstDesk, IsNewlyOpened}
 
 pub first_ready : (work : WorkData) (desk : DeskData) → IsFirstDesk work desk
     → AreReady work (new_stores work) (core_of desk).dag.tracker (core_of desk).told
 first_ready work desk (passed, begins) =
     ready_opening work (new_stores work) passed None (goals.Action 0) desk (fresh_ready work) begins
+
+-- and the files of that job stand, where both directories of a save were just made
+pub first_stands : FilesGoOn → (work : WorkData) (desk : DeskData) (stores : List StoreData)
+    (w : WorldData) (dir : Option Path) (files : FilesState) → IsFirstDesk work desk
+    → w ≡ idle_world work desk stores → dir ≡ dir_of_job work (goals.Action 0)
+    → IfSome dir (λ d. IfSome files.shown (IsNewlyOpened d)) → FilesStand work w.desk dir files
+first_stands laws work desk stores w dir files (passed, begins) idle same opened =
+    subst (λ (x : WorldData). FilesStand work x.desk dir files) (sym idle)
+    (laws.begun work passed None (goals.Action 0) desk dir files begins same opened)

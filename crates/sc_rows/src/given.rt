@@ -3,6 +3,7 @@
 
 use sc_app::{Ran, fault_text, run};
 use sc_core::JobHistory;
+use sc_files::{Files, MemFiles};
 use sc_input::MemSource;
 use sc_sink::MemSink;
 use sc_value::{Name, Octets};
@@ -23,6 +24,7 @@ pub struct Row {
     words: Vec<String>,
     source: MemSource,
     sink: MemSink,
+    saved: MemFiles,
 }
 
 impl Row {
@@ -46,6 +48,7 @@ impl Row {
             words: words_of(alloc, words).expect(rt, "memory"),
             source: MemSource::new(alloc),
             sink: MemSink::new(alloc),
+            saved: MemFiles::new(alloc),
         }
     }
 
@@ -88,20 +91,37 @@ impl Row {
         self
     }
 
+    /// Makes a directory where saves go, with a file in it.
+    pub fn taken<R: Abort>(mut self, rt: &R, dir: &str) -> Row {
+        let made = Name::new(self.alloc, dir).expect(rt, "memory");
+        let _ = self.saved.make(&made);
+        let path = format!(in self.alloc; "{dir}/old").expect(rt, "memory");
+        let path = Name::new(self.alloc, path.as_str()).expect(rt, "memory");
+        let _ = self.saved.write(&path, b"old");
+        self
+    }
+
+    /// Makes a call of a save fail; the first of all has the number 1.
+    pub fn failing_call<R: Abort>(mut self, rt: &R, call: u64) -> Row {
+        self.saved.fail_at(call).expect(rt, "memory");
+        self
+    }
+
     /// Runs.
-    pub fn run<R>(mut self, rt: &R) -> Seen {
-        let ran = run(
-            rt,
-            self.alloc,
-            &self.words,
-            &mut self.source,
-            &mut self.sink,
-        );
+    pub fn run<R>(self, rt: &R) -> Seen {
+        let Row {
+            alloc,
+            words,
+            mut source,
+            mut sink,
+            saved,
+        } = self;
+        let ran = run(rt, alloc, &words, &mut source, &mut sink, saved);
         Seen {
-            alloc: self.alloc,
+            alloc,
             ran,
-            source: self.source,
-            sink: self.sink,
+            source,
+            sink,
         }
     }
 }
@@ -119,7 +139,7 @@ pub fn words_of(alloc: Global, words: &[&str]) -> Result<Vec<String>, AllocError
 #[derive(Drop)]
 pub struct Seen {
     alloc: Global,
-    ran: Ran,
+    ran: Ran<MemFiles>,
     source: MemSource,
     sink: MemSink,
 }
@@ -133,6 +153,11 @@ impl Seen {
     /// The number of how the run ended.
     pub fn number(&self) -> u8 {
         self.ran.status.number()
+    }
+
+    /// The directories and files that stand.
+    pub fn saved(&self) -> &MemFiles {
+        &self.ran.files
     }
 
     /// How its jobs went, in order.

@@ -15,6 +15,7 @@
 use crate::works::{INPUT, halves, source_of, words_of};
 use sc_app::{Status, fault_text, run};
 use sc_core::JobHistory;
+use sc_files::MemFiles;
 use sc_sink::MemSink;
 use std::process::Abort;
 use std::str;
@@ -79,7 +80,8 @@ fn seen_of<R: Abort + AllocGlobal>(rt: &R, script: &str, plan: &str, words: &str
     let mut source = source_of(rt, script, plan, INPUT);
     let mut sink = MemSink::new(rt.alloc());
     let words = words_of(rt, words);
-    let ran = run(rt, rt.alloc(), &words, &mut source, &mut sink);
+    let files = MemFiles::new(rt.alloc());
+    let ran = run(rt, rt.alloc(), &words, &mut source, &mut sink, files);
     Seen {
         end: end_of(rt, sink.bytes(), &ran.status),
         history: history_of(rt, ran.history.as_slice()),

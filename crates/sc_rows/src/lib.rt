@@ -62,6 +62,8 @@ mod raises;
 #[cfg(test)]
 mod readers;
 #[cfg(test)]
+mod saved_runs;
+#[cfg(test)]
 mod saves;
 #[cfg(test)]
 mod sequences;
@@ -83,6 +85,8 @@ mod words;
 mod works;
 #[cfg(test)]
 mod world_lines;
+#[cfg(test)]
+mod world_saves;
 #[cfg(test)]
 mod worlds;
 #[cfg(test)]

@@ -5,27 +5,35 @@
 //! of executor 0 that was seen. Unlike a run, a world takes its steps in any order.
 #![tactic(auto)]
 
-ghost use Rattle.std.specs.Prelude.{◌≡◌, ◌<◌, length};
+ghost use Rattle.std.specs.Prelude.{◌≡◌, ◌<◌, IfSome, length};
 ghost use Rattle.sc_context.specs.Starts.{new_stores};
 ghost use Rattle.sc_jobs.specs.JobData.{goal_node};
 ghost use Rattle.sc_jobs.specs.declared.goals.Goal.TheVariants as goals;
+ghost use Rattle.std.specs.Option.{option_map};
+ghost use Rattle.sc_lineage.specs.Saves.{dir_of_action};
 ghost use Rattle.sc_lineage.specs.ScriptData.{node_of_action};
 ghost use Rattle.sc_lineage.specs.Views.{action_data_of};
-ghost use Rattle.sc_rows.specs.Worlds.{IsFirstDesk};
+ghost use Rattle.sc_desk.specs.Files.{dir_of_job};
+ghost use Rattle.sc_rows.specs.Worlds.{IsFirstDesk, IsNewlyOpened};
+ghost use Rattle.sc_staging.specs.Outputs.{output_dir, output_files};
 ghost use Rattle.sc_stagecut.specs.Carrying.{HasBounds};
 
+use crate::files::standing;
 use crate::transcripts::{at, numbers_of};
 use crate::works::{INPUT, halves, work_of};
 use sc_compute::TaskResult;
-use sc_desk::{Desk, Passed};
+use sc_desk::{Desk, Passed, files_go_on};
+use sc_files::{Files, MemFiles};
 use sc_jobs::Goal;
 use sc_lineage::{Action, NodeId, Work};
 use sc_plan::{Order, OrderKind};
 use sc_stagecut::{Carried, unbounded_sort};
+use sc_staging::{Opened, Output, Staging};
 use sc_store::Store;
+use sc_value::Name;
 use sc_work::{Naming, SharedWork};
 use sc_world::{Applied, Step, World};
-use std::marker::Brand;
+use std::marker::{Brand, Model};
 use std::process::Abort;
 
 /// A count of words in two partitions: stage 0 makes two map outputs, and stage 1 reads them for
@@ -38,23 +46,83 @@ c = reduceByKey p 2 (+ a b)
 collect c
 "#;
 
-/// The world of the first action of a work, which reads no sort.
-fn world_of<W: Naming, R: Abort + AllocGlobal>(rt: &R, work: Work) -> World<W>
+/// A world, and the files of its job.
+#[derive(Drop)]
+struct Going<W: Naming, F: Files> {
+    world: World<W>,
+    output: Output<F>,
+}
+
+impl<W: Naming, F: Files> Model for Going<W, F> {
+    ghost use Rattle.sc_world.specs.Files.{OutputStands};
+    ghost use Rattle.sc_world.specs.WorldData.{WorldData, world_code};
+
+    ghost Value = { WorldData };
+
+    ghost coded = { world_code };
+
+    ghost view = { λ g. g.world };
+
+    ghost invariant = { λ g. OutputStands W.work g.world F.state g.output };
+}
+
+/// The world of the first action of a work, which reads no sort, and the files of its job.
+fn world_of<W: Naming, F: Files, R: Abort + AllocGlobal>(
+    rt: &R,
+    work: Work,
+    files: F,
+) -> Going<W, F>
     requires { work ≡ W.work }
 {
+    files_go_on();
     let work = SharedWork::<W>::of(rt.alloc(), work).expect(rt, "memory");
     let desk = desk_of(rt, &work);
     desk.core().is_sound();
     let stores = new_stores(rt, &work);
+    let output = output_of(rt, &work, files);
     let Ok(world) = World::begin(rt.alloc(), desk, stores) else {
         panic!(rt; "memory")
     };
-    world
+    Going { world, output }
+}
+
+/// The files of the job of the first action: where that saves, its directory is made.
+fn output_of<W: Naming, F: Files, R: Abort + AllocGlobal>(
+    rt: &R,
+    work: &SharedWork<W>,
+    files: F,
+) -> Output<F>
+    requires some { 0 < length W.work.script.actions }
+    ensures dir { output_dir result ≡ dir_of_job W.work (goals.Action 0) }
+    ensures opened { IfSome (output_dir result)
+        (λ dir. IfSome (output_files F.state result).shown (IsNewlyOpened dir)) }
+{
+    work.is_named();
+    match saved_dir(&work.get().script().actions()[0]) {
+        Some(dir) => match Staging::open(rt.alloc(), files, dir) {
+            Opened::Staging(staging) => Output::Save(staging),
+            Opened::Exists { .. } | Opened::Device { .. } | Opened::NoMemory { .. } => {
+                panic!(rt; "no directory")
+            }
+        },
+        None => Output::Nothing(files),
+    }
+}
+
+/// The directory that an action saves to, if it saves.
+fn saved_dir(action: &Action) -> Option<&Name>
+    ensures { option_map (λ n. n.now) result ≡ dir_of_action (action_data_of action.now) }
+{
+    match action {
+        Action::Save { dir, .. } => Some(dir),
+        Action::Collect { .. } | Action::Count { .. } | Action::Reduce { .. } => None,
+    }
 }
 
 /// The desk of the first action of a work, which reads no sort.
 fn desk_of<W: Naming, R: Abort + AllocGlobal>(rt: &R, work: &SharedWork<W>) -> Desk<W>
-    ensures { IsFirstDesk W.work result }
+    ensures first { IsFirstDesk W.work result }
+    ensures some { 0 < length W.work.script.actions }
 {
     work.is_named();
     work.get().is_sound();
@@ -121,6 +189,12 @@ fn step_of(words: &str, numbers: &[u32]) -> Step {
         Step::Compute { exec }
     } else if words.starts_with("put ") {
         Step::Put { exec }
+    } else if words.starts_with("stage ") {
+        Step::Stage { exec }
+    } else if words.starts_with("ask ") {
+        Step::Ask { exec }
+    } else if words.starts_with("move ") {
+        Step::Move { exec }
     } else if words.starts_with("post ") {
         Step::Post { exec }
     } else if words.starts_with("lose ") {
@@ -129,7 +203,11 @@ fn step_of(words: &str, numbers: &[u32]) -> Step {
         Step::Wipe(Order {
             exec,
             number: at(numbers, 1),
-            kind: OrderKind::Drop,
+            kind: if words.ends_with(" of a loss") {
+                OrderKind::Lose
+            } else {
+                OrderKind::Drop
+            },
         })
     }
 }
@@ -142,7 +220,7 @@ fn told_of<W: Naming, R: Abort + AllocGlobal>(
 ) -> String {
     let alloc = rt.alloc();
     let told = match applied {
-        Applied::Told(_) => {
+        Applied::Told(_) | Applied::Noted(_) => {
             let entry = world.desk().entries().last().expect(rt, "an entry");
             format!(in alloc; "{entry}")
         }
@@ -159,54 +237,64 @@ fn told_of<W: Naming, R: Abort + AllocGlobal>(
 }
 
 /// What the line of these words is answered.
-fn answer_of<W: Naming, R: Abort + AllocGlobal>(
+fn answer_of<W: Naming, F: Files, R: Abort + AllocGlobal>(
     rt: &R,
-    world: &mut World<W>,
+    going: &mut Going<W, F>,
     words: &str,
 ) -> String {
     let numbers = numbers_of(rt, words);
     if words.starts_with("seen ") {
-        let seen = world.desk().seen(at(numbers.as_slice(), 0));
+        let seen = going.world.desk().seen(at(numbers.as_slice(), 0));
         return format!(in rt.alloc(); "{seen}").expect(rt, "memory");
     }
     let step = step_of(words, numbers.as_slice());
-    let applied = world.apply(rt.alloc(), step).expect(rt, "memory");
-    told_of(rt, world, &applied)
+    let applied = going.world.apply(rt.alloc(), &mut going.output, step);
+    told_of(rt, &going.world, &applied.expect(rt, "memory"))
 }
 
-/// The lines as they are answered, one after the other, and behind them the results that are there.
+/// The lines as they are answered, one after the other, and behind them the results that are there
+/// and the directories and files that stand.
 fn answers_of<W: Naming, R: Abort + AllocGlobal>(rt: &R, work: Work, lines: String) -> String
     requires { work ≡ W.work }
 {
-    let mut world = world_of::<W, R>(rt, work);
-    let mut told = replayed(rt, &mut world, lines.as_str());
-    push_results(rt, &world, &mut told);
+    let mut going = world_of::<W, MemFiles, R>(rt, work, MemFiles::new(rt.alloc()));
+    let mut told = replayed(rt, &mut going, lines.as_str());
+    push_results(rt, &going.world, &mut told);
+    let Going { output, .. } = going;
+    push_files(rt, &output.close(), &mut told);
     told
 }
 
 /// The lines as they are answered, one after the other.
-fn replayed<W: Naming, R: Abort + AllocGlobal>(
+fn replayed<W: Naming, F: Files, R: Abort + AllocGlobal>(
     rt: &R,
-    world: &mut World<W>,
+    going: &mut Going<W, F>,
     lines: &str,
 ) -> String {
     let mut told = String::new(rt.alloc());
     for line in lines.lines() {
-        tell(rt, world, line, &mut told);
+        tell(rt, going, line, &mut told);
     }
     told
 }
 
 /// Lets the step of a line happen, and writes the line with its answer.
-fn tell<W: Naming, R: Abort + AllocGlobal>(
+fn tell<W: Naming, F: Files, R: Abort + AllocGlobal>(
     rt: &R,
-    world: &mut World<W>,
+    going: &mut Going<W, F>,
     line: &str,
     told: &mut String,
 ) {
     let (words, _) = halves(line, ": ");
-    let answer = answer_of(rt, world, words);
+    let answer = answer_of(rt, going, words);
     writeln!(told, "{words}: {answer}").expect(rt, "memory");
+}
+
+/// Writes the directories and files that stand.
+fn push_files<R: Abort + AllocGlobal>(rt: &R, files: &MemFiles, told: &mut String) {
+    let stands = String::from_utf8(standing(rt, files)).ok();
+    told.push_str(stands.expect(rt, "a text").as_str())
+        .expect(rt, "memory");
 }
 
 /// Writes the results that are there.
@@ -228,11 +316,16 @@ fn results_of<W: Naming, R: Abort + AllocGlobal>(rt: &R, world: &World<W>) -> St
 
 /// Sees that a case holds of the world of a word count over two lines.
 pub fn assert_world<R: Abort + AllocGlobal>(rt: &R, case: &str) {
+    assert_world_of(rt, WORD_COUNT, INPUT, case);
+}
+
+/// Sees that a case holds of the world of the first action of a script, over this text of `in.txt`.
+pub fn assert_world_of<R: Abort + AllocGlobal>(rt: &R, script: &str, input: &str, case: &str) {
     let (label, rest) = halves(case, "\n");
     let (word, rest) = halves(rest, "\n");
     let (plan, rest) = halves(rest, "----\n");
     let (lines, results) = halves(rest, "----\n");
-    let work = work_of(rt, WORD_COUNT, plan, word, INPUT);
+    let work = work_of(rt, script, plan, word, input);
     let steps = String::from_str(rt.alloc(), lines).expect(rt, "memory");
     let seen = answers_of::<Brand, R>(rt, work, steps);
     let want = format!(in rt.alloc(); "{lines}{results}").expect(rt, "memory");
