@@ -4,8 +4,9 @@
 #
 #   tools/check_examples.sh
 #
-# An example is a folder of examples/, with one case or more. A case NAME is a script NAME.spark,
-# which is run in that folder with the words 'run NAME.spark', or with those of NAME_args.txt, one a
+# An example is a folder of examples/, with one case or more, which are run in a copy of it, one after
+# the other. A case NAME is a script NAME.spark, which is run with the words 'run NAME.spark', or with
+# those of NAME_args.txt, one a
 # line, where that file is there. A case may be NAME_args.txt alone, which then names the script of
 # another case; that of the case job is args.txt. A line of these files may hold any bytes. Compared
 # are
@@ -13,6 +14,7 @@
 #   the standard output   with NAME_expect.txt, or with nothing
 #   the standard error    with NAME_expect_err.txt, or with nothing
 #   the exit status       with NAME_expect_status.txt, or with 0
+#   what was saved        with the folders of NAME_expect_saved, where that is there
 #
 # and for the case job with expect.txt and so on. Where there is output.txt, the standard output of
 # the case job goes to the file that it names, such as /dev/full, and isn't compared; the case is
@@ -73,17 +75,33 @@ difference() {
     echo "differs: the standard output"
   elif ! cmp -s "$scratch/err" "$want_err"; then
     echo "differs: the standard error is $(cat "$scratch/err")"
+  else
+    unsaved "${prefix}expect_saved"
   fi
+}
+
+# What differs of the folders that this folder has, or nothing.
+unsaved() {
+  local saved
+  for saved in "$1"/*/; do
+    [ -d "$saved" ] || continue
+    if ! diff -r "$saved" "$(basename "$saved")" >/dev/null 2>&1; then
+      echo "differs: what was saved in $(basename "$saved")"
+    fi
+  done
 }
 
 result=0
 for folder in "$top"/examples/*/; do
-  cd "$folder" || exit 1
+  cp -r "$folder" "$scratch/run"
+  cd "$scratch/run" || exit 1
   for name in $(cases); do
     found=$(difference "$name")
     echo "examples/$(basename "$folder") $name: ${found:-as expected}"
     case $found in differs*) result=1 ;; esac
   done
+  cd "$top" || exit 1
+  rm -rf "$scratch/run"
 done
 
 if command -v python3 >/dev/null 2>&1; then

@@ -10,6 +10,9 @@ it means. Must hold:
 
 - status 0: the standard output is exactly the text of all actions;
 - status 9: exactly the driver's fault that the meaning has, behind the texts before it;
+- status 10: exactly where an action saves to a directory that is there, as it stood;
+- each saved directory has exactly the parts of the meaning and _SUCCESS, and beside these there is
+  nothing but the empty directory of a save that was aborted;
 - an abort: the texts of some actions, whole, and a cause. Of status 6 that is a raise, or as many
   'fail' lines of the partition as failures are allowed; of 7 as many wipes and losses as attempts
   of a stage are; of 8 a 'lose' line of each executor;
@@ -29,9 +32,12 @@ import shlex
 import subprocess
 import sys
 import tempfile
-from dataclasses import dataclass
+from dataclasses import dataclass, field
 
 from fuzzing.cases import Case, random_case
+
+# The directories that stand, with the bytes of their files.
+Folders = dict[str, dict[str, bytes]]
 
 LIMIT = 60
 NO_END = 124
@@ -50,12 +56,26 @@ class Ran:
     status: int
     out: str
     err: str
+    saved: Folders = field(default_factory=dict)
 
 
 def put_files(case: Case, folder: pathlib.Path) -> None:
     folder.mkdir(parents=True, exist_ok=True)
     for name, content in case.files.items():
         (folder / name).write_bytes(content)
+    for name in case.script.there:
+        (folder / name).mkdir(parents=True)
+        (folder / name / "old").write_bytes(b"old")
+
+
+def folders_in(top: pathlib.Path) -> Folders:
+    """The directories under a folder that have no other one in them, with their files."""
+    found: Folders = {}
+    for path in sorted(top.rglob("*")):
+        if path.is_dir() and not any(inner.is_dir() for inner in path.iterdir()):
+            files = {inner.name: inner.read_bytes() for inner in path.iterdir()}
+            found[str(path.relative_to(top))] = files
+    return found
 
 
 def run(program: pathlib.Path, case: Case) -> Ran:
@@ -74,8 +94,33 @@ def run(program: pathlib.Path, case: Case) -> Ran:
             )
         except subprocess.TimeoutExpired:
             return Ran(NO_END, "", f"no end within {LIMIT} seconds")
+        saved = folders_in(pathlib.Path(scratch))
     out, err = (text.decode(errors="replace") for text in (ran.stdout, ran.stderr))
-    return Ran(ran.returncode, out, err)
+    return Ran(ran.returncode, out, err, saved)
+
+
+def saved_by(case: Case, done: int) -> Folders:
+    """The directories that stand behind the first actions."""
+    saved: Folders = {name: {"old": b"old"} for name in case.script.there}
+    for outcome in case.script.outcomes[:done]:
+        if outcome.folder:
+            parts = {f"part-{n:05}": part.encode() for n, part in enumerate(outcome.parts)}
+            saved[outcome.folder] = {"_SUCCESS": b"", **parts}
+    return saved
+
+
+def wrong_folders(case: Case, ran: Ran, texts: list[str]) -> str:
+    """What is wrong with the directories that stand, behind actions that have these texts."""
+    outcomes = case.script.outcomes
+    least = len(outcomes) if ran.status == 0 else 0
+    for done in range(least, len(texts) + 1):
+        if ran.out != "".join(texts[:done]):
+            continue
+        want = saved_by(case, done)
+        begun = outcomes[done].folder if done < len(outcomes) else ""
+        if ran.saved == want or (begun and ran.saved == {begun: {}, **want}):
+            return ""
+    return f"these directories stand: {ran.saved}"
 
 
 def texts_of(case: Case) -> list[str]:
@@ -111,22 +156,28 @@ def wrong(case: Case, ran: Ran) -> str:
     """What is wrong with a run, in words, or nothing."""
     if case.refusal is not None:
         is_told = (ran.status, ran.err, ran.out) == (*case.refusal, "")
-        return "" if is_told else f"the refusal isn't {case.refusal}"
+        return wrong_folders(case, ran, []) if is_told else f"the refusal isn't {case.refusal}"
     texts, outcomes = texts_of(case), case.script.outcomes
     last = outcomes[len(texts)] if len(texts) < len(outcomes) else None
-    doom = case.doom() if outcomes else None
+    doom = case.doom() if outcomes and not outcomes[0].is_taken else None
     if doom not in (None, (ran.status, ran.err)):
         return f"it isn't aborted with {doom}"
     if ran.status in ABORTS:
-        return wrong_abort(case, ran, texts, last is not None and last.fault is None)
+        is_raised = last is not None and last.fault is None
+        return wrong_abort(case, ran, texts, is_raised) or wrong_folders(case, ran, texts)
     status, err = 0, ""
     if last is not None:
-        if last.fault is None:
+        if last.is_taken:
+            status, err = 10, f"output exists: {last.folder}\n"
+        elif last.fault is None:
             return "the status isn't 6, and an action raises"
-        status, err = 9, f"driver: action {len(texts)}: {last.fault}\n"
+        else:
+            status, err = 9, f"driver: action {len(texts)}: {last.fault}\n"
     if (ran.status, ran.err) != (status, err):
         return f"the status isn't {status} with the error {err!r}"
-    return "" if ran.out == "".join(texts) else f"the text isn't {''.join(texts)!r}"
+    if ran.out != "".join(texts):
+        return f"the text isn't {''.join(texts)!r}"
+    return wrong_folders(case, ran, texts)
 
 
 def shown(case: Case) -> str:

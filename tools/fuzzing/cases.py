@@ -26,6 +26,9 @@ SCRIPT_FAULTS = (
     ("reduce {} (+ x x)", "UnknownName"),
     ("{} = parallelize 1 1", "Twice"),
     ("count {} # all", "Syntax"),
+    ('save {} ""', "Syntax"),
+    ('save {} "out/"', "Syntax"),
+    ("save {} out", "Syntax"),
 )
 PLAN_FAULTS = (
     ("crash 0 1", "UnknownName"),

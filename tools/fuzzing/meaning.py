@@ -40,11 +40,13 @@ class Node:
 
 @dataclass(frozen=True)
 class Action:
-    """collect, count or reduce of a node; the last by an expression over a and b."""
+    """collect, count, reduce or save of a node: reduce by an expression over a and b, and save to a
+    directory."""
 
     name: str
     node: int
     expr: Expr = 0
+    folder: str = ""
 
 
 @dataclass(frozen=True)
@@ -60,10 +62,14 @@ Streams = list[Stream]
 
 @dataclass(frozen=True)
 class Outcome:
-    """What an action gives: a text, a fault of the driver, or neither where a partition raises."""
+    """What an action gives: a text, a fault of the driver, or neither where a partition raises. A
+    save has its directory, and the text of each part where it isn't refused."""
 
     text: str | None = None
     fault: str | None = None
+    folder: str = ""
+    parts: tuple[str, ...] = ()
+    is_taken: bool = False
 
 
 def fold_by(expr: Expr) -> Fold:
@@ -232,9 +238,13 @@ def result_of(action: Action, stream: Stream) -> Rows:
 def outcome_of(action: Action, streams: Streams) -> Outcome:
     """What an action gives, from the streams of its node."""
     try:
-        rows = [row for stream in streams for row in result_of(action, stream)]
+        results = [result_of(action, stream) for stream in streams]
     except Raised:
-        return Outcome()
+        return Outcome(folder=action.folder)
+    rows = [row for result in results for row in result]
+    if action.name == "save":
+        parts = ("".join(f"{printed(row)}\n" for row in result) for result in results)
+        return Outcome("", folder=action.folder, parts=tuple(parts))
     if action.name == "collect":
         return Outcome("".join(f"{printed(row)}\n" for row in rows))
     if action.name == "count":

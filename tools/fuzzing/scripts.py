@@ -4,7 +4,7 @@ A script is made line by line, and each line is kept with its meaning. One whose
 grow too large is taken back.
 """
 import random
-from dataclasses import dataclass, field
+from dataclasses import dataclass, field, replace
 
 from fuzzing.exprs import Exprs, Type, depth_of, is_keyed, is_pair, type_size, written
 from fuzzing.meaning import Action, Node, Outcome, Streams, outcome_of, streams_of
@@ -35,6 +35,7 @@ SHAPES = {
     "cogroup": "N",
     "join": "N",
 }
+FOLDERS = ("out", "o2", "o3", "o4", "above/one", "above/two", "é")
 BY_KEY = ("reduceByKey", "groupByKey", "sortByKey", "cogroup", "join")
 OPERATIONS = ("text", "parallelize", "map", "coalesce", "repartition", "repartition", *SHAPES)
 MET = ("union", "cogroup", "join")
@@ -67,9 +68,14 @@ class Script:
     types: list[Type] = field(default_factory=list)
     streams: list[Streams] = field(default_factory=list)
     outcomes: list[Outcome] = field(default_factory=list)
+    # The directories that are there when the script begins.
+    there: list[str] = field(default_factory=list)
 
     def __post_init__(self) -> None:
         self.exprs = Exprs(self.rng, self.risk)
+        self.saves = self.rng.choice((0, 0, 0.2, 0.5))
+        if self.saves and self.rng.random() < 0.3:
+            self.there = [self.rng.choice(FOLDERS)]
         self.usual_count = self.rng.choice((1, 2, 2, 3, 4))
 
     def count(self) -> int:
@@ -195,17 +201,21 @@ class Script:
         """One action more, likewise."""
         node = self.pick([True] * len(self.names))
         name = self.rng.choice(("collect", "collect", "count", "reduce", "reduce"))
-        kind, expr = self.types[node], 0
+        kind, expr, folder = self.types[node], 0, ""
+        if self.saves and self.rng.random() < self.saves:
+            name, folder = "save", self.rng.choice(FOLDERS)
         if name == "reduce":
             expr = self.folding(kind)
         try:
-            outcome = outcome_of(Action(name, node, expr), self.streams[node])
+            outcome = outcome_of(Action(name, node, expr, folder), self.streams[node])
         except TooLarge:
             return
         if not is_short(written(expr), expr):
             return
-        words = [name, self.names[node], *([written(expr)] if name == "reduce" else [])]
-        self.lines.append(" ".join(words))
+        behind = {"reduce": [written(expr)], "save": [written(folder)]}.get(name, [])
+        self.lines.append(" ".join([name, self.names[node], *behind]))
+        if folder in self.there + [it.folder for it in self.outcomes if it.folder]:
+            outcome = replace(outcome, text=None, is_taken=True)
         self.outcomes.append(outcome)
 
 
