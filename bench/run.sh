@@ -82,12 +82,41 @@ measure_job() {
     measure "$scratch/ours" "${ours[@]}"
     measure "$scratch/theirs" "${theirs[@]}"
   done
-  awk -v job="$job" -v mb="$megabytes" \
+  print_row "$job" "$megabytes"
+}
+
+# Prints the row of a job over a file of a size, by what was measured of both programs.
+print_row() {
+  awk -v job="$1" -v mb="$2" \
     -v a="$(median "$scratch/ours")" -v b="$(median "$scratch/theirs")" \
     -v m="$(peak "$scratch/ours")" -v n="$(peak "$scratch/theirs")" 'BEGIN {
       printf "| %s | %d | %.3f | %.3f | %.2f | %.0f | %.0f |\n",
         job, mb, a / 1e6, b / 1e6, a / b, m / 1024, n / 1024
     }'
+}
+
+# Measures a save over a file of a size in the folder that it is called in, and prints its row. Each
+# run makes the directory `saved`, which is taken away before the next.
+measure_save() {
+  local megabytes=$1 round
+  local ours=("$program" run ../../jobs/save.spark)
+  local theirs=("$plain" save lines.txt)
+  rm -rf saved "$scratch/saved" "$scratch/ours" "$scratch/theirs"
+  "${ours[@]}" && mv saved "$scratch/saved" && "${theirs[@]}"
+  if ! diff -r "$scratch/saved" saved >/dev/null; then
+    echo "| save | $megabytes | the outputs differ | | | | |"
+    result=1
+    rm -rf saved
+    return
+  fi
+  for ((round = 0; round < rounds; round++)); do
+    rm -rf saved
+    measure "$scratch/ours" "${ours[@]}"
+    rm -rf saved
+    measure "$scratch/theirs" "${theirs[@]}"
+  done
+  rm -rf saved
+  print_row save "$megabytes"
 }
 
 # Measures a word count by four executors under a fault plan, in the folder that it is called in,
@@ -132,6 +161,7 @@ for megabytes in "$@"; do
   for job in "${jobs[@]}"; do
     measure_job "$job" "$megabytes" lines.txt
   done
+  measure_save "$megabytes"
 done
 mkdir -p "$here/data/25" "$here/data/10"
 cd "$here/data/25"

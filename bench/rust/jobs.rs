@@ -1,7 +1,11 @@
 //! The jobs, one function each.
 
 use crate::lines::{lines, number, words};
-use std::io::{self, Write};
+use std::fs;
+use std::io::{self, BufWriter, Write};
+
+/// Into how many parts `save` writes.
+const PARTS: usize = 8;
 
 /// How often the four operations of `lineage` are taken in turn.
 const ROUNDS: usize = 12;
@@ -20,6 +24,21 @@ pub fn concat(text: &str, out: &mut impl Write) -> io::Result<()> {
         out.write_all(b"!\n")?;
     }
     Ok(())
+}
+
+/// Each line and "!" in eight parts of a directory, each of which is on its device before the next.
+pub fn save(text: &str, folder: &str) -> io::Result<()> {
+    let all: Vec<&str> = lines(text).collect();
+    fs::create_dir(folder)?;
+    for part in 0..PARTS {
+        let mut out = BufWriter::new(fs::File::create(format!("{folder}/part-{part:05}"))?);
+        for line in &all[part * all.len() / PARTS..(part + 1) * all.len() / PARTS] {
+            out.write_all(line.as_bytes())?;
+            out.write_all(b"!\n")?;
+        }
+        out.into_inner()?.sync_all()?;
+    }
+    fs::File::create(format!("{folder}/_SUCCESS"))?.sync_all()
 }
 
 /// Three times the number of each line, and one more.

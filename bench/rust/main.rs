@@ -20,6 +20,7 @@ fn main() -> io::Result<()> {
     let mut out = BufWriter::new(io::stdout().lock());
     match job.as_str() {
         "concat" => jobs::concat(&text, &mut out)?,
+        "save" => jobs::save(&text, "saved")?,
         "sums" => jobs::sums(&text, &mut out)?,
         "pairs" => jobs::pairs(&text, &mut out)?,
         "choice" => jobs::choice(&text, &mut out)?,
