@@ -1,6 +1,11 @@
 //! Nodes and actions.
 #![tactic(auto)]
 
+ghost use Rattle.std.specs.Prelude.{◌≡◌};
+ghost use Rattle.std.specs.Option.{option_map};
+ghost use Rattle.sc_lineage.specs.Saves.{dir_of_action};
+ghost use Rattle.sc_lineage.specs.Views.{action_data_of};
+
 use sc_columns::Rows;
 use sc_expr::{Expr, Raise};
 use sc_value::Name;
@@ -143,6 +148,18 @@ pub enum Action {
         /// The directory.
         dir: Name,
     },
+}
+
+impl Action {
+    /// The directory that it saves to, if it saves.
+    pub fn saves_to(&self) -> Option<&Name>
+        ensures { option_map (λ n. n.now) result ≡ dir_of_action (action_data_of self.now) }
+    {
+        match self {
+            Action::Save { dir, .. } => Some(dir),
+            Action::Collect { .. } | Action::Count { .. } | Action::Reduce { .. } => None,
+        }
+    }
 }
 
 /// Why the results of an action have no value, though no partition raises.
