@@ -1,5 +1,5 @@
 -- The files of a job, as far as its journal tells of them.
-use Rattle.std.specs.Prelude.{ℕ, ◌≡◌, ◌<◌, true, List, Option, Some, None, IfSome, length, map, slice_get}
+use Rattle.std.specs.Prelude.{ℕ, ◌≡◌, ◌<◌, true, List, [], ◌∷◌, ◌++◌, Option, Some, None, IfSome, length, map, slice_get}
 use Rattle.std.specs.List.{filter_map}
 use Rattle.std.specs.Option.{option_map}
 use Rattle.sc_base.specs.Outside.{FilesState}
@@ -10,6 +10,9 @@ use Rattle.sc_lineage.specs.Saves.{dir_of_action}
 use Rattle.sc_lineage.specs.ScriptData.{WorkData}
 use Rattle.sc_ids.specs.declared.attempts.AttemptId.{AttemptId}
 use Rattle.sc_ids.specs.declared.attempts.Mark.{Mark}
+use Rattle.sc_ids.specs.declared.failures.Counts.{Counts}
+use Rattle.sc_ids.specs.declared.failures.Fault.{Fault}
+use Rattle.sc_files.specs.Calls.{counts_of}
 use Rattle.sc_output.specs.Calls.{IsOpen}
 use Rattle.sc_output.specs.Names.{IsWithinTypes}
 use Rattle.sc_staging.specs.Done.{Deed, Done, HasFiles, HaveRenamed, broke, done_by, renamed, text_of, wrote}
@@ -62,6 +65,40 @@ deed_in event answer = None
 -- what was done by attempts in the entries of a journal, in order
 abbrev pub deeds_of : List Entry → List Done
 deeds_of entries = filter_map (λ e. deed_in e.event e.answer) entries
+
+-- ---- which of these failed
+
+-- the fault that a call on the files was, as an answer tells
+abbrev pub fault_by : SideAnswer → Option Fault
+fault_by (sides.Fault fault) = Some fault
+fault_by said = None
+
+abbrev pub fault_in_side : SideEvent → SideAnswer → Option Fault
+fault_in_side (Stage attempt outcome) said = fault_by said
+fault_in_side (Move attempt outcome) said = fault_by said
+fault_in_side event said = None
+
+-- the fault that an entry tells of, if it tells of one
+abbrev pub fault_in : Event → Answer → Option Fault
+fault_in (Side event) (says.Side said) = fault_in_side event said
+fault_in event answer = None
+
+-- the faults that the entries of a journal tell of, in order
+abbrev pub faults_of : List Entry → List Fault
+faults_of entries = filter_map (λ e. fault_in e.event e.answer) entries
+
+-- from these counts to those nothing was counted but these faults: each begins with what was
+-- counted up to the one before
+abbrev pub AreCounted : Counts → List Fault → Counts → Type 0
+AreCounted from [] to = to ≡ from
+AreCounted from (fault ∷ faults) to = (fault.before ≡ from) × AreCounted fault.after faults to
+
+-- From one moment of a desk to a later one the files have counted just the faults that its journal
+-- tells of since.
+pub record CountsGoOn (d after : DeskData) (before then : FilesState) : Type 0 where
+  pub faults : List Fault
+  pub told : faults_of after.journal.entries ≡ faults_of d.journal.entries ++ faults
+  pub counted : AreCounted (counts_of before) faults (counts_of then)
 
 -- ---- which files stand
 

@@ -11,7 +11,7 @@ use Rattle.sc_staging.specs.declared.parts.Written.{Written}
 use Rattle.sc_staging.specs.declared.parts.Written.TheVariants as ends
 use Rattle.sc_core.specs.Saving.{is_given, is_granted, saver_phase}
 use Rattle.sc_core.specs.declared.answers.SideAnswer.{SideAnswer}
-use Rattle.sc_core.specs.declared.answers.SideAnswer.TheVariants.{Fault}
+use Rattle.sc_core.specs.declared.answers.SideAnswer.TheVariants.{Fault, Moved, Staged}
 use Rattle.sc_core.specs.declared.events.FileOutcome.{FileOutcome}
 use Rattle.sc_core.specs.declared.events.FileOutcome.TheVariants.{Done, Failed}
 use Rattle.sc_core.specs.declared.events.SideEvent.TheVariants.{Move, Stage}
@@ -29,6 +29,13 @@ abbrev pub CallsIf : Bool → Call → FilesState → FilesState → FileOutcome
 CallsIf true call before after Done = EndsPart call before after ends.Done
 CallsIf true call before after (Failed fault) = EndsPart call before after (ends.Failed fault)
 CallsIf false call before after outcome = (outcome ≡ Done) × (after ≡ before)
+
+-- what a call for a part leaves, by what its attempt is answered: where that was over none was made
+abbrev pub CallsAs : Call → FilesState → FilesState → SideAnswer → Type 0
+CallsAs call before after Staged = EndsPart call before after ends.Done
+CallsAs call before after Moved = EndsPart call before after ends.Done
+CallsAs call before after (Fault fault) = EndsPart call before after (ends.Failed fault)
+CallsAs call before after said = after ≡ before
 
 -- an answer has its evidence: that a call failed is told only where a count rose
 abbrev pub IsEvidentAnswer : SideAnswer → Type 0
