@@ -1,3 +1,4 @@
+pub mod JournalLemmas
 pub mod AsideLemmas
 pub mod OrderLemmas
 pub mod DueLemmas
@@ -15,7 +16,9 @@ pub mod ShelfLemmas
 pub mod EndLemmas
 pub mod PostLemmas
 pub mod ReleaseLemmas
+pub mod LeaveLemmas
 pub mod BeginLemmas
 pub mod DeedLemmas
 pub mod PartLemmas
+pub mod CountLemmas
 pub mod FilesLemmas

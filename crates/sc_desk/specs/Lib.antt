@@ -1,5 +1,6 @@
 pub mod Orders
 pub mod DeskData
+pub mod Leaving
 pub mod Saving
 pub mod Shelves
 pub mod Dues

@@ -11,6 +11,7 @@ ghost use Rattle.sc_desk.specs.Begins.{Begins, FitsLast, IsFresh, IsHandedBack, 
 ghost use Rattle.sc_desk.specs.Sound.{IsSoundDesk, result_count};
 
 use crate::desks::Desk;
+use crate::journals::DeskJournal;
 use crate::passes::Passed;
 use sc_compute::TaskResult;
 use sc_core::{Core, Journal};
@@ -67,7 +68,7 @@ impl<W: Naming> Desk<W> {
 #[derive(Drop)]
 struct Opened<W: Naming> {
     job: Job<W>,
-    journal: Journal,
+    journal: DeskJournal,
     results: Vec<Option<TaskResult>>,
 }
 
@@ -104,7 +105,7 @@ fn open_job<W: Naming>(
 /// A journal that begins, with places for the results of its job.
 #[derive(Drop)]
 struct Begun {
-    journal: Journal,
+    journal: DeskJournal,
     results: Vec<Option<TaskResult>>,
 }
 
@@ -134,7 +135,7 @@ fn journal_of<W: Naming>(
     work: &SharedWork<W>,
     job: &Job<W>,
     last: Option<&Core>,
-) -> Result<Journal, AllocError>
+) -> Result<DeskJournal, AllocError>
     requires fits { FitsLast W.work (option_map (λ l. l.now) last) }
     requires live { HasLive (tracker_behind (option_map (λ l. l.now) last) W.work.limits) }
     ensures fresh { IfOk result (λ j. IsFresh job.now.graph W.work.limits
@@ -150,7 +151,7 @@ fn journal_of<W: Naming>(
     let opening = Core::open(alloc, job.graph(), limits, saving, plan, last)?;
     let core = Core::open(alloc, job.graph(), limits, saving, plan, last)?;
     core.is_sound();
-    Ok(Journal::begin(alloc, opening, core))
+    DeskJournal::of(alloc, Journal::begin(alloc, opening, core))
 }
 
 /// What the core before keeps, where there is one.
@@ -163,7 +164,7 @@ fn are_sound(last: Option<&Core>)
 }
 
 /// Places for the results of a job, of which none is there.
-fn no_results(alloc: Global, journal: &Journal) -> Result<Vec<Option<TaskResult>>, AllocError>
+fn no_results(alloc: Global, journal: &DeskJournal) -> Result<Vec<Option<TaskResult>>, AllocError>
     ensures { IfOk result (λ v. v.items ≡ replicate (result_count journal.now.0.core.dag) None) }
 {
     let core = journal.core();

@@ -1,10 +1,11 @@
 //! How a desk ends.
 #![tactic(auto)]
 
-ghost use Rattle.std.specs.Prelude.{◌≡◌, Some};
+ghost use Rattle.std.specs.Prelude.{◌≡◌, All, Some};
 ghost use Rattle.sc_core.specs.Journals.{Replays};
 ghost use Rattle.sc_core.specs.declared.answers.JobState.TheVariants.{Done};
 ghost use Rattle.sc_desk.specs.DeskData.{core_of};
+ghost use Rattle.sc_desk.specs.Leaving.{IsOwnLeave};
 ghost use Rattle.sc_desk.specs.Sound.{AreAllResults, AreEvident, IsSoundDesk};
 ghost use Rattle.sc_desk.specs.Begins.{FitsLast, IsPassedFor};
 
@@ -48,6 +49,7 @@ impl<W: Naming> Desk<W> {
         ensures evidence { (is : Replays result.history.opening result.history.entries.items
             result.history.end) → AreEvident W.work result.job result.history.opening
             result.history.entries.items result.history.end is }
+        ensures own { All IsOwnLeave result.history.entries.items }
     {
         self.journal.core().is_sound();
         let Desk {

@@ -1,15 +1,17 @@
 //! The desk.
 #![tactic(auto)]
 
-ghost use Rattle.std.specs.Prelude.{◌≡◌};
+ghost use Rattle.std.specs.Prelude.{◌≡◌, All};
 ghost use Rattle.sc_tracker.specs.TrackerData.{trust_of};
 ghost use Rattle.sc_desk.specs.DeskData.{core_of};
 ghost use Rattle.sc_desk.specs.Files.{HasReplay};
+ghost use Rattle.sc_desk.specs.Leaving.{IsOwnLeave};
 ghost use Rattle.sc_desk.specs.Sound.{IsSoundDesk};
 
+use crate::journals::DeskJournal;
 use crate::orders::Orders;
 use sc_compute::TaskResult;
-use sc_core::{Core, Entry, Journal};
+use sc_core::{Core, Entry};
 use sc_ids::{ExecId, Generation};
 use sc_jobs::Job;
 use sc_net::{Report, ShelvedReport};
@@ -24,7 +26,7 @@ pub struct Desk<W: Naming> {
     pub(crate) work: SharedWork<W>,
     pub(crate) job: Job<W>,
     pub(crate) carried: Carried,
-    pub(crate) journal: Journal,
+    pub(crate) journal: DeskJournal,
     pub(crate) results: Vec<Option<TaskResult>>,
     pub(crate) shelf: Vec<ShelvedReport<Report<W>>>,
     pub(crate) ordered: Orders,
@@ -108,5 +110,12 @@ impl<W: Naming> Desk<W> {
         ensures { HasReplay self.now }
     {
         self.journal.is_replay();
+    }
+
+    /// Each executor that left said so itself.
+    pub fn leaves_are_own(&self)
+        ensures { All IsOwnLeave self.now.journal.entries }
+    {
+        self.journal.leaves_are_own();
     }
 }

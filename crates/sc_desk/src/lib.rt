@@ -15,6 +15,9 @@
 //! report, which loss, and which wipe or eviction the plan wants next; each order comes once in a
 //! run, when it is due ([`orders_are_due`]).
 //!
+//! An executor that can't go on leaves ([`Desk::leave`]); nobody gets a task then. That takes no
+//! memory: room for it is kept from the beginning on.
+//!
 //! In a job that saves, an attempt that comes next writes its part ([`Desk::stage_part`]) and gives
 //! it its committed name ([`Desk::move_part`]). Which files of attempts stand is told by the
 //! journal, up to the winners ([`files_go_on`]).
@@ -31,7 +34,9 @@ mod begins;
 mod closes;
 mod desks;
 mod dues;
+mod journals;
 mod laws;
+mod leaves;
 mod orders;
 mod passes;
 mod posts;

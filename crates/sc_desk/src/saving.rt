@@ -41,7 +41,7 @@ impl<W: Naming> Desk<W> {
             let wrote = FileOutcome::Done;
             return self.note(by, SideEvent::Stage { attempt, wrote });
         }
-        self.journal.reserve(1)?;
+        self.journal.reserve()?;
         let entry = self.journal.entries().len();
         self.journal.core().is_sound();
         self.journal.is_replay();
@@ -74,7 +74,7 @@ impl<W: Naming> Desk<W> {
             let renamed = FileOutcome::Done;
             return self.note(by, SideEvent::Move { attempt, renamed });
         }
-        self.journal.reserve(1)?;
+        self.journal.reserve()?;
         let entry = self.journal.entries().len();
         self.journal.core().is_sound();
         self.journal.is_replay();
