@@ -4,8 +4,9 @@
 //! the blocks that it reads. By its type the job has it, and each block has its place. What its
 //! attempt came to is a [`Report`], which keeps its task and tells a [`Finding`]. By its type a
 //! report is true: a result is what the task is to compute, a raise is its own and of nothing that
-//! it reads, and a block whose fetch failed is one of its inputs (`specs/Reports.antt`). So the
-//! driver need not ask who sent it.
+//! it reads, a block whose fetch failed is one of its inputs, and a call on the files that failed
+//! or a commit that was denied comes only in a job that saves (`specs/Reports.antt`). So the driver
+//! need not ask who sent it.
 //!
 //! A fault plan may have a report come late, or twice. Such a [`ShelvedReport`] is kept at the desk
 //! under the key that the core gave it, until it is due.
