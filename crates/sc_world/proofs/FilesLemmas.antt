@@ -10,7 +10,8 @@ use Rattle.sc_staging.specs.Outputs.{GoesOnIn, OutputGoes, output_dir, output_fi
 use Rattle.sc_staging.specs.declared.outputs.Output.{Output}
 use Rattle.sc_jobs.specs.JobData.{JobData}
 use Rattle.sc_desk.specs.DeskData.{DeskData}
-use Rattle.sc_desk.specs.Files.{FilesStand, deeds_of, dir_of_job, part_texts}
+use Rattle.sc_desk.specs.Files.{CountsGoOn, FilesStand, deeds_of, dir_of_job, part_texts}
+use Rattle.sc_desk.proofs.CountLemmas.{counts_same, counts_then}
 use Rattle.sc_world.specs.Files.{OutputGoesOn, OutputStands}
 use Rattle.sc_world.specs.WorldData.{WorldData}
 
@@ -87,19 +88,33 @@ stands_same work d after dir files job deeds s =
         IfSome dir (λ x. IfSome files.shown (HasFiles x (part_texts work j.goal) done))
 
 -- where nothing was written, the files are the same
-pub stays_on : {F : Type 0} (work : WorkData) (after : WorldData) (state : F → FilesState)
-    (o : Output F) → OutputStands work after state o → OutputGoesOn work after state o o
-stays_on work after state o stands = record { goes = goes_none state o; stand = stands }
+pub stays_on : {F : Type 0} (work : WorkData) (w after : WorldData) (state : F → FilesState)
+    (o : Output F) → CountsGoOn w.desk after.desk (output_files state o) (output_files state o)
+    → OutputStands work after state o → OutputGoesOn work w after state o o
+stays_on work w after state o counts stands =
+    record { goes = goes_none state o; stand = stands; counts = counts }
 
-pub goes_on_then : {F : Type 0} (work : WorkData) (mid after : WorldData)
-    (state : F → FilesState) (a b c : Output F) → OutputGoesOn work mid state a b
-    → OutputGoesOn work after state b c → OutputGoesOn work after state a c
-goes_on_then work mid after state a b c x y =
-    record { goes = goes_behind state a b c x.goes y.goes; stand = y.stand }
+-- and where nothing was done at all
+pub stays_put : {F : Type 0} (work : WorkData) (w : WorldData) (state : F → FilesState)
+    (o : Output F) → OutputStands work w state o → OutputGoesOn work w w state o o
+stays_put work w state o stands =
+    stays_on work w w state o (counts_same w.desk w.desk (output_files state o) refl) stands
+
+pub goes_on_then : {F : Type 0} (work : WorkData) (w mid after : WorldData)
+    (state : F → FilesState) (a b c : Output F) → OutputGoesOn work w mid state a b
+    → OutputGoesOn work mid after state b c → OutputGoesOn work w after state a c
+goes_on_then work w mid after state a b c x y =
+    record {
+      goes = goes_behind state a b c x.goes y.goes;
+      stand = y.stand;
+      counts = counts_then w.desk mid.desk after.desk (output_files state a)
+          (output_files state b) (output_files state c) x.counts y.counts;
+    }
 
 -- where a call changes nothing
 pub stays_same : {F : Type 0} (work : WorkData) (w after : WorldData) (state : F → FilesState)
-    (o : Output F) → after ≡ w → OutputStands work w state o → OutputGoesOn work after state o o
+    (o : Output F) → after ≡ w → OutputStands work w state o
+    → OutputGoesOn work w after state o o
 stays_same work w after state o same stands =
-    stays_on work after state o
-    (subst (λ (x : WorldData). OutputStands work x state o) (sym same) stands)
+    subst (λ (x : WorldData). OutputGoesOn work w x state o o) (sym same)
+    (stays_put work w state o stands)

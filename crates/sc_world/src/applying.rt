@@ -4,7 +4,8 @@
 ghost use Rattle.std.specs.Prelude.{◌≡◌, ◌↔◌, ◌<◌, IfOk, IsTrue, OnErr, length};
 ghost use Rattle.sc_desk.specs.Orders.{IsDueAmong};
 ghost use Rattle.sc_plan.specs.Orders.{wipes_of};
-ghost use Rattle.sc_world.specs.Files.{OutputGoesOn, OutputStands};
+ghost use Rattle.sc_staging.specs.Outputs.{output_files};
+ghost use Rattle.sc_world.specs.Files.{LeavesOutput, OutputGoesOn, OutputStands};
 ghost use Rattle.sc_world.specs.Runs.{Reaches, Runs};
 ghost use Rattle.sc_world.specs.Steps.{Goes};
 ghost use Rattle.sc_world.specs.WorldData.{core_in};
@@ -33,7 +34,12 @@ impl<W: Naming> World<W> {
         requires stand { OutputStands W.work self.old F.state output.old }
         ensures goes { IfOk result (λ a. Goes W.work self.old step a self.new) }
         ensures refused { OnErr result (self.new ≡ self.old) }
-        ensures files { OutputGoesOn W.work self.new F.state output.old output.new }
+        ensures leaves { IfOk result
+            (λ a. LeavesOutput W.work self.old step a F.state output.old output.new) }
+        ensures untouched { OnErr result
+            (output_files F.state output.new ≡ output_files F.state output.old) }
+        ensures files { OutputGoesOn W.work self.old self.new F.state
+            output.old output.new }
     {
         match step {
             Step::Take { exec } => self.apply_take(alloc, exec),
@@ -63,7 +69,8 @@ impl<W: Naming> World<W> {
         ensures runs { IfOk result
             (λ answers. Runs W.work self.old steps.now answers.items self.new) }
         ensures reaches { Reaches W.work self.old self.new }
-        ensures files { OutputGoesOn W.work self.new F.state output.old output.new }
+        ensures files { OutputGoesOn W.work self.old self.new F.state
+            output.old output.new }
     {
         let mut answers = Vec::with_capacity(alloc, steps.len())?;
         for step in steps {
@@ -127,7 +134,12 @@ impl<W: Naming> World<W> {
         requires stand { OutputStands W.work self.old F.state output.old }
         ensures goes { IfOk result (λ a. Goes W.work self.old (steps.Stage exec) a self.new) }
         ensures refused { OnErr result (self.new ≡ self.old) }
-        ensures files { OutputGoesOn W.work self.new F.state output.old output.new }
+        ensures leaves { IfOk result
+            (λ a. LeavesOutput W.work self.old (steps.Stage exec) a F.state output.old output.new) }
+        ensures untouched { OnErr result
+            (output_files F.state output.new ≡ output_files F.state output.old) }
+        ensures files { OutputGoesOn W.work self.old self.new F.state
+            output.old output.new }
     {
         if self.phase(exec) == AttemptState::Stages {
             Ok(Applied::Noted(self.stage(alloc, output, exec)?))
@@ -156,7 +168,12 @@ impl<W: Naming> World<W> {
         requires stand { OutputStands W.work self.old F.state output.old }
         ensures goes { IfOk result (λ a. Goes W.work self.old (steps.Move exec) a self.new) }
         ensures refused { OnErr result (self.new ≡ self.old) }
-        ensures files { OutputGoesOn W.work self.new F.state output.old output.new }
+        ensures leaves { IfOk result
+            (λ a. LeavesOutput W.work self.old (steps.Move exec) a F.state output.old output.new) }
+        ensures untouched { OnErr result
+            (output_files F.state output.new ≡ output_files F.state output.old) }
+        ensures files { OutputGoesOn W.work self.old self.new F.state
+            output.old output.new }
     {
         if self.phase(exec) == AttemptState::Moves {
             Ok(Applied::Noted(self.move_part(alloc, output, exec)?))

@@ -2,11 +2,11 @@
 //!
 //! A [`World`] goes on by steps ([`Step`]), in any order: an executor takes a task, its attempt
 //! reads block by block, computes, puts what it has computed and reports; one of a save writes its
-//! part instead, asks whether it may commit, and moves it. Reports that were delayed reach the
-//! driver, the driver learns that an executor is lost, stores are wiped by orders of the fault plan
-//! or let cached blocks go. [`World::apply`] does any step that is enabled, and changes nothing
-//! where one isn't; each step is a call of its own too. [`World::serial`] runs the job to its end
-//! on one thread.
+//! part instead, asks whether it may commit, and gives it its committed name. Reports that were
+//! delayed reach the driver, the driver learns that an executor is lost, stores are wiped by orders
+//! of the fault plan or let cached blocks go. [`World::apply`] does any step that is enabled, and
+//! changes nothing where one isn't; each step is a call of its own too. [`World::serial`] runs the
+//! job to its end on one thread.
 //!
 //! The files of the job are no part of a world: each call that may use them is handed them, and
 //! keeps them as its journal tells (`specs/Files.antt`).

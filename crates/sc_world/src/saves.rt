@@ -2,7 +2,8 @@
 #![tactic(auto)]
 
 ghost use Rattle.std.specs.Prelude.{◌≡◌, IfOk, OnErr};
-ghost use Rattle.sc_world.specs.Files.{OutputGoesOn, OutputStands};
+ghost use Rattle.sc_staging.specs.Outputs.{output_files};
+ghost use Rattle.sc_world.specs.Files.{OutputGoesOn, OutputStands, RenamesPart, WritesPart};
 ghost use Rattle.sc_world.specs.Steps.{AsksOne, Moves, Stages, phase_of};
 ghost use Rattle.sc_world.specs.WorldData.{held_at};
 ghost use Rattle.sc_world.specs.declared.places.AttemptState.{AttemptState};
@@ -29,8 +30,13 @@ impl<W: Naming> World<W> {
         requires stages { phase_of (held_at self.old exec) ≡ AttemptState.Stages }
         requires stand { OutputStands W.work self.old F.state output.old }
         ensures stages { IfOk result (λ answer. Stages self.old exec answer self.new) }
+        ensures writes { IfOk result (λ answer. WritesPart W.work self.old exec answer F.state
+            output.old output.new) }
         ensures refused { OnErr result (self.new ≡ self.old) }
-        ensures files { OutputGoesOn W.work self.new F.state output.old output.new }
+        ensures unwritten { OnErr result
+            (output_files F.state output.new ≡ output_files F.state output.old) }
+        ensures files { OutputGoesOn W.work self.old self.new F.state
+            output.old output.new }
     {
         let part = part_among(self.held.as_slice(), alloc, exec)?;
         is_within_types(part.attempt);
@@ -59,7 +65,7 @@ impl<W: Naming> World<W> {
         Ok(noted.answer)
     }
 
-    /// An executor's attempt moves its part to where it counts, where it comes next. A refused call
+    /// An executor's attempt gives its part the committed name, where it comes next. A refused call
     /// changes nothing.
     pub fn move_part<F: Files>(
         &mut self,
@@ -70,8 +76,13 @@ impl<W: Naming> World<W> {
         requires moves { phase_of (held_at self.old exec) ≡ AttemptState.Moves }
         requires stand { OutputStands W.work self.old F.state output.old }
         ensures moves { IfOk result (λ answer. Moves self.old exec answer self.new) }
+        ensures renames { IfOk result (λ answer. RenamesPart self.old exec answer F.state
+            output.old output.new) }
         ensures refused { OnErr result (self.new ≡ self.old) }
-        ensures files { OutputGoesOn W.work self.new F.state output.old output.new }
+        ensures unmoved { OnErr result
+            (output_files F.state output.new ≡ output_files F.state output.old) }
+        ensures files { OutputGoesOn W.work self.old self.new F.state
+            output.old output.new }
     {
         self.desk.is_sound();
         self.desk.is_replay();

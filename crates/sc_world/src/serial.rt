@@ -35,7 +35,8 @@ impl<W: Naming> World<W> {
         ensures short { OnErr result (RunsShort W.work 0 self.old self.new) }
         ensures reaches { Reaches W.work self.old self.new }
         ensures same { IsSameJob self.old self.new }
-        ensures files { OutputGoesOn W.work self.new F.state output.old output.new }
+        ensures files { OutputGoesOn W.work self.old self.new F.state
+            output.old output.new }
     {
         let mut exec = 0;
         while self.runs() {
@@ -58,7 +59,8 @@ impl<W: Naming> World<W> {
         ensures on { GoesOn W.work self.old self.new }
         ensures takes { IfOk result (λ next. TakesTurn W.work from next self.old self.new) }
         ensures leaves { OnErr result (LeavesTurn W.work from self.old self.new) }
-        ensures files { OutputGoesOn W.work self.new F.state output.old output.new }
+        ensures files { OutputGoesOn W.work self.old self.new F.state
+            output.old output.new }
     {
         let exec = self.next_live(from);
         if self.drive(exec)? {

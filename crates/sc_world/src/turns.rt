@@ -114,7 +114,8 @@ impl<W: Naming> World<W> {
         ensures on { GoesOn W.work self.old self.new }
         ensures works { OnOk result (Works W.work exec self.old self.new) }
         ensures stops { OnErr result (StopsWork W.work exec self.old self.new) }
-        ensures files { OutputGoesOn W.work self.new F.state output.old output.new }
+        ensures files { OutputGoesOn W.work self.old self.new F.state
+            output.old output.new }
     {
         self.request(alloc, exec)?;
         self.finish(alloc, output, exec)
@@ -147,7 +148,8 @@ impl<W: Naming> World<W> {
         ensures finishes { OnOk result (Finishes W.work self.old self.new) }
         ensures on { GoesOn W.work self.old self.new }
         ensures goes { AdvancesBy W.work exec self.old self.new }
-        ensures files { OutputGoesOn W.work self.new F.state output.old output.new }
+        ensures files { OutputGoesOn W.work self.old self.new F.state
+            output.old output.new }
     {
         while self.is_out(exec) {
             self.advance(alloc, output, exec)?;
@@ -168,7 +170,8 @@ impl<W: Naming> World<W> {
         ensures advances { OnOk result (Advances W.work exec self.old self.new) }
         ensures goes { OnOk result (AdvancesOne W.work exec self.old self.new) }
         ensures refused { OnErr result (self.new ≡ self.old) }
-        ensures files { OutputGoesOn W.work self.new F.state output.old output.new }
+        ensures files { OutputGoesOn W.work self.old self.new F.state
+            output.old output.new }
     {
         self.is_world();
         match self.phase(exec) {
@@ -219,7 +222,8 @@ impl<W: Naming> World<W> {
         ensures goes { OnOk result ((answer : SideAnswer)
             × GoesInSave self.old exec answer self.new) }
         ensures refused { OnErr result (self.new ≡ self.old) }
-        ensures files { OutputGoesOn W.work self.new F.state output.old output.new }
+        ensures files { OutputGoesOn W.work self.old self.new F.state
+            output.old output.new }
     {
         self.is_world();
         let _ = match self.phase(exec) {

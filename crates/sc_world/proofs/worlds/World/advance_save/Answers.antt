@@ -1,7 +1,6 @@
 use Rattle.std.proofs.Common.{refl}
 use Rattle.sc_world.specs.declared.steps.Applied.TheVariants as applied
 use Rattle.sc_world.specs.declared.steps.Step.TheVariants as steps
-use Rattle.sc_world.proofs.FilesLemmas.{stays_on}
 use Rattle.sc_world.proofs.SideTurnLemmas.{asks_advances, moves_advances, stages_advances}
 use Rattle.sc_world.proofs.StandLemmas.{goes_stand}
 use Rattle.sc_world.proofs.worlds.World.advance_save.Goals as goal
@@ -19,10 +18,9 @@ returns-in_ok-ask-in-Asks-clause-advances g c =
 
 pub returns-in_ok-ask-in-Asks-clause-files : goal.returns-in_ok-ask-in-Asks-clause-files
 returns-in_ok-ask-in-Asks-clause-files g c =
-    stays_on g.W.Naming.work c.ask.new.self g.F.Files.state c.args.output.now
-    (goes_stand g.W.Naming.work c.args.self.now c.ask.new.self (steps.Ask c.args.exec)
+    goes_stand g.W.Naming.work c.args.self.now c.ask.new.self (steps.Ask c.args.exec)
     (applied.Noted c.in_ok-ask-in-Asks.field-0) g.F.Files.state c.args.output.now refl
-    c.in_ok-ask-in-Asks.ensures.asks c.requires.stand)
+    c.in_ok-ask-in-Asks.ensures.asks c.requires.stand
 
 pub returns-in_ok-move_part-in-Moves-clause-advances :
     goal.returns-in_ok-move_part-in-Moves-clause-advances

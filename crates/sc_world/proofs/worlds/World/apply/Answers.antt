@@ -1,6 +1,5 @@
 use Rattle.std.proofs.Common.{refl}
 use Rattle.sc_world.specs.declared.steps.Step.TheVariants as steps
-use Rattle.sc_world.proofs.FilesLemmas.{stays_on}
 use Rattle.sc_world.proofs.StandLemmas.{calls_on, goes_stand}
 use Rattle.sc_world.proofs.worlds.World.apply.Goals as goal
 
@@ -57,21 +56,18 @@ returns-in-TellLost-clause-files g c =
 
 pub returns-in-Wipe-clause-files : goal.returns-in-Wipe-clause-files
 returns-in-Wipe-clause-files g c =
-    stays_on g.W.Naming.work c.apply_wipe.new.self g.F.Files.state c.args.output.now
-    (goes_stand g.W.Naming.work c.args.self.now c.apply_wipe.new.self (steps.Wipe c.in-Wipe.order)
+    goes_stand g.W.Naming.work c.args.self.now c.apply_wipe.new.self (steps.Wipe c.in-Wipe.order)
     c.apply_wipe.result g.F.Files.state c.args.output.now refl c.apply_wipe.ensures
-    c.requires.stand)
+    c.requires.stand
 
 pub returns-in-Evict-clause-files : goal.returns-in-Evict-clause-files
 returns-in-Evict-clause-files g c =
-    stays_on g.W.Naming.work c.apply_evict.new.self g.F.Files.state c.args.output.now
-    (goes_stand g.W.Naming.work c.args.self.now c.apply_evict.new.self (steps.Evict c.in-Evict.exec)
+    goes_stand g.W.Naming.work c.args.self.now c.apply_evict.new.self (steps.Evict c.in-Evict.exec)
     c.apply_evict.result g.F.Files.state c.args.output.now refl c.apply_evict.ensures
-    c.requires.stand)
+    c.requires.stand
 
 pub returns-in-NextOrder-clause-files : goal.returns-in-NextOrder-clause-files
 returns-in-NextOrder-clause-files g c =
-    stays_on g.W.Naming.work c.apply_order.new.self g.F.Files.state c.args.output.now
-    (goes_stand g.W.Naming.work c.args.self.now c.apply_order.new.self steps.NextOrder
+    goes_stand g.W.Naming.work c.args.self.now c.apply_order.new.self steps.NextOrder
     c.apply_order.result g.F.Files.state c.args.output.now refl c.apply_order.ensures
-    c.requires.stand)
+    c.requires.stand

@@ -1,7 +1,7 @@
 use Rattle.std.proofs.Common.{arith, get_or, rules, take}
 use Rattle.sc_world.specs.declared.steps.Step.TheVariants as steps
 use Rattle.sc_world.proofs.CodeRuns.{reached, reached_by, reached_then, runs_next}
-use Rattle.sc_world.proofs.FilesLemmas.{goes_on_then, stays_on}
+use Rattle.sc_world.proofs.FilesLemmas.{goes_on_then, stays_put}
 use Rattle.sc_world.proofs.worlds.World.apply_all.Goals as goal
 
 pub returns-in_err-answers-clause-reaches : goal.returns-in_err-answers-clause-reaches
@@ -21,25 +21,25 @@ returns-in_err-push-clause-reaches g c =
 
 pub returns-in_err-answers-clause-files : goal.returns-in_err-answers-clause-files
 returns-in_err-answers-clause-files g c =
-    stays_on g.W.Naming.work c.args.self.now g.F.Files.state c.args.output.now c.requires.stand
+    stays_put g.W.Naming.work c.args.self.now g.F.Files.state c.args.output.now c.requires.stand
 
 pub returns-in_err-apply-clause-files : goal.returns-in_err-apply-clause-files
 returns-in_err-apply-clause-files g c =
-    goes_on_then g.W.Naming.work c.loop-step.self c.apply.new.self g.F.Files.state
-    c.args.output.now c.loop-step.output c.apply.new.output c.loop-step.invariant.files
-    c.in_err-apply.ensures.files
+    goes_on_then g.W.Naming.work c.args.self.now c.loop-step.self c.apply.new.self
+    g.F.Files.state c.args.output.now c.loop-step.output c.apply.new.output
+    c.loop-step.invariant.files c.in_err-apply.ensures.files
 
 pub returns-in_err-push-clause-files : goal.returns-in_err-push-clause-files
 returns-in_err-push-clause-files g c =
-    goes_on_then g.W.Naming.work c.loop-step.self c.apply.new.self g.F.Files.state
-    c.args.output.now c.loop-step.output c.apply.new.output c.loop-step.invariant.files
-    c.in_ok-apply.ensures.files
+    goes_on_then g.W.Naming.work c.args.self.now c.loop-step.self c.apply.new.self
+    g.F.Files.state c.args.output.now c.loop-step.output c.apply.new.output
+    c.loop-step.invariant.files c.in_ok-apply.ensures.files
 
 pub loop-step-init : goal.loop-step-init
 loop-step-init g c =
     record {
       runs = search rules;
-      files = stays_on g.W.Naming.work c.args.self.now g.F.Files.state c.args.output.now
+      files = stays_put g.W.Naming.work c.args.self.now g.F.Files.state c.args.output.now
           c.requires.stand;
     }
 
@@ -50,7 +50,7 @@ loop-step-preserved g c =
           c.args.steps.now c.loop-step.step-index (steps.Take 0) c.loop-step.answers.items
           c.push.new.self.items c.in_ok-apply.field-0 (omega arith) c.loop-step.invariant.runs
           c.in_ok-apply.ensures.goes c.in_ok-push.ensures.items;
-      files = goes_on_then g.W.Naming.work c.loop-step.self c.apply.new.self g.F.Files.state
-          c.args.output.now c.loop-step.output c.apply.new.output c.loop-step.invariant.files
-          c.in_ok-apply.ensures.files;
+      files = goes_on_then g.W.Naming.work c.args.self.now c.loop-step.self c.apply.new.self
+          g.F.Files.state c.args.output.now c.loop-step.output c.apply.new.output
+          c.loop-step.invariant.files c.in_ok-apply.ensures.files;
     }

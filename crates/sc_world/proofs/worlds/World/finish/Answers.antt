@@ -2,7 +2,7 @@ use Rattle.std.proofs.Common.{arith}
 use Rattle.sc_world.specs.Turns.{no_step, one_step}
 use Rattle.sc_world.proofs.CodeRuns.{goes_then, stays}
 use Rattle.sc_world.proofs.CodeTurns.{no_more_then}
-use Rattle.sc_world.proofs.FilesLemmas.{goes_on_then, stays_on}
+use Rattle.sc_world.proofs.FilesLemmas.{goes_on_then, stays_put}
 use Rattle.sc_world.proofs.worlds.World.finish.Goals as goal
 
 pub loop-alloc-init : goal.loop-alloc-init
@@ -12,7 +12,7 @@ loop-alloc-init g c =
       alone = c.requires.alone;
       no_more = λ runs. (runs, omega arith);
       goes = no_step;
-      files = stays_on g.W.Naming.work c.args.self.now g.F.Files.state c.args.output.now
+      files = stays_put g.W.Naming.work c.args.self.now g.F.Files.state c.args.output.now
           c.requires.stand;
     }
 
@@ -26,13 +26,13 @@ loop-alloc-preserved g c =
           c.loop-alloc.invariant.no_more c.in_ok-advance.ensures.advances.no_more;
       goes = one_step c.loop-alloc.self c.advance.new.self c.loop-alloc.invariant.goes
           c.in_ok-advance.ensures.goes;
-      files = goes_on_then g.W.Naming.work c.loop-alloc.self c.advance.new.self g.F.Files.state
-          c.args.output.now c.loop-alloc.output c.advance.new.output
+      files = goes_on_then g.W.Naming.work c.args.self.now c.loop-alloc.self c.advance.new.self
+          g.F.Files.state c.args.output.now c.loop-alloc.output c.advance.new.output
           c.loop-alloc.invariant.files c.in_ok-advance.ensures.files;
     }
 
 pub returns-in_err-advance-clause-files : goal.returns-in_err-advance-clause-files
 returns-in_err-advance-clause-files g c =
-    goes_on_then g.W.Naming.work c.loop-alloc.self c.advance.new.self g.F.Files.state
-    c.args.output.now c.loop-alloc.output c.advance.new.output c.loop-alloc.invariant.files
-    c.in_err-advance.ensures.files
+    goes_on_then g.W.Naming.work c.args.self.now c.loop-alloc.self c.advance.new.self
+    g.F.Files.state c.args.output.now c.loop-alloc.output c.advance.new.output
+    c.loop-alloc.invariant.files c.in_err-advance.ensures.files

@@ -10,7 +10,8 @@ invariant-loop-alloc g l = record {
   alone : IsAlone l.exec l.self;
   no_more : IsNoMore g.W.Naming.work l.fn.self l.self;
   goes : AdvancesBy g.W.Naming.work l.exec l.fn.self l.self;
-  files : OutputGoesOn g.W.Naming.work l.self g.F.Files.state l.fn.output l.output;
+  files : OutputGoesOn g.W.Naming.work l.fn.self l.self g.F.Files.state l.fn.output
+      l.output;
 }
 
 abbrev pub decreases-loop-alloc : goal.decreases-loop-alloc

@@ -4,6 +4,7 @@ use Rattle.sc_world.specs.Serial.{GoesOn}
 use Rattle.sc_world.specs.WorldData.{WorldData}
 use Rattle.sc_world.proofs.CodeRuns.{goes_then, stays}
 use Rattle.sc_world.proofs.CodeTurns.{asks_then}
+use Rattle.sc_world.proofs.FilesLemmas.{goes_on_then, stays_same}
 use Rattle.sc_world.proofs.StandLemmas.{takes_stand}
 use Rattle.sc_world.proofs.worlds.World.run_task.Goals as goal
 
@@ -27,5 +28,19 @@ returns-clause-on g c =
 pub finish-requires-clause-stand : goal.finish-requires-clause-stand
 finish-requires-clause-stand g c =
     let t = c.in_ok-request.ensures.takes in
-    takes_stand g.W.Naming.work c.args.self.now c.request.new.self c.args.exec t.0
-    g.F.Files.state c.args.output.now t.1 c.requires.stand
+    (takes_stand g.W.Naming.work c.args.self.now c.request.new.self c.args.exec t.0
+    g.F.Files.state c.args.output.now t.1 c.requires.stand).stand
+
+pub returns-in_err-request-clause-files : goal.returns-in_err-request-clause-files
+returns-in_err-request-clause-files g c =
+    stays_same g.W.Naming.work c.args.self.now c.request.new.self g.F.Files.state
+    c.args.output.now c.in_err-request.ensures.refused c.requires.stand
+
+pub returns-clause-files : goal.returns-clause-files
+returns-clause-files g c =
+    let t = c.in_ok-request.ensures.takes in
+    goes_on_then g.W.Naming.work c.args.self.now c.request.new.self c.finish.new.self
+    g.F.Files.state c.args.output.now c.args.output.now c.finish.new.output
+    (takes_stand g.W.Naming.work c.args.self.now c.request.new.self c.args.exec t.0
+    g.F.Files.state c.args.output.now t.1 c.requires.stand)
+    c.finish.ensures.files

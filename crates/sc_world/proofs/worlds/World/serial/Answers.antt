@@ -2,7 +2,7 @@ use Rattle.std.proofs.Common.{sym, ◌∙◌}
 use Rattle.std.proofs.lemmas.Result.{err_from_is_err_and}
 use Rattle.sc_world.specs.Turns.{no_turn, one_turn}
 use Rattle.sc_world.proofs.CodeRuns.{goes_then, reached_then, stays}
-use Rattle.sc_world.proofs.FilesLemmas.{goes_on_then, stays_on}
+use Rattle.sc_world.proofs.FilesLemmas.{goes_on_then, stays_put}
 use Rattle.sc_world.proofs.worlds.World.serial.Goals as goal
 
 pub loop-alloc-init : goal.loop-alloc-init
@@ -11,7 +11,7 @@ loop-alloc-init g c =
       on = stays g.W.Naming.work c.args.self.now;
       rests = c.requires.rests;
       turns = no_turn;
-      files = stays_on g.W.Naming.work c.args.self.now g.F.Files.state c.args.output.now
+      files = stays_put g.W.Naming.work c.args.self.now g.F.Files.state c.args.output.now
           c.requires.stand;
     }
 
@@ -40,13 +40,13 @@ loop-alloc-preserved g c =
       rests = c.in_ok-exec.ensures.turns.rests;
       turns = one_turn c.loop-alloc.exec c.in_ok-exec.exec c.loop-alloc.self c.turn.new.self
           c.loop-alloc.invariant.turns c.in_ok-exec.ensures.takes;
-      files = goes_on_then g.W.Naming.work c.loop-alloc.self c.turn.new.self g.F.Files.state
-          c.args.output.now c.loop-alloc.output c.turn.new.output c.loop-alloc.invariant.files
-          c.in_ok-exec.ensures.files;
+      files = goes_on_then g.W.Naming.work c.args.self.now c.loop-alloc.self c.turn.new.self
+          g.F.Files.state c.args.output.now c.loop-alloc.output c.turn.new.output
+          c.loop-alloc.invariant.files c.in_ok-exec.ensures.files;
     }
 
 pub returns-in_err-exec-clause-files : goal.returns-in_err-exec-clause-files
 returns-in_err-exec-clause-files g c =
-    goes_on_then g.W.Naming.work c.loop-alloc.self c.turn.new.self g.F.Files.state
-    c.args.output.now c.loop-alloc.output c.turn.new.output c.loop-alloc.invariant.files
-    c.in_err-exec.ensures.files
+    goes_on_then g.W.Naming.work c.args.self.now c.loop-alloc.self c.turn.new.self
+    g.F.Files.state c.args.output.now c.loop-alloc.output c.turn.new.output
+    c.loop-alloc.invariant.files c.in_err-exec.ensures.files

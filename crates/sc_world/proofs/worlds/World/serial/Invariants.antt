@@ -11,7 +11,8 @@ invariant-loop-alloc g l = record {
   on : GoesOn g.W.Naming.work l.fn.self l.self;
   rests : IsResting l.self;
   turns : TakesTurns g.W.Naming.work 0 l.fn.self l.exec l.self;
-  files : OutputGoesOn g.W.Naming.work l.self g.F.Files.state l.fn.output l.output;
+  files : OutputGoesOn g.W.Naming.work l.fn.self l.self g.F.Files.state l.fn.output
+      l.output;
 }
 
 abbrev pub decreases-loop-alloc : goal.decreases-loop-alloc

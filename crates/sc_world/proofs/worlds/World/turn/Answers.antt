@@ -3,7 +3,6 @@ use Rattle.sc_world.specs.Serial.{GoesOn}
 use Rattle.sc_world.specs.WorldData.{WorldData}
 use Rattle.sc_world.proofs.CodeRuns.{stays}
 use Rattle.sc_world.specs.Turns.{DoesDueIf}
-use Rattle.sc_world.proofs.FilesLemmas.{stays_on}
 use Rattle.sc_world.proofs.StandLemmas.{due_stand}
 use Rattle.sc_world.proofs.worlds.World.turn.Goals as goal
 
@@ -14,9 +13,8 @@ returns-in_err-drive-clause-on g c =
 
 pub returns-then-branch-clause-files : goal.returns-then-branch-clause-files
 returns-then-branch-clause-files g c =
-    stays_on g.W.Naming.work c.drive.new.self g.F.Files.state c.args.output.now
-    (due_stand g.W.Naming.work c.args.self.now c.drive.new.self c.next_live-exec.result
+    due_stand g.W.Naming.work c.args.self.now c.drive.new.self c.next_live-exec.result
     g.F.Files.state c.args.output.now
     (subst (λ b. DoesDueIf b g.W.Naming.work c.next_live-exec.result c.args.self.now
     c.drive.new.self) c.if-branch.true c.in_ok-drive.ensures.due)
-    c.requires.stand)
+    c.requires.stand
