@@ -24,12 +24,13 @@ use Rattle.sc_desk.specs.Files.{dir_of_job}
 use Rattle.sc_context.specs.Aborts.{IsHalted}
 use Rattle.sc_context.specs.Bounding.{GoesOn}
 use Rattle.sc_context.specs.Contexts.{ContextData, Evaluates, GivesNext, IsEnded, ShowsStop, StandBehind, Stops}
-use Rattle.sc_context.specs.Files.{StopsFiles}
+use Rattle.sc_context.specs.Files.{HasCounted, StopsFiles, faults_told}
 use Rattle.sc_context.specs.Histories.{HasCome, IsCutShort, IsDone, IsHistory, IsUnaborted, last_end}
 use Rattle.sc_context.specs.Outputs.{IsOpenIn, RefusesOutput}
 use Rattle.sc_context.specs.Progress.{IsNext, Progress, behind_job, first_progress, next_node}
 use Rattle.sc_context.specs.declared.stops.JobFault.{JobFault}
 use Rattle.sc_context.specs.declared.stops.JobFault.TheVariants as faults
+use Rattle.sc_context.proofs.CountingLemmas.{counts_behind, ended_counts, left_counts, opened_counts, refused_counts, still_counts}
 use Rattle.sc_context.proofs.DoneLemmas.{aborted_undone}
 use Rattle.sc_context.proofs.FilesLemmas.{HaveGone, gone_then, left_stops, refused_stops, stops_for, unbegun_stops, unchanged_stops}
 
@@ -118,6 +119,7 @@ stops_short work c why histories files come none all same =
       shows = cut_short work c histories come all;
       over = unchanged_stops (dir_of_job work (goals.Action c.progress.actions)) c.files files
           OutOfMemory same tt;
+      counted = still_counts c.files files same;
     })
 
 -- or behind one that is done
@@ -136,7 +138,10 @@ stops_ended work c goal why passed stores histories left given files files_left 
           (done_unaborted ended.history.end ended.done) (all ∙ ended.all));
       over = subst (λ f. StopsFiles work c.progress.actions c.files f OutOfMemory) (sym same)
           (stops_for work c.progress goal c.files files OutOfMemory next
-          (left_stops (dir_of_job work goal) work goal ended.history c.files files ended.left));
+          (left_stops (dir_of_job work goal) work goal ended.history c.files files
+          ended.left.left));
+      counted = subst (λ f. HasCounted (faults_told (ended.history ∷ [])) OutOfMemory c.files f)
+          (sym same) (ended_counts ended.history c.files files ended.left.counted);
     })
 
 -- the files of a job weren't opened, so it never began
@@ -151,6 +156,7 @@ stops_unbegun work c goal why histories files next come refused all =
       shows = shows (dir_of_job work goal) why refused;
       over = stops_for work c.progress goal c.files files why next
           (refused_stops (dir_of_job work goal) c.files files why refused);
+      counted = refused_counts (dir_of_job work goal) c.files files why refused;
     }
   where
     shows : (dir : Option Path) (why : OrMemory JobFault)
@@ -178,6 +184,7 @@ stops_opened ways work c goal why histories files next come opened none all =
       shows = cut_short work c histories come all;
       over = stops_for work c.progress goal c.files files OutOfMemory next
           (unbegun_stops ways (dir_of_job work goal) c.files files opened);
+      counted = opened_counts (dir_of_job work goal) c.files files opened;
     })
 
 -- ---- contexts that go on
@@ -211,7 +218,7 @@ stays work c =
     }
 
 -- what stands behind more jobs stands behind these too
-stand_behind : (work : WorkData) (c d : ContextData) (histories : List JobHistory)
+abbrev stand_behind : (work : WorkData) (c d : ContextData) (histories : List JobHistory)
     → GoesOn work c d → StandBehind d histories → StandBehind c histories
 stand_behind work c d histories on (more, all) = (
   on.more ++ more,
@@ -228,6 +235,9 @@ stops_behind work c d why histories files on stops =
       shows = subst (λ k. ShowsStop work k why histories) on.actions stops.shows;
       over = subst (λ f. StopsFiles work c.progress.actions f files why) on.files
           (subst (λ k. StopsFiles work k d.files files why) on.actions stops.over);
+      counted = counts_behind on.more stops.behind.0 why c.files d.files files
+          (left_counts work c.progress d.progress on.more c.files d.files on.come on.left)
+          stops.counted;
     }
 
 -- what the next action gave it gave behind fewer jobs too

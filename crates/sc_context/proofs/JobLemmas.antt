@@ -28,7 +28,7 @@ use Rattle.sc_world.specs.Serial.{IsResting}
 use Rattle.sc_world.specs.WorldData.{WorldData}
 use Rattle.sc_context.specs.Aborts.{IsAborted, IsHalted}
 use Rattle.sc_context.specs.Contexts.{ContextData, IsContext, IsEnded, IsReady, ShowsStop, Stops, context_data}
-use Rattle.sc_context.specs.Files.{LeavesFiles, StopsIn}
+use Rattle.sc_context.specs.Files.{HasCounted, LeavesFiles, StopsIn, faults_told}
 use Rattle.sc_context.specs.Histories.{HasCome, IsCutShort, IsHistory, IsUnaborted, last_end}
 use Rattle.sc_context.specs.Jobs.{AreResultsFor, HasBegunFor, HasNoResults, HasResults, IsUnabortedOrSave}
 use Rattle.sc_context.specs.Progress.{IsNext, Progress, actions_behind, behind_job, carried_behind, first_progress, progress}
@@ -156,12 +156,13 @@ module _ (known_causes : AreCauses) (work : WorkData) (sound : IsSoundWork work)
 
   pub stops_job : (why : OrMemory JobFault) (files : FilesState)
       → HasNoResults work goal h.end why → StopsIn (dir_of_job work goal) c.files files why
-      → Stops work c why histories files
-  stops_job why files none stops =
+      → HasCounted (faults_told (h ∷ [])) why c.files files → Stops work c why histories files
+  stops_job why files none stops counted =
       record {
         behind = (h ∷ [], all);
         shows = shows_stop why none;
         over = stops_for work c.progress goal c.files files why is.next stops;
+        counted = counted;
       }
 
 -- ---- the context behind a job

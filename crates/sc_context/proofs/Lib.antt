@@ -5,6 +5,7 @@ pub mod DoneLemmas
 pub mod MovedLemmas
 pub mod WinnerLemmas
 pub mod FoundLemmas
+pub mod CountingLemmas
 pub mod FilesLemmas
 pub mod SaveLemmas
 pub mod ChainLemmas

@@ -35,8 +35,8 @@ ShowsAbort work h is NoExecutor =
 ShowsAbort work h is Budget = ShowsBudget work.limits h.entries.items
 
 -- What an abort for an action means where the plan has no line: failures of a task are raises, so
--- the action never has an outcome, or it saves, and calls on its files failed; and no input is ever
--- missed and no executor lost.
+-- the action never has an outcome, or it saves, where calls on its files may have failed; and no
+-- input is ever missed and no executor lost.
 abbrev pub IsUnplanned : WorkData → ℕ → Abort → Type 0
 IsUnplanned work k (TaskLimit stage number partition) =
     (action_outcome work (goal_action work (goals.Action k)) ≡ never)
@@ -58,8 +58,8 @@ pub record IsAborted (work : WorkData) (k : ℕ) (histories : List JobHistory) (
   pub shows : ShowsAbort work history gone.is.replays abort
   pub unplanned : work.plan ≡ [] → IsUnplanned work k abort
 
--- A job for this action, or for bounds that it needs, went no further without being aborted; or it
--- saves, was aborted, and its files stood in the way then.
+-- A job for this action, or for bounds that it needs, went no further without being aborted; or the
+-- action saves, and the job was aborted, behind which a call on files or memory may have failed.
 abbrev pub IsHalted : WorkData → ℕ → List JobHistory → Type 0
 IsHalted work k histories =
     IsCutShort work k histories

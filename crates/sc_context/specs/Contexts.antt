@@ -22,7 +22,7 @@ use Rattle.sc_desk.specs.Begins.{FitsLast, IsPassedFor}
 use Rattle.sc_desk.specs.DeskData.{PassedData}
 use Rattle.sc_world.specs.Runs.{AreReady}
 use Rattle.sc_context.specs.Aborts.{IsAborted, IsHalted}
-use Rattle.sc_context.specs.Files.{HaveLeft, LeavesFiles, StopsFiles}
+use Rattle.sc_context.specs.Files.{HasCounted, HaveLeft, LeavesFiles, StopsFiles, faults_told}
 use Rattle.sc_context.specs.Histories.{HasCome, HasDone, IsHistory, last_end}
 use Rattle.sc_context.specs.Jobs.{AreResultsFor}
 use Rattle.sc_context.specs.Progress.{Progress, first_progress, progress}
@@ -116,10 +116,11 @@ ShowsStop work k (Fault (faults.Exists path)) histories = HasDone work histories
 ShowsStop work k (Fault (faults.Device path)) histories = IsHalted work k histories
 ShowsStop work k OutOfMemory histories = IsHalted work k histories
 
--- The next action gave no value, and the histories show why: a job for it was aborted, or its files
--- stood in the way, or memory ran out.
+-- The next action gave no value, since a job for it was aborted, its directory was there, a call on
+-- its files failed, or memory ran out: what the histories show then, and how the files stand.
 pub record Stops (work : WorkData) (c : ContextData) (why : OrMemory JobFault)
     (histories : List JobHistory) (files : FilesState) : Type 0 where
   pub behind : StandBehind c histories
   pub shows : ShowsStop work c.progress.actions why histories
   pub over : StopsFiles work c.progress.actions c.files files why
+  pub counted : HasCounted (faults_told behind.0) why c.files files

@@ -1,5 +1,5 @@
 -- What the jobs of a run leave of the files.
-use Rattle.std.specs.Prelude.{ℕ, ◌≡◌, ◌⊎◌, false, List, [], ◌∷◌, Option, Some, None, Result, Ok, Err}
+use Rattle.std.specs.Prelude.{ℕ, ◌≡◌, ◌⊎◌, false, List, [], ◌∷◌, ◌++◌, Option, Some, None, Result, Ok, Err}
 use Rattle.sc_base.specs.Outside.{Changes, FilesState, IsLaterFiles, IsQuietFiles}
 use Rattle.sc_base.specs.Saves.{IsApart, saved_tree}
 use Rattle.sc_base.specs.Trees.{Path, Tree, has_dir}
@@ -8,8 +8,9 @@ use Rattle.sc_base.specs.declared.refusals.OrMemory.TheVariants.{Fault, OutOfMem
 use Rattle.sc_ids.specs.declared.attempts.AttemptId.{AttemptId}
 use Rattle.sc_lineage.specs.Actions.{action_outcome, saves}
 use Rattle.sc_lineage.specs.ScriptData.{WorkData}
-use Rattle.sc_files.specs.Calls.{CountsClash, CountsFault}
-use Rattle.sc_output.specs.Calls.{Call, MakesCalls}
+use Rattle.sc_files.specs.Calls.{CountsClash, CountsFault, counts_of}
+use Rattle.sc_ids.specs.declared.failures.Fault as device
+use Rattle.sc_output.specs.Calls.{Call, IsNotDone, MakesCalls}
 use Rattle.sc_output.specs.Commits.{abort_calls, commit_calls}
 use Rattle.sc_output.specs.Saved.{IsUnderWay}
 use Rattle.sc_staging.specs.Opening.{IsHalfOpened, IsInTheWay, IsOfSave, IsOpenedNoFurther}
@@ -17,7 +18,7 @@ use Rattle.sc_core.specs.declared.journals.JobHistory.{JobHistory}
 use Rattle.sc_jobs.specs.JobData.{goal_action}
 use Rattle.sc_jobs.specs.declared.goals.Goal.{Goal}
 use Rattle.sc_jobs.specs.declared.goals.Goal.TheVariants as goals
-use Rattle.sc_desk.specs.Files.{AreWinners, dir_of_job}
+use Rattle.sc_desk.specs.Files.{AreCounted, AreWinners, dir_of_job, faults_of}
 use Rattle.sc_context.specs.Histories.{HasCome}
 use Rattle.sc_context.specs.Progress.{Progress}
 use Rattle.sc_context.specs.declared.stops.JobFault.{JobFault}
@@ -46,16 +47,19 @@ pub record IsCommitted (work : WorkData) (goal : Goal) (dir : Path) (h : JobHist
   pub saved : (opening : Tree) → before.shown ≡ Some opening → IsApart dir opening
       → after.shown ≡ Some (saved_tree dir texts opening)
 
--- what a job that is done leaves of the files, by the directory that it saves to
+-- the same of any job, by the directory that it saves to
 abbrev pub LeavesIn :
     Option Path → WorkData → Goal → JobHistory → FilesState → FilesState → Type 0
 LeavesIn None work goal h before after = after ≡ before
 LeavesIn (Some dir) work goal h before after =
     IsCommitted work goal dir h before after × IsLaterFiles before after
 
-abbrev pub LeavesFiles : WorkData → Goal → JobHistory → FilesState → FilesState → Type 0
-LeavesFiles work goal h before after =
-    LeavesIn (dir_of_job work goal) work goal h before after
+-- What a job that is done leaves of the files: they have counted just the faults that its entries
+-- tell of.
+pub record LeavesFiles (work : WorkData) (goal : Goal) (h : JobHistory)
+    (before after : FilesState) : Type 0 where
+  pub left : LeavesIn (dir_of_job work goal) work goal h before after
+  pub counted : AreCounted (counts_of before) (faults_of h.entries.items) (counts_of after)
 
 -- what jobs leave that were done, one behind the other
 abbrev pub HaveLeft : (work : WorkData) (p : Progress) (histories : List JobHistory)
@@ -117,3 +121,26 @@ StopsIn (Some dir) before after why =
 abbrev pub StopsFiles : WorkData → ℕ → FilesState → FilesState → OrMemory JobFault → Type 0
 StopsFiles work k before after why =
     StopsIn (dir_of_job work (goals.Action k)) before after why
+
+-- ---- what the files have counted
+
+-- the faults that histories tell of, in order
+abbrev pub faults_told : List JobHistory → List device.Fault
+faults_told [] = []
+faults_told (h ∷ histories) = faults_of h.entries.items ++ faults_told histories
+
+-- what the last calls for a job that came to no end have counted, by what ended it
+abbrev pub CountsLast : OrMemory JobFault → FilesState → FilesState → Type 0
+CountsLast (Fault (faults.Aborted abort)) before after = IsQuietFiles before after
+CountsLast (Fault (faults.Exists path)) before after = CountsClash before after
+CountsLast (Fault (faults.Device path)) before after = IsNotDone before after
+CountsLast OutOfMemory before after = IsQuietFiles before after
+
+-- The files have counted the faults that histories tell of, and behind them what ended the last
+-- job.
+pub record HasCounted (told : List device.Fault) (why : OrMemory JobFault)
+    (before after : FilesState) : Type 0 where
+  pub last : FilesState
+  pub counted : AreCounted (counts_of before) told (counts_of last)
+  pub later : IsLaterFiles last after
+  pub ends : CountsLast why last after

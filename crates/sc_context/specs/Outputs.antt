@@ -7,7 +7,8 @@ use Rattle.sc_base.specs.declared.refusals.OrMemory.{OrMemory}
 use Rattle.sc_base.specs.declared.refusals.OrMemory.TheVariants.{Fault, OutOfMemory}
 use Rattle.sc_ids.specs.declared.attempts.AttemptId.{AttemptId}
 use Rattle.sc_lineage.specs.ScriptData.{WorkData}
-use Rattle.sc_files.specs.Calls.{CountsClash, CountsFault}
+use Rattle.sc_files.specs.Calls.{CountsClash, CountsFault, counts_of}
+use Rattle.sc_ids.specs.declared.failures.Fault as device
 use Rattle.sc_output.specs.Calls.{Call, MakesCalls}
 use Rattle.sc_output.specs.Commits.{AreCommitted, AreWinnersFrom, abort_calls, commit_calls}
 use Rattle.sc_output.specs.Saved.{IsUnderWay}
@@ -22,8 +23,8 @@ use Rattle.sc_core.specs.CoreData.{CoreData, result_stage}
 use Rattle.sc_core.specs.declared.answers.JobState.{JobState}
 use Rattle.sc_core.specs.declared.answers.JobState.TheVariants as jobs
 use Rattle.sc_jobs.specs.declared.goals.Goal.{Goal}
-use Rattle.sc_desk.specs.Files.{AreWinners, part_texts}
-use Rattle.sc_context.specs.Files.{IsEnding, IsOfNoFiles}
+use Rattle.sc_desk.specs.Files.{AreCounted, AreWinners, part_texts}
+use Rattle.sc_context.specs.Files.{HasCounted, IsEnding, IsOfNoFiles}
 use Rattle.sc_context.specs.Histories.{IsUnaborted}
 use Rattle.sc_context.specs.declared.stops.JobFault.{JobFault}
 use Rattle.sc_context.specs.declared.stops.JobFault.TheVariants as faults
@@ -161,3 +162,10 @@ WentIn (Some dir) work goal end opened after (Ok a) =
     IsLaterFiles opened after × CommitsAtEnd work goal dir end opened after
 WentIn (Some dir) work goal end opened after (Err why) =
     IsLaterFiles opened after × FailsAtEnd dir opened after why
+
+-- what the files of a job have counted whose files were opened, by the faults that its entries tell
+-- of, and by whether it has results
+abbrev pub CountsIn : {A : Type 0} → List device.Fault → FilesState → FilesState
+    → Result A (OrMemory JobFault) → Type 0
+CountsIn told opened after (Ok a) = AreCounted (counts_of opened) told (counts_of after)
+CountsIn told opened after (Err why) = HasCounted told why opened after

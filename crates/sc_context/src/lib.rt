@@ -3,10 +3,11 @@
 //! A [`Context`] runs the actions of a work in order. Before an action's own job come those that
 //! find the bounds of the sorts which it reads, where these weren't found before; each job begins
 //! behind what the ones before left: stages, bounds, registered map outputs, the stores of the
-//! executors, and how many reports were told. Each leaves its history. An action gives what the
-//! sequential meaning says, whatever the fault plan does, or a job is aborted, and then the last
-//! history shows why. A job that saves has its files opened before it begins, and committed or
-//! aborted at its end.
+//! executors, and how many reports were told. Each leaves its history. A job that saves has its
+//! files opened before it begins, and committed or aborted at its end. An action gives what the
+//! sequential meaning says, whatever the fault plan does. Else it says why not: a job was aborted,
+//! which the last history shows, its directory is there already, a call on its files failed, or
+//! memory ran out.
 //!
 //! `specs/Progress.antt` says which job comes next, `specs/Histories.antt` how jobs follow one
 //! another, `specs/Files.antt` what they leave of the files, `specs/Aborts.antt` what an abort

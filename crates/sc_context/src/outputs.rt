@@ -8,8 +8,6 @@ ghost use Rattle.sc_context.specs.Outputs.{CanCommit, EndsOutput, EndsSave, Have
 ghost use Rattle.sc_core.specs.declared.answers.JobState.TheVariants.{Done};
 ghost use Rattle.sc_desk.specs.Files.{AreWinners, dir_of_job};
 ghost use Rattle.sc_jobs.specs.JobData.{IsGoal};
-ghost use Rattle.sc_lineage.specs.Saves.{dir_of_action};
-ghost use Rattle.sc_lineage.specs.Views.{action_data_of};
 ghost use Rattle.sc_output.specs.Commits.{AreWinnersFrom};
 ghost use Rattle.sc_staging.specs.Outputs.{output_dir, output_files};
 
@@ -19,7 +17,6 @@ use sc_core::{Core, JobState};
 use sc_files::Files;
 use sc_ids::AttemptId;
 use sc_jobs::Goal;
-use sc_lineage::Action;
 use sc_output::is_within_types;
 use sc_staging::{Ended, Opened, Output, Staging};
 use sc_value::Name;
@@ -74,17 +71,7 @@ fn directory<W: Naming>(work: &SharedWork<W>, goal: Goal) -> Option<&Name>
         return None;
     };
     work.is_named();
-    saved_dir(&work.get().script().actions()[number as usize])
-}
-
-/// The directory that an action saves to, if it saves.
-fn saved_dir(action: &Action) -> Option<&Name>
-    ensures { option_map (λ n. n.now) result ≡ dir_of_action (action_data_of action.now) }
-{
-    match action {
-        Action::Save { dir, .. } => Some(dir),
-        Action::Collect { .. } | Action::Count { .. } | Action::Reduce { .. } => None,
-    }
+    work.get().script().actions()[number as usize].saves_to()
 }
 
 /// Ends the files of a job, where they weren't put aside, by how far it is.
@@ -104,8 +91,8 @@ pub(crate) fn end_output<F: Files>(alloc: Global, output: Output<F>, end: &Core)
     }
 }
 
-/// Ends a save: one that is done is committed, and one that was aborted leaves its directory alone.
-/// Where the job runs on, since memory ran out, the files are given back as they are.
+/// Ends a save: one that is done is committed, and one that was aborted has its staging area
+/// removed. Where the job runs on, since memory ran out, the files are given back as they are.
 fn end_save<F: Files>(alloc: Global, staging: Staging<F>, end: &Core) -> Ended<F>
     requires { end.now.job ≡ Done → CanCommit staging.dir end.now staging.files }
     ensures later { IsLaterFiles staging.files (F.state result.files) }

@@ -11,12 +11,13 @@ use sc_files::Files;
 use sc_value::Name;
 use sc_work::Naming;
 
-/// Why the job of an action came to no end.
+/// Why the job of an action came to no end, or didn't begin.
 #[derive(Drop)]
 pub enum JobFault {
     /// It was aborted; where it saves, its staging area was removed, and its directory stands.
     Aborted(Abort),
-    /// It was to save to a directory that is there already. Nothing in it has changed.
+    /// The directory that it was to make, or the staging area in that, is there already. Nothing in
+    /// this has changed.
     Exists(Name),
     /// It saves, and a call on the files failed where it was opened, committed or aborted.
     Device(Name),
@@ -25,7 +26,7 @@ pub enum JobFault {
 /// Why a context ran no further, how its jobs went, and the files.
 #[derive(Drop)]
 pub struct Stopped<F: Files> {
-    /// Why the last job came to no end, or want of memory.
+    /// Why the last job came to no end or the next one didn't begin, or want of memory.
     pub why: OrMemory<JobFault>,
     /// How the jobs went: all but the last are done.
     pub histories: Vec<JobHistory>,

@@ -1,14 +1,15 @@
 //! A job that goes to its end.
 #![tactic(auto)]
 
-ghost use Rattle.std.specs.Prelude.{◌≡◌, IfErr, IfOk, Ok, Some, map};
+ghost use Rattle.std.specs.Prelude.{◌≡◌, [], IfErr, IfOk, Ok, Some, map};
 ghost use Rattle.sc_context.specs.Contexts.{AreReadyBehind};
 ghost use Rattle.sc_context.specs.Jobs.{HasNoResults, HasResults};
-ghost use Rattle.sc_context.specs.Outputs.{LacksBy, LacksResults, WentIn};
+ghost use Rattle.sc_context.specs.Outputs.{CountsIn, LacksBy, LacksResults, WentIn};
 ghost use Rattle.sc_context.specs.Results.{AreThere};
 ghost use Rattle.sc_core.specs.Journals.{Replays};
 ghost use Rattle.sc_core.specs.declared.answers.JobState.TheVariants.{Done};
 ghost use Rattle.sc_desk.specs.Begins.{FitsLast, IsPassedFor};
+ghost use Rattle.sc_desk.specs.Files.{faults_of};
 ghost use Rattle.sc_desk.specs.Sound.{AreEvident};
 ghost use Rattle.sc_staging.specs.Outputs.{output_dir, output_files};
 ghost use Rattle.sc_world.specs.Files.{OutputStands};
@@ -49,6 +50,7 @@ pub(crate) fn run_world<W: Naming, F: Files>(
 ) -> Went<W, F>
     requires rests { IsResting world }
     requires stand { OutputStands W.work world F.state output }
+    requires begun { world.desk.journal.entries ≡ [] }
     ensures opening { result.history.opening ≡ world.desk.journal.opening }
     ensures replays { Replays result.history.opening result.history.entries.items
         result.history.end }
@@ -64,6 +66,8 @@ pub(crate) fn run_world<W: Naming, F: Files>(
     ensures none { IfErr result.results
         (HasNoResults W.work world.desk.job.goal result.history.end) }
     ensures left { WentIn (output_dir output) W.work world.desk.job.goal result.history.end
+        (output_files F.state output) (F.state result.files) result.results }
+    ensures counted { CountsIn (faults_of result.history.entries.items)
         (output_files F.state output) (F.state result.files) result.results }
 {
     let mut world = world;

@@ -17,6 +17,7 @@ use Rattle.sc_context.specs.Contexts.{ContextData}
 use Rattle.sc_context.specs.Histories.{HasDone}
 use Rattle.sc_context.specs.Progress.{first_progress}
 use Rattle.sc_context.specs.declared.stops.JobFault.TheVariants as faults
+use Rattle.sc_context.proofs.CountingLemmas.{still_counts}
 use Rattle.sc_context.proofs.FilesLemmas.{HaveGone, unchanged_stops}
 use Rattle.sc_print.specs.declared.faults.PrintFault.{PrintFault}
 use Rattle.sc_print.specs.declared.faults.PrintFault.TheVariants.{Aborted, Device, Driver, Exists, Write}
@@ -36,6 +37,7 @@ still-over work before after histories k done =
       more = [];
       all = sym (append-nil histories);
       over = unchanged_stops (dir_of_job work (goals.Action k)) after after OutOfMemory refl tt;
+      counted = still_counts after after refl;
     }
 
 -- nothing is printed, and no job has run

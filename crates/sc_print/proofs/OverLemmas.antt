@@ -116,6 +116,7 @@ module _ (work : WorkData) (before : FilesState) (c : ContextData)
           more = stops.behind.0;
           all = stops.behind.1;
           over = stops.over;
+          counted = stops.counted;
         }
 
 -- ---- files go on

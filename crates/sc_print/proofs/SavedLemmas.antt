@@ -51,7 +51,7 @@ left-later work [] p q come before after left =
     subst (λ s. IsLaterFiles before s) (sym left) (later-same before)
 left-later work (h ∷ histories) p q (mid, done, come) before after (then, leaves, left) =
     later-then before then after
-    (leaves-later (dir_of_job work done.goal) work done.goal h before then leaves)
+    (leaves-later (dir_of_job work done.goal) work done.goal h before then leaves.left)
     (left-later work histories mid q come then after left)
 
 -- ---- what an action leaves by its outcome
@@ -161,11 +161,11 @@ module _ (laws : SavesAreLawful) (work : WorkData) (opening : Tree)
     job-saved p (goals.Action number) next h before after shown left =
         action-saved p.actions h before after shown
         (goal_action work (goals.Action p.actions)) refl
-        (subst (λ n. LeavesFiles work (goals.Action n) h before after) next.0 left)
+        (subst (λ n. LeavesFiles work (goals.Action n) h before after) next.0 left).left
         ∙ ap Some (sym (next-leaves work work.script.actions p.actions opening))
         ∙ ap (λ n. Some (saved_by work n opening)) (sym (add-one p.actions))
     job-saved p (goals.Bounds sort) next h before after shown left =
-        ap (λ (s : FilesState). s.shown) left ∙ shown
+        ap (λ (s : FilesState). s.shown) left.left ∙ shown
 
     -- and jobs one behind the other
     pub left-saved : (histories : List JobHistory) (p q : Progress)

@@ -16,7 +16,7 @@ use Rattle.sc_compute.specs.declared.evaluation.Evaluated.TheVariants as evaluat
 use Rattle.sc_core.specs.declared.journals.JobHistory.{JobHistory}
 use Rattle.sc_context.specs.Aborts.{IsAborted, IsHalted}
 use Rattle.sc_context.specs.Contexts.{ContextData, Stops}
-use Rattle.sc_context.specs.Files.{HaveLeft, StopsFiles}
+use Rattle.sc_context.specs.Files.{HasCounted, HaveLeft, StopsFiles, faults_told}
 use Rattle.sc_context.specs.Histories.{HasCome, HasDone}
 use Rattle.sc_context.specs.Progress.{Progress, first_progress}
 use Rattle.sc_context.specs.declared.stops.JobFault.{JobFault}
@@ -71,7 +71,8 @@ pub record HasDoneOver (work : WorkData) (before after : FilesState)
   pub saved : (opening : Tree) → before.shown ≡ Some opening → AreApart work.script opening
       → after.shown ≡ Some (saved_by work k opening)
 
--- the first k actions are done, and the next one came to no end: how the files stand then
+-- The first k actions are done, and the next one came to no end: how the files stand then, and what
+-- they have counted since these actions were done.
 pub record EndsOver (work : WorkData) (before after : FilesState) (histories : List JobHistory)
     (k : ℕ) (why : OrMemory JobFault) : Type 0 where
   pub front : List JobHistory
@@ -80,6 +81,7 @@ pub record EndsOver (work : WorkData) (before after : FilesState) (histories : L
   pub more : List JobHistory
   pub all : histories ≡ front ++ more
   pub over : StopsFiles work k mid after why
+  pub counted : HasCounted (faults_told more) why mid after
 
 -- ---- how it ends
 

@@ -19,7 +19,7 @@ pub enum PrintFault {
     Exists {
         /// The number of the action, from 0.
         action: u32,
-        /// Which one.
+        /// The directory, or its staging area.
         path: Name,
     },
     /// A call on the files of an action that saves failed.

@@ -7,11 +7,12 @@ use Rattle.sc_jobs.specs.JobData.{JobData}
 use Rattle.sc_jobs.specs.Plans.{IsJobFor}
 use Rattle.sc_staging.specs.Outputs.{GoesOnIn, output_dir, output_files}
 use Rattle.sc_desk.specs.DeskData.{DeskData}
-use Rattle.sc_desk.specs.Files.{HasReplay}
+use Rattle.sc_desk.specs.Files.{HasReplay, faults_of}
 use Rattle.sc_desk.specs.Sound.{AreEvident, IsSoundDesk}
 use Rattle.sc_context.specs.Jobs.{HasNoResults, HasResults}
-use Rattle.sc_context.specs.Outputs.{CanCommit, WentIn}
+use Rattle.sc_context.specs.Outputs.{CanCommit, CountsIn, WentIn}
 use Rattle.sc_context.specs.Results.{AreThere}
+use Rattle.sc_context.proofs.CountingLemmas.{went_counts}
 use Rattle.sc_context.proofs.OutputLemmas.{can_commit}
 use Rattle.sc_context.proofs.ResultLemmas.{all_are_there, both_ok, results_of_job}
 use Rattle.sc_context.proofs.WentLemmas.{went_files, went_none}
@@ -112,3 +113,19 @@ returns-clause-evidence g c = λ is.
     subst (λ (j : JobData). AreEvident g.W.Naming.work j history.opening history.entries.items
     history.end is) (c.close-closed.ensures.job ∙ c.serial.ensures.same.job)
     (c.close-closed.ensures.evidence is)
+
+pub returns-clause-counted : goal.returns-clause-counted
+returns-clause-counted g c =
+    let d = c.serial.new.self.desk in
+    let output = c.serial.new.output in
+    let state = g.F.Files.state in
+    let opened = output_files state c.args.output in
+    let ended = c.end_output-files.result in
+    let end = c.close-closed.result.0.history.end in
+    let results = c.results_by-results.result in
+    subst (λ es. CountsIn (faults_of es) opened (state ended.files) results)
+    (sym c.close-closed.ensures.entries)
+    (went_counts c.args.world.desk d (output_dir output) end opened (output_files state output)
+    (state ended.files) ended.ended results c.requires.begun c.serial.ensures.files.counts
+    c.end_output-files.ensures.later c.end_output-files.ensures.ends
+    c.results_by-results.ensures.ended c.results_by-results.ensures.none)

@@ -78,7 +78,7 @@ returns-clause-finds g c =
         all = ended.all;
         come = gone.come;
         left = gone.left;
-        files = ended.left;
+        files = ended.left.left;
       };
       bounds = ap (λ (k : CarriedData). k.bounds) carried;
     }

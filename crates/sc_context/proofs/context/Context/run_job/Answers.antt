@@ -9,12 +9,14 @@ use Rattle.sc_core.specs.Sound.{HasLive}
 use Rattle.sc_core.specs.declared.journals.JobHistory.{JobHistory}
 use Rattle.sc_jobs.specs.JobData.{goal_node}
 use Rattle.sc_staging.specs.Outputs.{output_files}
-use Rattle.sc_desk.specs.Files.{dir_of_job}
+use Rattle.sc_desk.specs.Files.{dir_of_job, faults_of}
+use Rattle.sc_world.specs.WorldData.{WorldData}
 use Rattle.sc_context.specs.Contexts.{ContextData}
 use Rattle.sc_context.specs.Histories.{last_end}
 use Rattle.sc_context.specs.Jobs.{HasBegunFor, HasNoResults, HasResults}
 use Rattle.sc_context.specs.Outputs.{IsOpenIn, RefusesOutput, WentIn}
 use Rattle.sc_context.proofs.ChainLemmas.{next_known, stops_opened, stops_short, stops_unbegun}
+use Rattle.sc_context.proofs.CountingLemmas.{done_counts, stop_counts}
 use Rattle.sc_context.proofs.FilesLemmas.{went_stops}
 use Rattle.sc_context.proofs.JobLemmas.{ended_is, goal_is, has_went, results_for, stops_job}
 use Rattle.sc_context.proofs.LiveLemmas.{live_behind}
@@ -120,6 +122,8 @@ returns-in-Ok-results-clause-ended g c =
     let after = g.F.Files.state c.run_world-history.result.files in
     let sound = subst (λ (w : WorkData). IsSoundScript w.script)
     (c.get.ensures ∙ c.is_named.ensures) c.is_sound-2.ensures.script in
+    let is_open = subst (λ f. IsOpenIn dir f opened) (ap (λ (x : ContextData). x.files)
+    c.self.view_is) c.in-Ok-open_output.ensures.open.opened in
     ended_is work c.args.self c.args.goal h c.run_world-history.result.passed
     c.run_world-history.result.stores.items c.push_reserved.new.self.items given after went all
     are.done
@@ -129,14 +133,19 @@ returns-in-Ok-results-clause-ended g c =
       stores_are = c.run_world-history.ensures.ready;
     })
     own
-    (went_leaves c.laws_of_ends.ensures.ways c.laws_of_ends.ensures.outcome work c.args.goal h given
-    dir c.args.self.files opened after c.in-Ok-results.results results c.in-Ok-results.is sound
-    (next_known work p c.args.goal sound c.requires.within c.requires.next).0 refl own
-    (subst (λ f. IsOpenIn dir f opened) (ap (λ (x : ContextData). x.files) c.self.view_is)
-    c.in-Ok-open_output.ensures.open.opened)
-    (subst (λ k. WentIn dir work k h.end opened after results) for_goal
-    (subst (λ d. WentIn d work world.desk.job.goal h.end opened after results)
-    c.in-Ok-open_output.ensures.open.saves_to c.run_world-history.ensures.left)))
+    (record {
+      left = went_leaves c.laws_of_ends.ensures.ways c.laws_of_ends.ensures.outcome work
+          c.args.goal h given dir c.args.self.files opened after c.in-Ok-results.results results
+          c.in-Ok-results.is sound
+          (next_known work p c.args.goal sound c.requires.within c.requires.next).0 refl own
+          is_open
+          (subst (λ k. WentIn dir work k h.end opened after results) for_goal
+          (subst (λ d. WentIn d work world.desk.job.goal h.end opened after results)
+          c.in-Ok-open_output.ensures.open.saves_to c.run_world-history.ensures.left));
+      counted = done_counts dir (faults_of h.entries.items) c.args.self.files opened after
+          c.in-Ok-results.results results c.in-Ok-results.is is_open
+          c.run_world-history.ensures.counted;
+    })
 
 pub returns-in-Err-results-clause-stops : goal.returns-in-Err-results-clause-stops
 returns-in-Err-results-clause-stops g c =
@@ -167,6 +176,8 @@ returns-in-Err-results-clause-stops g c =
     let dir = dir_of_job work c.args.goal in
     let opened = output_files g.F.Files.state c.in-Ok-open_output.output in
     let after = g.F.Files.state c.run_world-history.result.files in
+    let is_open = subst (λ f. IsOpenIn dir f opened) (ap (λ (x : ContextData). x.files)
+    c.self.view_is) c.in-Ok-open_output.ensures.open.opened in
     stops_job
     (record {
       raises = c.laws_of_ends.ensures.raises;
@@ -182,9 +193,14 @@ returns-in-Err-results-clause-stops g c =
     (subst (λ r. IfErr r (HasNoResults work world.desk.job.goal h.end)) c.in-Err-results.is
     c.run_world-history.ensures.none))
     (went_stops c.laws_of_ends.ensures.ways dir work c.args.goal h.end c.args.self.files opened
-    after why results c.in-Err-results.is
-    (subst (λ f. IsOpenIn dir f opened) (ap (λ (x : ContextData). x.files) c.self.view_is)
-    c.in-Ok-open_output.ensures.open.opened)
+    after why results c.in-Err-results.is is_open
     (subst (λ k. WentIn dir work k h.end opened after results) for_goal
     (subst (λ d. WentIn d work world.desk.job.goal h.end opened after results)
     c.in-Ok-open_output.ensures.open.saves_to c.run_world-history.ensures.left)))
+    (stop_counts dir h c.args.self.files opened after why results c.in-Err-results.is is_open
+    c.run_world-history.ensures.counted)
+
+pub run_world-history-requires-clause-begun : goal.run_world-history-requires-clause-begun
+run_world-history-requires-clause-begun g c =
+    let begun = c.in-Ok-begin_world.ensures.begun in
+    ap (λ (x : WorldData). x.desk.journal.entries) begun.idle ∙ begun.begins.entries

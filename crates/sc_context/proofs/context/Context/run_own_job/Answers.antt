@@ -3,9 +3,16 @@ use Rattle.sc_stagecut.specs.Carrying.{CarriedData}
 use Rattle.sc_jobs.specs.JobData.{goal_action}
 use Rattle.sc_jobs.specs.declared.goals.Goal.TheVariants as goals
 use Rattle.sc_context.specs.Contexts.{ContextData, Evaluates}
-use Rattle.sc_context.proofs.ChainLemmas.{stops_ended}
+use Rattle.sc_context.proofs.ChainLemmas.{stops_ended, stops_short}
 use Rattle.sc_context.proofs.JobLemmas.{context_behind, gone_behind}
 use Rattle.sc_context.proofs.context.Context.run_own_job.Goals as goal
+
+pub returns-in_default-clause-stops : goal.returns-in_default-clause-stops
+returns-in_default-clause-stops g c =
+    let left = c.without_memory.result in
+    stops_short g.W.Naming.work c.args.self left.why left.histories.items
+    (g.F.Files.state left.files) c.is_sound.ensures.come c.without_memory.ensures.why
+    c.without_memory.ensures.histories c.without_memory.ensures.files
 
 pub returns-in_default-value_of-clause-stops : goal.returns-in_default-value_of-clause-stops
 returns-in_default-value_of-clause-stops g c =
