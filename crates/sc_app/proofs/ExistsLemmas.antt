@@ -75,7 +75,8 @@ module _ (laws : SavesAreLawful) (names : NamesLieWithin) (work : WorkData) (ope
         let leaves : LeavesIn (Some dir) work (goals.Action k) h before after =
         subst (λ d. LeavesIn d work (goals.Action k) h before after)
         (dir-saved work.script.actions k saves.0 dir saves.1)
-        (subst (λ n. LeavesFiles work (goals.Action n) h before after) (next.0 ∙ same) left) in
+        (subst (λ n. LeavesFiles work (goals.Action n) h before after) (next.0 ∙ same) left).left
+        in
         (was-so (λ t u. (has_dir t dir ≡ false) × IsUnderWay dir t u) before.shown
         leaves.0.mid.shown (behind k) (shown ∙ ap (λ n. Some (behind n)) same)
         leaves.0.way.way).1.0

@@ -124,7 +124,7 @@ SavesSome work = (action : ActionData) × Contains work.script.actions action
     × (is_saving action ≡ true)
 
 -- if the plan has no line, no executor is lost and no stage is given up; and if moreover no action
--- is never, no task fails, unless it is one of an action that saves
+-- is never, no task fails too often, unless some action saves
 abbrev pub TellsNoFailure : List (List ℕ) → List Read → Status → Type 0
 TellsNoFailure words reads status = (work : WorkData) → HasReadWork words reads work
     → work.plan ≡ []

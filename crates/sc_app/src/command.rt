@@ -72,8 +72,9 @@ pub fn run<R, S: Source, K: Sink, F: Files>(
         (F.state files) (F.state result.files))
         result.status) (S.state source.old) (S.state source.new) }
 
-    // Done: the sink got exactly the text of the meaning of the script and inputs that were read,
-    // and each saved directory holds exactly that meaning's part files and `_SUCCESS`.
+    // Done: the sink got exactly the text of the meaning of the script and inputs that were read.
+    // Where the files show and the directories are apart, each saved directory holds exactly that
+    // meaning's part files and `_SUCCESS`, and nothing else has changed.
     ensures headline { Over (map string_bytes words.now) (λ before after.
         ZeroMeansText (run_of (map string_bytes words.now) result.read.items
         (outside_of before (K.state sink.old)) (outside_of after (K.state sink.new))

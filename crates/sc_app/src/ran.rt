@@ -17,7 +17,7 @@ use sc_value::Name;
 pub enum Status {
     /// Every action was done.
     Done,
-    /// The words aren't `run` and the name of a script.
+    /// The words are no command: `clap` refuses them.
     Usage,
     /// The script has a fault.
     Script(ScriptFault),

@@ -1,4 +1,5 @@
-//! Runs a script over text files: `spark_run run SCRIPT`.
+//! Runs a script over text files, as `spark_run run SCRIPT`, or over lines that are generated, as
+//! `spark_run gen`.
 //!
 //! It makes the objects that reach the system, calls the run of `sc_app`, prints the text of a
 //! status other than 0 on standard error, and ends with the status.
@@ -21,7 +22,7 @@ fn main(rt: HostRuntime) -> ExitCode {
     ExitCode::from(status.number())
 }
 
-/// Runs the script that the words of the process name.
+/// Runs what the words of the process ask for.
 fn start<R: Runtime + AllocGlobal>(rt: &R) -> io::Result<Status> {
     let mut words = Vec::new(rt.alloc());
     for word in env::args(rt)?.skip(1) {
