@@ -1,0 +1,7 @@
+pub mod FoldLemmas
+mod WalkLemmas
+mod FirstLemmas
+mod ForwardLemmas
+mod StepLemmas
+mod LeaveLemmas
+mod EndLemmas
