@@ -1,0 +1,4 @@
+pub mod Crossing
+pub mod JobsCross
+pub mod LogLemmas
+pub mod WorksCross

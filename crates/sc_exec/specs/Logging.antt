@@ -1,0 +1,140 @@
+-- Calls at a desk in step with the log of an executor.
+use Rattle.std.specs.Prelude.{ℕ, ◌≡◌, ◌<◌, List, [], ◌∷◌, ◌++◌, vec_capacity, vec_len, Bool, true, false}
+use Rattle.sc_ids.specs.declared.attempts.AttemptId.{AttemptId}
+use Rattle.sc_ids.specs.declared.attempts.Mark.TheVariants.{Exec}
+use Rattle.sc_lineage.specs.ScriptData.{WorkData}
+use Rattle.sc_staging.specs.StagingData.{StagingData}
+use Rattle.sc_core.specs.CoreData.{CoreData, job_runs}
+use Rattle.sc_core.specs.Journals.{entry}
+use Rattle.sc_core.specs.declared.answers.Answer.{Answer}
+use Rattle.sc_core.specs.declared.answers.Answer.TheVariants as says
+use Rattle.sc_core.specs.declared.answers.SideAnswer.{SideAnswer}
+use Rattle.sc_core.specs.declared.answers.SideAnswer.TheVariants as sides
+use Rattle.sc_core.specs.declared.entries.Entry.{Entry}
+use Rattle.sc_core.specs.declared.events.Event.{Event}
+use Rattle.sc_core.specs.declared.events.Event.TheVariants as events
+use Rattle.sc_core.specs.declared.events.SideEvent.TheVariants.{Ask, Leave, Move, Stage}
+use Rattle.sc_net.specs.Reports.{ReportData, outcome_of}
+use Rattle.sc_desk.specs.Asides.{Notes}
+use Rattle.sc_desk.specs.DeskData.{DeskData, core_of}
+use Rattle.sc_desk.specs.Dues.{IsEarly}
+use Rattle.sc_desk.specs.Leaving.{has_left}
+use Rattle.sc_desk.specs.Posts.{IsKnown, Receives, attempt_of}
+use Rattle.sc_desk.specs.Saving.{MovesPart, StagesPart}
+use Rattle.sc_desk.specs.Takes.{TakesLogged}
+use Rattle.sc_desk.specs.Tellings.{Releases, TellsLost}
+use Rattle.sc_desk.specs.declared.posts.Posted.{Posted}
+use Rattle.sc_desk.specs.declared.posts.Posted.TheVariants as posteds
+use Rattle.sc_desk.specs.declared.receipts.Noted.{Noted}
+use Rattle.sc_desk.specs.declared.receipts.Receipt.{Receipt}
+use Rattle.sc_desk.specs.declared.takes.Taken.{Taken}
+use Rattle.sc_exec.specs.declared.calls.Delivery.{Delivery}
+use Rattle.sc_exec.specs.declared.calls.Delivery.TheVariants as deliveries
+use Rattle.sc_logs.specs.declared.logs.ExecLog.{ExecLog}
+
+-- ---- logs
+
+-- a log has room for one more entry, which is kept for its executor's leave
+abbrev pub HasRoom : ExecLog → Type 0
+HasRoom log = vec_len log.entries < vec_capacity log.entries
+
+-- one event more of a log's executor, with what it was answered
+pub record IsLogged (log : ExecLog) (event : Event) (answer : Answer) (then : ExecLog)
+    : Type 0 where
+  pub exec : then.exec ≡ log.exec
+  pub entries : then.entries.items ≡ log.entries.items ++ entry (Exec log.exec) event answer ∷ []
+
+-- a log with the same entries
+abbrev pub IsSameLog : ExecLog → ExecLog → Type 0
+IsSameLog log then = (then.exec ≡ log.exec) × (then.entries.items ≡ log.entries.items)
+
+-- what happened last, by the entries of a journal
+abbrev pub IsLastEvent : List Entry → Event → Type 0
+IsLastEvent entries event =
+    (before : List Entry) (e : Entry) → entries ≡ before ++ e ∷ [] → event ≡ e.event
+
+-- what happened last, by the entries of a journal, is logged with this answer
+abbrev pub IsLoggedLast : ExecLog → List Entry → SideAnswer → ExecLog → Type 0
+IsLoggedLast log entries answer then =
+    (event : Event) × IsLastEvent entries event × IsLogged log event (says.Side answer) then
+
+-- what becomes of a report that was posted in an event: one that is received is logged
+abbrev pub IsDelivered : {W : _} → ExecLog → Event → Posted W → Delivery W → ExecLog → Type 0
+IsDelivered log event (posteds.Receipt receipt) deliveries.Received then =
+    IsLogged log event receipt.answer then
+IsDelivered log event (posteds.Stranger report) (deliveries.Stranger back) then =
+    (back ≡ report) × IsSameLog log then
+IsDelivered log event (posteds.Early report wipes) (deliveries.Early back due) then =
+    (back ≡ report) × (due ≡ wipes) × IsSameLog log then
+IsDelivered log event posted delivery then = ⊥
+
+-- ---- calls: each makes one entry, which the log has too
+
+-- the executor asks for a task
+abbrev pub TakesBoth : {W : _} → DeskData → ExecLog → Taken W → DeskData → ExecLog → Type 0
+TakesBoth d log taken after then =
+    (answer : Answer) × TakesLogged d (Exec log.exec) log.exec taken answer after
+    × IsLogged log (events.Take log.exec) answer then
+
+-- it posts a report, which is received, or is handed back with no entry
+abbrev pub PostsBoth : {W : _} → WorkData → DeskData → ExecLog → ReportData → Delivery W
+    → DeskData → ExecLog → Type 0
+PostsBoth work d log report deliveries.Received after then =
+    (receipt : Receipt) × Receives work d (Exec log.exec) report receipt after
+    × IsLogged log (events.Post (attempt_of report) (outcome_of report.finding)) receipt.answer then
+PostsBoth work d log report (deliveries.Stranger back) after then =
+    (IsKnown d report → ⊥) × (back ≡ report) × (after ≡ d) × IsSameLog log then
+PostsBoth work d log report (deliveries.Early back due) after then =
+    IsKnown d report × IsEarly work (core_of d).told report.finding due × (back ≡ report)
+    × (after ≡ d) × IsSameLog log then
+
+-- it has a report told that was to be told later
+abbrev pub ReleasesBoth : DeskData → ExecLog → ℕ → DeskData → ExecLog → Type 0
+ReleasesBoth d log key after then =
+    (receipt : Receipt) × Releases d (Exec log.exec) key receipt after
+    × IsLogged log (events.Release key) receipt.answer then
+
+-- it has an executor told lost
+abbrev pub LosesBoth : DeskData → ExecLog → ℕ → DeskData → ExecLog → Type 0
+LosesBoth d log exec after then =
+    (receipt : Receipt) × TellsLost d (Exec log.exec) exec receipt after
+    × IsLogged log (events.TellLost exec) receipt.answer then
+
+-- its attempt asks whether it may commit
+abbrev pub AsksBoth : DeskData → ExecLog → AttemptId → SideAnswer → DeskData → ExecLog → Type 0
+AsksBoth d log attempt answer after then =
+    (noted : Noted) × (noted.answer ≡ answer) × Notes d (Exec log.exec) (Ask attempt) noted after
+    × IsLogged log (events.Side (Ask attempt)) (says.Side answer) then
+
+-- its attempt, where it comes next, writes its part, which has this text
+abbrev pub StagesBoth : DeskData → ExecLog → AttemptId → List ℕ → StagingData → StagingData
+    → SideAnswer → DeskData → ExecLog → Type 0
+StagesBoth d log attempt text before behind answer after then =
+    (noted : Noted) × (noted.answer ≡ answer)
+    × (stages : StagesPart d (Exec log.exec) attempt text before behind noted after)
+    × IsLogged log (events.Side (Stage attempt stages.wrote)) (says.Side answer) then
+
+-- its attempt, where it comes next, gives its part the name of a committed one
+abbrev pub MovesBoth : DeskData → ExecLog → AttemptId → StagingData → StagingData → SideAnswer
+    → DeskData → ExecLog → Type 0
+MovesBoth d log attempt before behind answer after then =
+    (noted : Noted) × (noted.answer ≡ answer)
+    × (moves : MovesPart d (Exec log.exec) attempt before behind noted after)
+    × IsLogged log (events.Side (Move attempt moves.renamed)) (says.Side answer) then
+
+-- what an executor is answered that leaves: after the job's end nothing changes
+abbrev pub leave_answer_if : Bool → SideAnswer
+leave_answer_if true = sides.Left
+leave_answer_if false = sides.Ignored
+
+abbrev pub leave_answer : CoreData → SideAnswer
+leave_answer c = leave_answer_if (job_runs c)
+
+-- the executor leaves; where it left before nothing changes
+abbrev pub LeavesBoth : DeskData → ExecLog → Bool → DeskData → ExecLog → Type 0
+LeavesBoth d log true after then =
+    (has_left log.exec d.journal.entries ≡ false) × (noted : Noted)
+    × Notes d (Exec log.exec) (Leave log.exec) noted after
+    × IsLogged log (events.Side (Leave log.exec)) (says.Side noted.answer) then
+LeavesBoth d log false after then =
+    (has_left log.exec d.journal.entries ≡ true) × (after ≡ d) × IsSameLog log then

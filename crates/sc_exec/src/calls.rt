@@ -1,0 +1,101 @@
+//! Calls at a desk in step with the log of an executor.
+#![tactic(auto)]
+
+ghost use Rattle.std.specs.Prelude.{◌≡◌, ◌<◌, ◌+◌, IfErr, IfOk, OnErr, vec_capacity, vec_len};
+ghost use Rattle.sc_exec.specs.Logging.{HasRoom, IsDelivered, IsSameLog, PostsBoth, TakesBoth};
+
+use crate::named::Named;
+use crate::openings::Opening;
+use sc_core::{Entry, Event};
+use sc_desk::{Logged, Posted, Taken};
+use sc_ids::Mark;
+use sc_logs::ExecLog;
+use sc_net::Report;
+use sc_work::Naming;
+use std::alloc::{AllocError, AllocFailed};
+
+/// What becomes of a report that an executor posts.
+#[derive(Drop)]
+pub enum Delivery<W: Naming> {
+    /// It is received.
+    Received,
+    /// It is not of the task that was given to its attempt, and is handed back.
+    Stranger(Report<W>),
+    /// It speaks of a generation that no wipe has brought yet, and is handed back.
+    Early {
+        /// The report.
+        report: Report<W>,
+        /// How many wipes are due.
+        due: u64,
+    },
+}
+
+impl<W: Naming, J: Opening> Named<W, J> {
+    /// An executor asks for a task, and logs what it was answered. A refused call changes nothing.
+    pub fn take(&mut self, log: &mut ExecLog) -> Result<Taken<W>, AllocError>
+        requires room { HasRoom log.old }
+        ensures taken { IfOk result (λ t. TakesBoth self.old log.old t self.new log.new) }
+        ensures refused { OnErr result (self.new ≡ self.old) }
+        ensures unlogged { OnErr result (IsSameLog log.old log.new) }
+        ensures room { HasRoom log.new }
+    {
+        log.entries.reserve(2)?;
+        let exec = log.exec;
+        let by = Mark::Exec(exec);
+        let Logged { taken, answer } = self.desk.take_logged(by, exec)?;
+        log.entries.push_reserved(Entry {
+            by,
+            event: Event::Take { exec },
+            answer,
+        });
+        Ok(taken)
+    }
+
+    /// An executor posts a report, and logs what it was answered. One that is handed back isn't
+    /// logged. A refused call changes nothing and hands the report back.
+    #[tactic(auto, using(crate::proofs::LogLemmas::posts_logged))]
+    pub fn post(
+        &mut self,
+        log: &mut ExecLog,
+        report: Report<W>,
+    ) -> Result<Delivery<W>, AllocFailed<Report<W>>>
+        requires room { HasRoom log.old }
+        ensures posted { IfOk result
+            (λ p. PostsBoth W.work self.old log.old report p self.new log.new) }
+        ensures refused { OnErr result (self.new ≡ self.old) }
+        ensures unlogged { OnErr result (IsSameLog log.old log.new) }
+        ensures back { IfErr result (λ failed. failed.value ≡ report) }
+        ensures room { HasRoom log.new }
+    {
+        if log.entries.reserve(2).is_err() {
+            return Err(AllocFailed { value: report });
+        }
+        let by = Mark::Exec(log.exec);
+        let attempt = report.attempt();
+        let outcome = report.outcome();
+        match self.desk.post(by, report) {
+            Ok(posted) => Ok(delivered(log, Event::Post { attempt, outcome }, posted)),
+            Err(failed) => Err(failed),
+        }
+    }
+}
+
+/// What becomes of a report that was posted in an event: one that is received is logged.
+fn delivered<W: Naming>(log: &mut ExecLog, event: Event, posted: Posted<W>) -> Delivery<W>
+    requires room { vec_len log.old.entries + 1 < vec_capacity log.old.entries }
+    ensures delivered { IsDelivered log.old event posted result log.new }
+    ensures room { HasRoom log.new }
+{
+    match posted {
+        Posted::Receipt(receipt) => {
+            log.entries.push_reserved(Entry {
+                by: Mark::Exec(log.exec),
+                event,
+                answer: receipt.answer,
+            });
+            Delivery::Received
+        }
+        Posted::Stranger(report) => Delivery::Stranger(report),
+        Posted::Early { report, due } => Delivery::Early { report, due },
+    }
+}
