@@ -50,11 +50,11 @@ mod keys;
 #[cfg(test)]
 mod layouts;
 #[cfg(test)]
+mod leaving;
+#[cfg(test)]
 mod losses;
 #[cfg(test)]
 mod outside;
-#[cfg(test)]
-mod paths;
 #[cfg(test)]
 mod plans;
 #[cfg(test)]

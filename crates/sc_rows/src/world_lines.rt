@@ -9,8 +9,6 @@ ghost use Rattle.std.specs.Prelude.{◌≡◌, ◌<◌, IfSome, length};
 ghost use Rattle.sc_context.specs.Starts.{new_stores};
 ghost use Rattle.sc_jobs.specs.JobData.{goal_node};
 ghost use Rattle.sc_jobs.specs.declared.goals.Goal.TheVariants as goals;
-ghost use Rattle.std.specs.Option.{option_map};
-ghost use Rattle.sc_lineage.specs.Saves.{dir_of_action};
 ghost use Rattle.sc_lineage.specs.ScriptData.{node_of_action};
 ghost use Rattle.sc_lineage.specs.Views.{action_data_of};
 ghost use Rattle.sc_desk.specs.Files.{dir_of_job};
@@ -38,7 +36,7 @@ use std::process::Abort;
 
 /// A count of words in two partitions: stage 0 makes two map outputs, and stage 1 reads them for
 /// two results.
-const WORD_COUNT: &str = r#"
+pub const WORD_COUNT: &str = r#"
 l = text "in.txt" 2
 w = flatMap l (words x)
 p = map w (pair x 1)
@@ -98,7 +96,7 @@ fn output_of<W: Naming, F: Files, R: Abort + AllocGlobal>(
         (λ dir. IfSome (output_files F.state result).shown (IsNewlyOpened dir)) }
 {
     work.is_named();
-    match saved_dir(&work.get().script().actions()[0]) {
+    match work.get().script().actions()[0].saves_to() {
         Some(dir) => match Staging::open(rt.alloc(), files, dir) {
             Opened::Staging(staging) => Output::Save(staging),
             Opened::Exists { .. } | Opened::Device { .. } | Opened::NoMemory { .. } => {
@@ -109,18 +107,8 @@ fn output_of<W: Naming, F: Files, R: Abort + AllocGlobal>(
     }
 }
 
-/// The directory that an action saves to, if it saves.
-fn saved_dir(action: &Action) -> Option<&Name>
-    ensures { option_map (λ n. n.now) result ≡ dir_of_action (action_data_of action.now) }
-{
-    match action {
-        Action::Save { dir, .. } => Some(dir),
-        Action::Collect { .. } | Action::Count { .. } | Action::Reduce { .. } => None,
-    }
-}
-
 /// The desk of the first action of a work, which reads no sort.
-fn desk_of<W: Naming, R: Abort + AllocGlobal>(rt: &R, work: &SharedWork<W>) -> Desk<W>
+pub fn desk_of<W: Naming, R: Abort + AllocGlobal>(rt: &R, work: &SharedWork<W>) -> Desk<W>
     ensures first { IsFirstDesk W.work result }
     ensures some { 0 < length W.work.script.actions }
 {
