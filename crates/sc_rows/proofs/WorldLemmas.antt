@@ -1,12 +1,13 @@
 -- The worlds that tests begin are worlds of a job that begins.
-use Rattle.std.proofs.Common.{◌≡◌, List, None, Option, subst, sym}
+use Rattle.std.proofs.Common.{◌≡◌, List, None, Option, Some, subst, sym}
 use Rattle.std.specs.Prelude.{IfSome}
-use Rattle.sc_base.specs.Outside.{FilesState}
-use Rattle.sc_base.specs.Trees.{Path}
+use Rattle.sc_base.specs.Outside.{Changes, FilesState}
+use Rattle.sc_base.specs.Trees.{Path, Tree}
 use Rattle.sc_lineage.specs.ScriptData.{WorkData}
 use Rattle.sc_jobs.specs.declared.goals.Goal.TheVariants as goals
 use Rattle.sc_desk.specs.DeskData.{DeskData, core_of}
 use Rattle.sc_desk.specs.Files.{FilesGoOn, FilesStand, dir_of_job}
+use Rattle.sc_staging.specs.Opening.{IsOpened}
 use Rattle.sc_store.specs.StoreData.{StoreData}
 use Rattle.sc_world.specs.Runs.{AreReady, idle_world}
 use Rattle.sc_world.specs.WorldData.{WorldData}
@@ -28,3 +29,14 @@ pub first_stands : FilesGoOn → (work : WorkData) (desk : DeskData) (stores : L
 first_stands laws work desk stores w dir files (passed, begins) idle same opened =
     subst (λ (x : WorldData). FilesStand work x.desk dir files) (sym idle)
     (laws.begun work passed None (goals.Action 0) desk dir files begins same opened)
+
+-- both directories of a save that was opened were made, where they show
+pub newly_opened : (dir own : Path) (before after : Option Tree) → own ≡ dir
+    → Changes (IsOpened dir) before after → IfSome after (IsNewlyOpened own)
+newly_opened dir own before after is opened =
+    subst (λ p. IfSome after (IsNewlyOpened p)) (sym is) (made before after opened)
+  where
+    made : (a b : Option Tree) → Changes (IsOpened dir) a b → IfSome b (IsNewlyOpened dir)
+    made a None opened = tt
+    made None (Some t) opened = absurd opened
+    made (Some u) (Some t) opened = (u, opened.made)
