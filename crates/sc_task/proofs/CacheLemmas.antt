@@ -1,7 +1,7 @@
--- What an attempt takes from the cache of a store, and what it keeps there.
-use Rattle.std.proofs.Common.{◌≡◌, ◌∙◌, ℕ, zero, suc, ◌+◌, ◌<◌, Bool, true, false, ◌&&◌, ◌||◌, List, [], ◌∷◌, ◌++◌, Option, Some, None, All, length, get_or, take, true≢false, refl, ap, ap₂, sym, subst, arith}
+-- What an attempt takes from the cache of a store.
+use Rattle.std.proofs.Common.{◌≡◌, ◌∙◌, ℕ, zero, suc, ◌<◌, Bool, true, false, ◌&&◌, ◌||◌, List, [], ◌∷◌, ◌++◌, Option, Some, None, All, length, true≢false, refl, ap, ap₂, sym, subst, arith}
 use Rattle.std.proofs.lemmas.Bool.{and_parts}
-use Rattle.std.proofs.lemmas.List.{map-append, take_more}
+use Rattle.std.proofs.lemmas.List.{map-append}
 use Rattle.std.proofs.lemmas.List.Elements.{All-append, All-cons, All-nil}
 use Rattle.std.specs.List.{list_any}
 use Rattle.std.specs.Option.{IfSome, is_some}
@@ -13,9 +13,7 @@ use Rattle.sc_lineage.specs.Targets.{TargetData}
 use Rattle.sc_lineage.specs.Views.{place_data_of}
 use Rattle.sc_lineage.specs.declared.dependencies.Place.{Place}
 use Rattle.sc_base.specs.Lists.{at_or}
-use Rattle.sc_cache.specs.Caches.{CacheData, with_kept, with_used}
-use Rattle.sc_cache.specs.declared.names.CachedId.{CachedId}
-use Rattle.sc_compute.specs.Asking.{AreOfCaches, AsksFor, AsksNext, AsksPast, IsTakenFor, place_taken}
+use Rattle.sc_compute.specs.Asking.{AreOfCaches, AsksFor, AsksNext, AsksPast, IsTakenFor, place_number, place_taken}
 use Rattle.sc_compute.specs.Caching.{IsOwnPart, is_cache}
 use Rattle.sc_compute.specs.Needs.{places_in}
 use Rattle.sc_compute.specs.Stages.{node_at}
@@ -24,8 +22,9 @@ use Rattle.sc_compute.specs.declared.asking.Asking.{Asking}
 use Rattle.sc_compute.specs.declared.caching.CachedPart.{CachedPart}
 use Rattle.sc_compute.proofs.AskingLemmas.{taken_known}
 use Rattle.sc_compute.proofs.AsksLemmas.{among_all, asks_given, needed_known}
-use Rattle.sc_store.specs.StoreData.{StoreData, cached_in, with_cache}
-use Rattle.sc_task.specs.Caches.{IsCachedIn, IsSameButCache, KeepsEach, KeepsSome, TakesCached, cached_id, has_cache, has_cached, with_each_kept, with_each_used}
+use Rattle.sc_store.specs.StoreData.{StoreData, cached_in}
+use Rattle.sc_task.specs.Caches.{AreNearestFirst, IsCachedIn, TakesCached, cached_id, has_cache, has_cached}
+use Rattle.sc_task.proofs.OrderLemmas.{IsBefore, all_before, last_in_order, still_before}
 
 -- ---- what is taken
 
@@ -82,6 +81,9 @@ pub record TakesSoFar (work : WorkData) (from : PlaceData) (store : StoreData)
   pub asks : AsksFor work (has_cached work store) from (places_in known) asking
   pub taken : All (IsTakenFor work (has_cached work store) from) (places_in known)
   pub rows : All (IsCachedIn store) known
+  pub order : AreNearestFirst known
+  -- what is still to be looked at is behind them
+  pub past : All (IsBefore asking) known
 
 module _ (work : WorkData) (from : PlaceData) (store : StoreData) where
   abbrev had : PlaceData → Bool
@@ -93,15 +95,18 @@ module _ (work : WorkData) (from : PlaceData) (store : StoreData) where
     asks = asks;
     taken = All-nil (IsTakenFor work had from);
     rows = All-nil (IsCachedIn store);
+    order = tt;
+    past = All-nil (IsBefore asking);
   }
 
   -- one that the store has is taken
   pub takes_more : (known after : List CachedPart) (part : CachedPart) (at : Place)
       (before asking : Asking) → TakesSoFar work from store known before
       → AsksNext work before asking (Some at) → is_cache (node_at work at.node) ≡ true
+      → place_number at ≡ asking.below → asking.below < before.below
       → part.at ≡ at → Some part.rows ≡ cached_in store (cached_id (place_data_of at))
       → after ≡ known ++ part ∷ [] → TakesSoFar work from store after asking
-  takes_more known after part at before asking far next cache there rows is =
+  takes_more known after part at before asking far next cache last fewer there rows is =
       let one = place_data_of at in
       let found : had one ≡ true = is_had work store one part.rows cache (sym rows) in
       let past = next had from (places_in known) (caches_only work store) far.asks in
@@ -120,23 +125,33 @@ module _ (work : WorkData) (from : PlaceData) (store : StoreData) where
         rows = subst (All (IsCachedIn store)) (sym is)
             (All-append (IsCachedIn store) known (part ∷ []) far.rows
             (All-cons (IsCachedIn store) part [] in_store (All-nil (IsCachedIn store))));
+        order = subst AreNearestFirst (sym is)
+            (last_in_order known part before asking number fewer far.order far.past);
+        past = subst (All (IsBefore asking)) (sym is)
+            (all_before known part before asking number fewer far.past);
       }
+    where
+      number : place_number part.at ≡ asking.below
+      number = ap place_number there ∙ last
 
   -- behind one that it lacks more is asked for
   pub takes_on : (known : List CachedPart) (at : Place) (before asking after : Asking)
       → TakesSoFar work from store known before → AsksNext work before asking (Some at)
+      → asking.below < before.below → after.below ≡ asking.below
       → None ≡ cached_in store (cached_id (place_data_of at))
       → (had (place_data_of at) ≡ false
       → AsksPast work had from (places_in known) asking (place_data_of at)
       → AsksFor work had from (places_in known) after)
       → TakesSoFar work from store known after
-  takes_on known at before asking after far next none behind =
+  takes_on known at before asking after far next fewer same none behind =
       let one = place_data_of at in
       record {
         asks = behind (isnt_had work store one (sym none))
             (next had from (places_in known) (caches_only work store) far.asks);
         taken = far.taken;
         rows = far.rows;
+        order = far.order;
+        past = still_before known before after (rw same fewer) far.past;
       }
 
   -- once nothing is asked for any more, all is taken
@@ -153,6 +168,7 @@ module _ (work : WorkData) (from : PlaceData) (store : StoreData) where
           (subst (λ q. IsTakenFor work had q at) is taken),
     );
     rows = far.rows;
+    order = far.order;
   }
 
 neither : (a b : Bool) → (a || b) ≡ false → (a ≡ false) × (b ≡ false)
@@ -177,6 +193,7 @@ takes_none work target store known is sound there none =
     (record {
       each = λ at. (λ among. absurd (true≢false (sym among)), λ taken. absurd (never at taken));
       rows = All-nil (IsCachedIn store);
+      order = tt;
     })
   where
     never : (at : PlaceData) → IsTakenFor work (has_cached work store) (place_taken work target) at
@@ -187,88 +204,3 @@ takes_none work target store known is sound there none =
         from.0 from.1 taken.needed in
         true≢false (sym (caches_only work store at taken.there)
         ∙ no_cache work.script.nodes at.node none known)
-
--- ---- what is kept
-
--- the name and the rows of a partition that is kept
-abbrev kept_one : CacheData (List Datum) → CachedPart → CacheData (List Datum)
-kept_one c part = with_kept c (cached_id (place_data_of part.at)) part.rows
-
-abbrev used_one : CacheData (List Datum) → CachedPart → CacheData (List Datum)
-used_one c part = with_used c (cached_id (place_data_of part.at))
-
-kept_push : (c : CacheData (List Datum)) (parts : List CachedPart) (part : CachedPart)
-    → with_each_kept c (parts ++ part ∷ []) ≡ kept_one (with_each_kept c parts) part
-kept_push c [] part = refl
-kept_push c (x ∷ parts) part = kept_push (kept_one c x) parts part
-
-used_push : (c : CacheData (List Datum)) (parts : List CachedPart) (part : CachedPart)
-    → with_each_used c (parts ++ part ∷ []) ≡ used_one (with_each_used c parts) part
-used_push c [] part = refl
-used_push c (x ∷ parts) part = used_push (used_one c x) parts part
-
--- one more, as at a step of a loop
-pub kept_more : (c : CacheData (List Datum)) (parts : List CachedPart) (i : ℕ) (d : CachedPart)
-    → i < length parts → kept_one (with_each_kept c (take i parts)) (get_or parts i d)
-    ≡ with_each_kept c (take (i + 1) parts)
-kept_more c parts i d within =
-    sym (kept_push c (take i parts) (get_or parts i d))
-    ∙ ap (with_each_kept c) (sym (take_more parts i d within))
-
-pub used_more : (c : CacheData (List Datum)) (parts : List CachedPart) (i : ℕ) (d : CachedPart)
-    → i < length parts → used_one (with_each_used c (take i parts)) (get_or parts i d)
-    ≡ with_each_used c (take (i + 1) parts)
-used_more c parts i d within =
-    sym (used_push c (take i parts) (get_or parts i d))
-    ∙ ap (with_each_used c) (sym (take_more parts i d within))
-
--- The same of a store.
-module _ (first before after : StoreData) (parts : List CachedPart) (i : ℕ) (part d : CachedPart)
-    (within : i < length parts) (is : part ≡ get_or parts i d) where
-  pub keep_step : before ≡ with_cache first (with_each_kept first.cache (take i parts))
-      → after ≡ with_cache before (kept_one before.cache part)
-      → after ≡ with_cache first (with_each_kept first.cache (take (i + 1) parts))
-  keep_step far keeps =
-      let c = with_each_kept first.cache (take i parts) in
-      keeps ∙ ap (λ (s : StoreData). with_cache s (kept_one s.cache part)) far
-      ∙ ap (λ p. with_cache first (kept_one c p)) is
-      ∙ ap (with_cache first) (kept_more first.cache parts i d within)
-
-  pub use_step : (id : CachedId) → id ≡ cached_id (place_data_of part.at)
-      → before ≡ with_cache first (with_each_used first.cache (take i parts))
-      → after ≡ with_cache before (with_used before.cache id)
-      → after ≡ with_cache first (with_each_used first.cache (take (i + 1) parts))
-  use_step id name far uses =
-      let c = with_each_used first.cache (take i parts) in
-      uses ∙ ap (λ n. with_cache before (with_used before.cache n)) name
-      ∙ ap (λ (s : StoreData). with_cache s (used_one s.cache part)) far
-      ∙ ap (λ p. with_cache first (used_one c p)) is
-      ∙ ap (with_cache first) (used_more first.cache parts i d within)
-
--- a cache takes as many blocks as before
-kept_limit : (c : CacheData (List Datum)) (parts : List CachedPart)
-    → (with_each_kept c parts).limit ≡ c.limit
-kept_limit c [] = refl
-kept_limit c (part ∷ parts) = kept_limit (kept_one c part) parts
-
-used_limit : (c : CacheData (List Datum)) (parts : List CachedPart)
-    → (with_each_used c parts).limit ≡ c.limit
-used_limit c [] = refl
-used_limit c (part ∷ parts) = used_limit (used_one c part) parts
-
--- so all of a store stays but its cache
-pub keeps_rest : (used fresh : List CachedPart) (before after : StoreData)
-    → KeepsEach used fresh before after → IsSameButCache before after
-keeps_rest used fresh before after keeps =
-    let c = with_each_kept (with_each_used before.cache used) fresh in
-    record {
-      rest = keeps ∙ ap (with_cache before) (sym (ap (λ (s : StoreData). s.cache) keeps));
-      limit = ap (λ (s : StoreData). s.cache.limit) keeps
-          ∙ kept_limit (with_each_used before.cache used) fresh
-          ∙ used_limit before.cache used;
-    }
-
-pub some_rest : (used fresh : List CachedPart) (before after : StoreData)
-    → KeepsSome used fresh before after → IsSameButCache before after
-some_rest used fresh before after keeps =
-    keeps_rest used (take keeps.0 fresh) before after keeps.1

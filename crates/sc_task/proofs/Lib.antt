@@ -5,4 +5,6 @@ pub mod HandingLemmas
 pub mod InputLemmas
 pub mod ListLemmas
 pub mod FetchLemmas
+pub mod OrderLemmas
 pub mod CacheLemmas
+pub mod KeepingLemmas

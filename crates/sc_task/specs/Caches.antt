@@ -1,5 +1,5 @@
 -- What an attempt does with the cache of its executor's store.
-use Rattle.std.specs.Prelude.{ℕ, ◌≡◌, ◌↔◌, ◌&&◌, Bool, List, [], ◌∷◌, Some, is_some, take, true}
+use Rattle.std.specs.Prelude.{ℕ, ◌≡◌, ◌<◌, ◌↔◌, ◌&&◌, Bool, List, [], ◌∷◌, Some, is_some, length, take, true}
 use Rattle.std.specs.List.{All, list_any}
 use Rattle.sc_value.specs.Datum.{Datum}
 use Rattle.sc_lineage.specs.Dependencies.{PlaceData}
@@ -8,7 +8,7 @@ use Rattle.sc_lineage.specs.Targets.{TargetData}
 use Rattle.sc_lineage.specs.Views.{place_data_of}
 use Rattle.sc_cache.specs.Caches.{CacheData, with_kept, with_used}
 use Rattle.sc_cache.specs.declared.names.CachedId.{CachedId}
-use Rattle.sc_compute.specs.Asking.{IsTakenFor, place_taken}
+use Rattle.sc_compute.specs.Asking.{IsTakenFor, place_number, place_taken}
 use Rattle.sc_compute.specs.Caching.{is_cache}
 use Rattle.sc_compute.specs.Needs.{is_among, places_in}
 use Rattle.sc_compute.specs.Stages.{node_at}
@@ -39,14 +39,21 @@ has_cached work store at =
 abbrev pub IsCachedIn : StoreData → CachedPart → Type 0
 IsCachedIn store part = cached_in store (cached_id (place_data_of part.at)) ≡ Some part.rows
 
+-- partitions stand with those of later nodes first, in one node with the last first, and each once
+abbrev pub AreNearestFirst : List CachedPart → Type 0
+AreNearestFirst [] = Unit {0}
+AreNearestFirst (part ∷ parts) =
+    All (λ behind. place_number behind.at < place_number part.at) parts × AreNearestFirst parts
+
 -- What is taken from a store for a target: exactly the partitions of cache nodes that the store has
--- and the target needs, where no other that the store has stands between; each with the store's
--- rows.
+-- and the target needs, where no other that the store has stands between; each once, with the
+-- store's rows, the nearest to the target first.
 pub record TakesCached (work : WorkData) (target : TargetData) (store : StoreData)
     (known : List CachedPart) : Type 0 where
   pub each : (at : PlaceData) → (is_among (places_in known) at ≡ true)
       ↔ IsTakenFor work (has_cached work store) (place_taken work target) at
   pub rows : All (IsCachedIn store) known
+  pub order : AreNearestFirst known
 
 -- ---- what is kept
 
@@ -67,6 +74,7 @@ abbrev pub KeepsEach : List CachedPart → List CachedPart → StoreData → Sto
 KeepsEach used fresh before after =
     after ≡ with_cache before (with_each_kept (with_each_used before.cache used) fresh)
 
--- the same, of the first of those that are fresh alone
+-- the same, of the first of those that are fresh alone, and not of all
 abbrev pub KeepsSome : List CachedPart → List CachedPart → StoreData → StoreData → Type 0
-KeepsSome used fresh before after = (n : ℕ) × KeepsEach used (take n fresh) before after
+KeepsSome used fresh before after =
+    (n : ℕ) × (n < length fresh) × KeepsEach used (take n fresh) before after

@@ -1,10 +1,11 @@
 -- What the steps of an attempt do.
-use Rattle.std.specs.Prelude.{◌≡◌, ◌≤◌, ◌<◌, ◌+◌, false, List, Some, None, is_some, true}
+use Rattle.std.specs.Prelude.{◌≡◌, ◌≤◌, ◌<◌, ◌+◌, All, false, List, Some, None, is_some, true}
 use Rattle.sc_ids.specs.declared.blocks.BlockId.{BlockId}
 use Rattle.sc_ids.specs.declared.blocks.Loc.{Loc}
 use Rattle.sc_lineage.specs.ScriptData.{WorkData}
 use Rattle.sc_lineage.specs.Targets.{own_value}
 use Rattle.sc_compute.specs.Asking.{place_taken}
+use Rattle.sc_compute.specs.Caching.{IsCachedPart}
 use Rattle.sc_compute.specs.Needs.{AreFresh, places_in}
 use Rattle.sc_compute.specs.declared.caching.CachedPart.{CachedPart}
 use Rattle.sc_store.specs.BlockData.{BlockData}
@@ -53,13 +54,14 @@ FailsAs work t (findings.Raised r) =
 FailsAs work t finding = ⊥
 
 -- What an attempt does that has read all, where some partitions are known: it fails, or computes
--- what doesn't raise. Then what is fresh is exactly what it computed of cache nodes.
+-- what doesn't raise. Then what is fresh is exactly what it computed of cache nodes, with its rows.
 abbrev pub Computes : {W : _} → WorkData → TaskData → List CachedPart → Did W → Type 0
 Computes work t known (dids.Computed computed) =
     (is_planned work t ≡ false) × ((own_value work (target_of_task work t)).raise ≡ None)
     × (computed.task ≡ t) × (computed.used ≡ known)
     × AreFresh work (places_in known) (place_taken work (target_of_task work t))
     (places_in computed.fresh)
+    × All (IsCachedPart work) computed.fresh
 Computes work t known (dids.Failed report) =
     (report.task ≡ t) × FailsAs work t report.finding
 

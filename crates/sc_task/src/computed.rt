@@ -84,7 +84,7 @@ impl<W: Naming> Computed<W> {
 
     /// Keeps the partitions of cache nodes that were computed in the store of its executor, one
     /// after another. Those that were taken from there become the most recently used before. A
-    /// refused call has kept the first of them alone, and hands the attempt back.
+    /// refused call has kept the first of them alone, and not all, and hands the attempt back.
     pub fn keep(self, store: &mut Store<W>) -> Result<Computed<W>, AllocFailed<Computed<W>>>
         ensures kept { IfOk result (λ c. c ≡ computed_data self.task [] []) }
         ensures keeps { OnOk result (KeepsEach self.used self.fresh store.old store.new) }

@@ -1,7 +1,7 @@
 //! Partitions that are kept in the store of an attempt's executor.
 #![tactic(auto)]
 
-ghost use Rattle.std.specs.Prelude.{ℕ, ◌≡◌, All, OnErr, OnOk, take};
+ghost use Rattle.std.specs.Prelude.{ℕ, ◌≡◌, ◌<◌, All, OnErr, OnOk, length, take};
 ghost use Rattle.sc_cache.specs.Caches.{with_kept};
 ghost use Rattle.sc_compute.specs.Caching.{IsCachedPart};
 ghost use Rattle.sc_lineage.specs.Views.{place_data_of};
@@ -39,12 +39,13 @@ fn mark_used<W: Naming>(store: &mut Store<W>, used: &[CachedPart])
     }
 }
 
-/// Keeps partitions in a store, one after another. A refused call has kept the first of them alone.
+/// Keeps partitions in a store, one after another. A refused call has kept the first of them alone,
+/// and not all.
 fn keep_each<W: Naming>(store: &mut Store<W>, fresh: &[CachedPart]) -> Result<(), AllocError>
     requires own { All (IsCachedPart W.work) fresh.now }
     ensures kept { OnOk result
         (store.new ≡ with_cache store.old (with_each_kept store.old.cache fresh.now)) }
-    ensures refused { OnErr result ((n : ℕ)
+    ensures refused { OnErr result ((n : ℕ) × (n < length fresh.now)
         × (store.new ≡ with_cache store.old (with_each_kept store.old.cache (take n fresh.now)))) }
 {
     for part in fresh {

@@ -1,4 +1,4 @@
-use Rattle.std.proofs.Common.{◌≡◌, ◌∙◌, [], All, ap, refl, subst, sym}
+use Rattle.std.proofs.Common.{◌≡◌, ◌<◌, ◌∙◌, [], All, ap, refl, subst, sym}
 use Rattle.std.proofs.lemmas.List.Elements.{All-nil}
 use Rattle.std.specs.Option.{option_map}
 use Rattle.sc_compute.specs.Asking.{AsksNext, IsAsked, place_taken}
@@ -43,7 +43,9 @@ loop-asking-preserved-in-Continue-branch-6 g c =
           c.loop-asking.asking c.next.new.self c.loop-asking.invariant.far
           (subst (AsksNext work c.loop-asking.asking c.next.new.self) c.in-Some.is
           c.in_ok-at.ensures.asks)
-          asked.cache
+          asked.cache asked.last
+          (some_holds (λ one. c.next.new.self.below < c.loop-asking.asking.below)
+          c.in_ok-at.field-0 at c.in-Some.is c.in_ok-at.ensures.fewer)
           (some_holds (λ (p : CachedPart). p.at ≡ at) c.in_ok-part.field-0 part c.in-Some-2.is
           c.in_ok-part.ensures.at)
           (sym (ap (option_map (λ (p : CachedPart). p.rows)) c.in-Some-2.is)
@@ -64,6 +66,9 @@ loop-asking-preserved g c =
           c.behind.new.self c.loop-asking.invariant.far
           (subst (AsksNext work c.loop-asking.asking c.next.new.self) c.in-Some.is
           c.in_ok-at.ensures.asks)
+          (some_holds (λ one. c.next.new.self.below < c.loop-asking.asking.below)
+          c.in_ok-at.field-0 c.in-Some.at c.in-Some.is c.in_ok-at.ensures.fewer)
+          c.behind.ensures.below
           (sym (ap (option_map (λ (p : CachedPart). p.rows)) c.in-None.is)
           ∙ c.in_ok-part.ensures.rows)
           (c.in_ok-behind-in-None.ensures.asks (has_cached work store) from (places_in known));

@@ -1,4 +1,4 @@
-use Rattle.sc_task.proofs.CacheLemmas.{keep_step}
+use Rattle.sc_task.proofs.KeepingLemmas.{keep_step}
 use Rattle.sc_task.proofs.keeping.keep_each.Goals as goal
 
 pub loop-part-preserved : goal.loop-part-preserved

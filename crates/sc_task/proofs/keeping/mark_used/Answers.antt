@@ -1,4 +1,4 @@
-use Rattle.sc_task.proofs.CacheLemmas.{use_step}
+use Rattle.sc_task.proofs.KeepingLemmas.{use_step}
 use Rattle.sc_task.proofs.keeping.mark_used.Goals as goal
 
 pub loop-part-preserved : goal.loop-part-preserved

@@ -1,4 +1,4 @@
-use Rattle.sc_task.proofs.CacheLemmas.{keeps_rest, some_rest}
+use Rattle.sc_task.proofs.KeepingLemmas.{keeps_rest, some_rest}
 use Rattle.sc_task.proofs.computed.Computed.keep.Goals as goal
 
 pub returns-in-Ok-clause-rest : goal.returns-in-Ok-clause-rest
