@@ -30,7 +30,7 @@ use sc_staging::{Opened, Output, Staging};
 use sc_store::Store;
 use sc_value::Name;
 use sc_work::{Naming, SharedWork};
-use sc_world::{Applied, Step, World};
+use sc_world::{Applied, Kept, Step, World};
 use std::marker::{Brand, Model};
 use std::process::Abort;
 
@@ -212,6 +212,8 @@ fn told_of<W: Naming, R: Abort + AllocGlobal>(
             let entry = world.desk().entries().last().expect(rt, "an entry");
             format!(in alloc; "{entry}")
         }
+        Applied::Computed(Kept::All) => String::from_str(alloc, "done"),
+        Applied::Computed(Kept::Short) => String::from_str(alloc, "kept too little"),
         Applied::Put(loc) => {
             let (exec, generation) = (loc.exec, loc.generation);
             format!(in alloc; "at {exec}@{generation}")

@@ -1,5 +1,5 @@
 -- One of the places and one of the stores, as code changes them.
-use Rattle.std.proofs.Common.{◌≡◌, ◌≢◌, ℕ, zero, suc, ◌<◌, List, [], ◌∷◌, Option, Some, None, Result, Ok, Err, OnOk, get_or, is_some, length, slice_get, slice_set, refl, ap, sym, subst, ◌∙◌, arith, rules, true, true≢false}
+use Rattle.std.proofs.Common.{◌≡◌, ◌≢◌, ℕ, zero, suc, ◌<◌, List, [], ◌∷◌, Option, Some, None, get_or, is_some, length, slice_get, slice_set, refl, ap, sym, subst, ◌∙◌, arith, rules, true, true≢false}
 use Rattle.std.proofs.lemmas.Option.{slice_get_read}
 use Rattle.sc_base.specs.Lists.{at_or}
 use Rattle.sc_ids.specs.Changes.{change_at}
@@ -13,11 +13,11 @@ use Rattle.sc_store.specs.StoreData.{StoreData, with_cache}
 use Rattle.sc_store.specs.Storing.{Wipes}
 use Rattle.sc_store.specs.declared.answers.WipeAnswer.{WipeAnswer}
 use Rattle.sc_task.specs.Attempts.{AttemptData}
-use Rattle.sc_task.specs.Caches.{IsSameButCache}
 use Rattle.sc_world.specs.Places.{ComputesAmong, ComputesAt, EvictsAmong, IsAside, PutsAmong, PutsAt, ReadsAmong, WipesAmong, settled}
 use Rattle.sc_world.specs.Steps.{ReadsAt, phase_of}
 use Rattle.sc_world.specs.declared.places.AttemptState.{AttemptState}
 use Rattle.sc_world.specs.declared.places.AttemptState.TheVariants as phases
+use Rattle.sc_world.specs.declared.steps.Kept.{Kept}
 
 -- ---- places
 
@@ -81,13 +81,6 @@ restored [] i x e = refl
 restored (y ∷ ys) zero x e = ap (λ z. z ∷ ys) (sym e)
 restored (y ∷ ys) (suc i) x e = ap (λ zs. y ∷ zs) (restored ys i x e)
 
--- ---- what holds where a call succeeds
-
-pub both_ok : {A E : Type 0} (r : Result A E) (P Q R : Type 0) → (P → Q → R) → OnOk r P
-    → OnOk r Q → OnOk r R
-both_ok (Ok v) P Q R f p q = f p q
-both_ok (Err e) P Q R f p q = tt
-
 -- ---- steps
 
 pub reads_among : (stores : List StoreData) (exec : ℕ) (held : List (Option AttemptData))
@@ -101,19 +94,19 @@ reads_among stores exec held x y lt e reads =
     }
 
 pub computes_among : (work : WorkData) (exec : ℕ) (held : List (Option AttemptData))
-    (stores : List StoreData) (x y : Option AttemptData) (s t : StoreData) → exec < length held
-    → exec < length stores → x ≡ get_or held exec x → s ≡ get_or stores exec s
-    → ComputesAt work x y → IsSameButCache s t
-    → ComputesAmong work exec held stores (slice_set held exec y) (slice_set stores exec t)
-computes_among work exec held stores x y s t lt below e f computes cached =
+    (stores : List StoreData) (kept : Kept) (x y : Option AttemptData) (s t : StoreData)
+    → exec < length held → exec < length stores → x ≡ get_or held exec x
+    → s ≡ get_or stores exec s → ComputesAt work x s kept y t
+    → ComputesAmong work exec held stores kept (slice_set held exec y) (slice_set stores exec t)
+computes_among work exec held stores kept x y s t lt below e f computes =
     record {
-      next = y;
-      computes = subst (λ o. ComputesAt work o y) (sym (at_read held exec x None lt e)) computes;
-      is = written held exec x y lt e;
       store = s;
       own = there stores exec s below f;
+      next = y;
       cached = t;
-      same = cached.rest;
+      computes = subst (λ o. ComputesAt work o s kept y t) (sym (at_read held exec x None lt e))
+          computes;
+      is = written held exec x y lt e;
       stores_are = written stores exec s t below f;
     }
 

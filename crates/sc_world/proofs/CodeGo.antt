@@ -18,9 +18,11 @@ use Rattle.sc_task.specs.declared.took.Did.TheVariants as dids
 use Rattle.sc_task.specs.Nexts.{next_of}
 use Rattle.sc_task.specs.declared.next.Next.{Next}
 use Rattle.sc_task.specs.declared.next.Next.TheVariants.{Complete, Fetch, Missing}
+use Rattle.sc_world.specs.Caching.{Caches}
 use Rattle.sc_world.specs.Places.{AreInOrder, ComputesAt, FetchStands, FetchesTo, NextStands}
 use Rattle.sc_world.specs.Steps.{HasMade, Makes, ReadsAt, ReadsNext, phase_of, phase_reading}
 use Rattle.sc_world.specs.declared.places.AttemptState.TheVariants as phases
+use Rattle.sc_world.specs.declared.steps.Kept.{Kept}
 use Rattle.sc_world.specs.Ties.{StandsIn}
 
 got_is : {A : Type 0} (xs : List A) (i : ℕ) (x d : A) → slice_get xs i ≡ Some x → get_or xs i d ≡ x
@@ -90,9 +92,10 @@ reads_all (Missing last) e = absurd (search (rules, e))
 reads_all Complete e = refl
 
 pub computes_at : (work : WorkData) (before : Option AttemptData) (t : TaskData) (got : ℕ)
-    (next : AttemptData) → before ≡ Some (assigned t got) → phase_of before ≡ phases.Computes
-    → Makes work t next → ComputesAt work before (Some next)
-computes_at work before t got next held computes makes =
+    (next : AttemptData) (kept : Kept) (store cached : StoreData) → before ≡ Some (assigned t got)
+    → phase_of before ≡ phases.Computes → Makes work t next → Caches work t kept store cached
+    → ComputesAt work before store kept (Some next) cached
+computes_at work before t got next kept store cached held computes makes caches =
     record {
       task = t;
       got = got;
@@ -100,6 +103,7 @@ computes_at work before t got next held computes makes =
       complete = reads_all (next_of t got) (ap phase_of (sym held) ∙ computes);
       next = next;
       makes = makes;
+      caches = caches;
       is = refl;
     }
 

@@ -37,6 +37,7 @@ use Rattle.sc_core.specs.Sound.{IsSoundCore}
 use Rattle.sc_world.specs.Runs.{AreReady, HasBegun, IsWorld, idle_world}
 use Rattle.sc_world.specs.WorldData.{WorldData, core_in, held_at, world_data}
 use Rattle.sc_world.specs.declared.steps.Applied.TheVariants as applied
+use Rattle.sc_world.specs.declared.steps.Kept.{Kept}
 use Rattle.sc_world.specs.declared.steps.Step.TheVariants as steps
 use Rattle.sc_world.proofs.CodeAmong.{is_there, restored}
 use Rattle.sc_world.proofs.KeepLemmas.{steps_keep_world}
@@ -155,13 +156,13 @@ takes_keep work w exec taken answer desk held is there takes held_is sound =
     steps_keep_world work w (world_data desk w.stores held) (steps.Take exec)
     (applied.Told answer) is (there, takes_in w exec taken answer desk held takes held_is) sound
 
-pub computes_keep : (work : WorkData) (w : WorldData) (exec : ℕ) (held : List (Option AttemptData))
-    (stores : List StoreData) → IsWorld work w
-    → ComputesAmong work exec w.held w.stores held stores
+pub computes_keep : (work : WorkData) (w : WorldData) (exec : ℕ) (kept : Kept)
+    (held : List (Option AttemptData)) (stores : List StoreData) → IsWorld work w
+    → ComputesAmong work exec w.held w.stores kept held stores
     → IsWorld work (world_data w.desk stores held)
-computes_keep work w exec held stores is r =
-    steps_keep_world work w (world_data w.desk stores held) (steps.Compute exec) applied.Done is
-    (computes_in work w exec held stores r) is.desk
+computes_keep work w exec kept held stores is r =
+    steps_keep_world work w (world_data w.desk stores held) (steps.Compute exec)
+    (applied.Computed kept) is (computes_in work w exec kept held stores r) is.desk
 
 pub puts_keep : (work : WorkData) (w : WorldData) (exec : ℕ) (loc : Loc)
     (held : List (Option AttemptData)) (stores : List StoreData) → IsWorld work w

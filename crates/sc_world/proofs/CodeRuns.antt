@@ -18,6 +18,7 @@ use Rattle.sc_world.specs.Steps.{Computes, EvictsOne, Goes, HandsOrder, LosesOne
 use Rattle.sc_world.specs.WorldData.{WorldData}
 use Rattle.sc_world.specs.declared.steps.Applied.{Applied}
 use Rattle.sc_world.specs.declared.steps.Applied.TheVariants as applied
+use Rattle.sc_world.specs.declared.steps.Kept.{Kept}
 use Rattle.sc_world.specs.declared.steps.Step.{Step}
 use Rattle.sc_world.specs.declared.steps.Step.TheVariants as steps
 
@@ -155,11 +156,11 @@ reads_on work w after exec r =
       same = same_desk w after (ap (λ (x : WorldData). x.desk) r.is);
     }
 
-pub computes_on : (work : WorkData) (w after : WorldData) (exec : ℕ)
-    → Computes work w exec after → GoesOn work w after
-computes_on work w after exec r =
+pub computes_on : (work : WorkData) (w after : WorldData) (exec : ℕ) (kept : Kept)
+    → Computes work w exec kept after → GoesOn work w after
+computes_on work w after exec kept r =
     record {
-      reaches = reached_by work w after (steps.Compute exec) applied.Done r;
+      reaches = reached_by work w after (steps.Compute exec) (applied.Computed kept) r;
       same = same_desk w after (ap (λ (x : WorldData). x.desk) r.is);
     }
 

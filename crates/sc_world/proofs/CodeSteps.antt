@@ -26,6 +26,7 @@ use Rattle.sc_desk.specs.declared.takes.Taken.TheVariants as takes
 use Rattle.sc_world.specs.Places.{ComputesAmong, EvictsAmong, PutsAmong, ReadsAmong, WipesAmong, held_with}
 use Rattle.sc_world.specs.Steps.{Computes, EvictsOne, Posts, Puts, Reads, Takes, WipesOne, given_to}
 use Rattle.sc_world.specs.WorldData.{WorldData, core_in, world_data}
+use Rattle.sc_world.specs.declared.steps.Kept.{Kept}
 
 -- ---- steps
 
@@ -34,10 +35,11 @@ pub reads_in : (w : WorldData) (exec : ℕ) (held : List (Option AttemptData))
 reads_in w exec held r =
     record { held = r.next; reads = r.reads; is = ap (world_data w.desk w.stores) r.is }
 
-pub computes_in : (work : WorkData) (w : WorldData) (exec : ℕ) (held : List (Option AttemptData))
-    (stores : List StoreData) → ComputesAmong work exec w.held w.stores held stores
-    → Computes work w exec (world_data w.desk stores held)
-computes_in work w exec held stores r =
+pub computes_in : (work : WorkData) (w : WorldData) (exec : ℕ) (kept : Kept)
+    (held : List (Option AttemptData)) (stores : List StoreData)
+    → ComputesAmong work exec w.held w.stores kept held stores
+    → Computes work w exec kept (world_data w.desk stores held)
+computes_in work w exec kept held stores r =
     record {
       task = r.computes.task;
       got = r.computes.got;
@@ -48,7 +50,7 @@ computes_in work w exec held stores r =
       store = r.store;
       own = r.own;
       cached = r.cached;
-      same = r.same;
+      caches = r.computes.caches;
       is = ap₂ (world_data w.desk) r.stores_are
           (r.is ∙ ap (λ (o : Option AttemptData). change_at w.held exec (λ _. o)) r.computes.is);
     }

@@ -48,6 +48,7 @@ use Rattle.sc_desk.specs.Entries.{Enters}
 use Rattle.sc_desk.specs.Orders.{ComesNext, IsDueOrder, after_order, orders_left}
 use Rattle.sc_desk.proofs.OrderLemmas.{next_orders_are_due}
 use Rattle.sc_world.specs.Runs.{IsWorld}
+use Rattle.sc_world.specs.declared.steps.Kept.{Kept}
 use Rattle.sc_world.specs.Serial.{Advances, Asks, Finishes, GoesOn, IsAlone, IsLess, IsLive, IsNoMore, IsResting, Turns, left_in, steps_left}
 use Rattle.sc_world.specs.Sound.{IsSoundWorld, IsThatOf, RunsThere}
 use Rattle.sc_world.specs.Steps.{Computes, HandsOrder, HasMade, LosesOne, Makes, Posts, Puts, Reads, ReadsNext, ReleasesOne, Takes, given_to}
@@ -324,11 +325,11 @@ reads_advance work w after exec alone r =
       no_more = no_more work w after (ap (λ (x : WorldData). x.desk) r.is);
     }
 
-pub computes_advance : (work : WorkData) (w after : WorldData) (exec : ℕ) → IsAlone exec w
-    → Computes work w exec after → Advances work exec w after
-computes_advance work w after exec alone r =
+pub computes_advance : (work : WorkData) (w after : WorldData) (exec : ℕ) (kept : Kept)
+    → IsAlone exec w → Computes work w exec kept after → Advances work exec w after
+computes_advance work w after exec kept alone r =
     record {
-      on = computes_on work w after exec r;
+      on = computes_on work w after exec kept r;
       alone = λ other differs. ap (λ (x : WorldData). held_at x other) r.is
           ∙ alone_still w exec (Some r.next) alone other differs;
       fewer = fewer_in w after exec (assigned r.task r.got) (Some r.next) r.held

@@ -27,6 +27,7 @@ use Rattle.sc_world.specs.Steps.{AsksOne, Computes, Does, EvictsOne, GoesAside, 
 use Rattle.sc_world.specs.WorldData.{WorldData, core_in, held_at, with_desk}
 use Rattle.sc_world.specs.declared.steps.Applied.{Applied}
 use Rattle.sc_world.specs.declared.steps.Applied.TheVariants as applied
+use Rattle.sc_world.specs.declared.steps.Kept.{Kept}
 use Rattle.sc_world.specs.declared.steps.Step.{Step}
 use Rattle.sc_world.specs.declared.steps.Step.TheVariants as steps
 use Rattle.sc_world.proofs.AsideCases.{ComesOrOver}
@@ -179,14 +180,14 @@ reads_keep work w exec after h r =
     on : GoesOn work w.stores exec r.reads.task r.held
     on = reads_on work w.stores exec (held_at w exec) r.held r.reads
 
-computes_keep : (work : WorkData) (w : WorldData) (exec : ℕ) (after : WorldData) → IsWorld work w
-    → Computes work w exec after → IsWorld work after
-computes_keep work w exec after h p =
+computes_keep : (work : WorkData) (w : WorldData) (exec : ℕ) (kept : Kept) (after : WorldData)
+    → IsWorld work w → Computes work w exec kept after → IsWorld work after
+computes_keep work w exec kept after h p =
     subst (IsWorld work) (sym p.is) (record {
       core = h.core;
       desk = h.desk;
       tasks = held_each (λ e b. IsOfTask b) w.held exec (Some p.next) next h.tasks;
-      sound = subst (IsSoundWorld work) p.is (computes_sound work w exec after h.sound p);
+      sound = subst (IsSoundWorld work) p.is (computes_sound work w exec kept after h.sound p);
     })
   where
     on : GoesOn work w.stores exec p.task (Some p.next)
@@ -293,8 +294,8 @@ does_keep : (work : WorkData) (w after : WorldData) (step : Step) (answer : Appl
 does_keep work w after (steps.Take exec) (applied.Told answer) h (place, takes) d =
     takes_keep work w exec answer after h place takes d
 does_keep work w after (steps.Read exec) applied.Done h p d = reads_keep work w exec after h p
-does_keep work w after (steps.Compute exec) applied.Done h p d =
-    computes_keep work w exec after h p
+does_keep work w after (steps.Compute exec) (applied.Computed kept) h p d =
+    computes_keep work w exec kept after h p
 does_keep work w after (steps.Put exec) (applied.Put loc) h p d =
     puts_keep work w exec loc after h p
 does_keep work w after (steps.Stage exec) (applied.Noted answer) h p d =
@@ -323,6 +324,8 @@ steps_keep_world work w after step (applied.Told answer) h goes d =
     does_keep work w after step (applied.Told answer) h goes d
 steps_keep_world work w after step (applied.Noted answer) h goes d =
     does_keep work w after step (applied.Noted answer) h goes d
+steps_keep_world work w after step (applied.Computed kept) h goes d =
+    does_keep work w after step (applied.Computed kept) h goes d
 steps_keep_world work w after step (applied.Put loc) h goes d =
     does_keep work w after step (applied.Put loc) h goes d
 steps_keep_world work w after step (applied.Wipe answer) h goes d =

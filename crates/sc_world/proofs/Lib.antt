@@ -12,6 +12,7 @@ mod TakeLemmas
 mod PostLemmas
 mod ReleaseLemmas
 mod LossLemmas
+mod CachingLemmas
 mod StepLemmas
 mod ComeLemmas
 mod AsideCases

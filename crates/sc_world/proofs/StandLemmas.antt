@@ -132,7 +132,7 @@ does_stand work w after (steps.Take exec) (applied.Told answer) state o is r sta
     takes_stand work w after exec answer state o r.1 stands
 does_stand work w after (steps.Read exec) applied.Done state o is r stands =
     same_stand work w after state o (ap (λ (x : WorldData). x.desk) r.is) stands
-does_stand work w after (steps.Compute exec) applied.Done state o is r stands =
+does_stand work w after (steps.Compute exec) (applied.Computed kept) state o is r stands =
     same_stand work w after state o (ap (λ (x : WorldData). x.desk) r.is) stands
 does_stand work w after (steps.Put exec) (applied.Put loc) state o is r stands =
     same_stand work w after state o (ap (λ (x : WorldData). x.desk) r.is) stands
@@ -207,7 +207,7 @@ pub plain_stand : {F : Type 0} (work : WorkData) (w after : WorldData)
     → OutputStands work w state o → OutputGoesOn work w after state o o
 plain_stand work w after exec state o (inl r) stands =
     same_stand work w after state o (ap (λ (x : WorldData). x.desk) r.is) stands
-plain_stand work w after exec state o (inr (inl r)) stands =
+plain_stand work w after exec state o (inr (inl (kept, r))) stands =
     same_stand work w after state o (ap (λ (x : WorldData). x.desk) r.is) stands
 plain_stand work w after exec state o (inr (inr (inl (loc, r)))) stands =
     same_stand work w after state o (ap (λ (x : WorldData). x.desk) r.is) stands

@@ -31,6 +31,8 @@ use Rattle.sc_world.specs.Sound.{Brings, ComesAt, IsSoundWorld}
 use Rattle.sc_world.specs.Steps.{Computes, EvictsOne, HasMade, Makes, Puts, ReadsAt, ReadsNext, WipesOne, is_put_aside}
 use Rattle.sc_world.specs.Ties.{StandsAt, StandsIn, generation_at, generation_in}
 use Rattle.sc_world.specs.WorldData.{WorldData, core_in, held_at, with_held, with_store}
+use Rattle.sc_world.specs.declared.steps.Kept.{Kept}
+use Rattle.sc_world.proofs.CachingLemmas.{caches_same}
 use Rattle.sc_world.proofs.HeldLemmas.{goes_on_sound, later_sound, own_changed}
 use Rattle.sc_world.proofs.TieLemmas.{cached_stands, one_later, put_here, put_stands, wiped_grows, wiped_stands}
 
@@ -200,12 +202,14 @@ cached_sound work w exec store next sound there same =
     (due_there work w exec store sound there))
 
 -- an attempt has computed
-pub computes_sound : (work : WorkData) (w : WorldData) (exec : ℕ) (after : WorldData)
-    → IsSoundWorld work w → Computes work w exec after → IsSoundWorld work after
-computes_sound work w exec after sound h =
+pub computes_sound : (work : WorkData) (w : WorldData) (exec : ℕ) (kept : Kept)
+    (after : WorldData) → IsSoundWorld work w → Computes work w exec kept after
+    → IsSoundWorld work after
+computes_sound work w exec kept after sound h =
     subst (IsSoundWorld work) (sym h.is)
     (on_sound work (with_store w exec h.cached) exec h.task h.got (Some h.next)
-    (cached_sound work w exec h.store h.cached sound h.own h.same) h.held
+    (cached_sound work w exec h.store h.cached sound h.own
+    (caches_same work h.task kept h.store h.cached h.caches).rest) h.held
     (computes_on work (with_store w exec h.cached).stores exec h.task h.next h.makes))
 
 -- a block was put

@@ -2,6 +2,7 @@ pub mod Tracks
 pub mod Ties
 pub mod WorldData
 pub mod Sound
+pub mod Caching
 pub mod Steps
 pub mod Places
 pub mod Runs

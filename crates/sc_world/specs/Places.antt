@@ -25,8 +25,10 @@ use Rattle.sc_desk.specs.declared.posts.Posted.{Posted}
 use Rattle.sc_desk.specs.declared.posts.Posted.TheVariants as posted
 use Rattle.sc_desk.specs.declared.takes.Taken.{Taken}
 use Rattle.sc_desk.specs.declared.takes.Taken.TheVariants as takes
+use Rattle.sc_world.specs.Caching.{Caches}
 use Rattle.sc_world.specs.Steps.{Gets, Makes, ReadsAt, after_side, is_put_aside}
 use Rattle.sc_world.specs.Ties.{StandsAt, StandsIn}
+use Rattle.sc_world.specs.declared.steps.Kept.{Kept}
 
 -- stores are those of the executors, in order
 abbrev pub AreInOrder : List StoreData → Type 0
@@ -73,14 +75,16 @@ IsAtRest work (Some (staged t)) = saves work t.job.goal ≡ true
 IsAtRest work (Some (granted t)) = saves work t.job.goal ≡ true
 IsAtRest work (Some (reported t finding)) = Unit {0}
 
--- an attempt computes that has read all
-pub record ComputesAt (work : WorkData) (before after : Option AttemptData) : Type 0 where
+-- an attempt computes that has read all, and the store of its executor uses and keeps partitions
+pub record ComputesAt (work : WorkData) (before : Option AttemptData) (store : StoreData)
+    (kept : Kept) (after : Option AttemptData) (cached : StoreData) : Type 0 where
   pub task : TaskData
   pub got : ℕ
   pub held : before ≡ Some (assigned task got)
   pub complete : next_of task got ≡ Complete
   pub next : AttemptData
   pub makes : Makes work task next
+  pub caches : Caches work task kept store cached
   pub is : after ≡ Some next
 
 -- an attempt puts the block that it has computed, and is to report where
@@ -100,15 +104,14 @@ pub record ReadsAmong (stores : List StoreData) (exec : ℕ)
   pub is : after ≡ change_at before exec (λ _. next)
 
 pub record ComputesAmong (work : WorkData) (exec : ℕ) (before : List (Option AttemptData))
-    (stores : List StoreData) (after : List (Option AttemptData)) (later : List StoreData)
-    : Type 0 where
-  pub next : Option AttemptData
-  pub computes : ComputesAt work (at_or before exec None) next
-  pub is : after ≡ change_at before exec (λ _. next)
+    (stores : List StoreData) (kept : Kept) (after : List (Option AttemptData))
+    (later : List StoreData) : Type 0 where
   pub store : StoreData
   pub own : slice_get stores exec ≡ Some store
+  pub next : Option AttemptData
   pub cached : StoreData
-  pub same : cached ≡ with_cache store cached.cache
+  pub computes : ComputesAt work (at_or before exec None) store kept next cached
+  pub is : after ≡ change_at before exec (λ _. next)
   pub stores_are : later ≡ change_at stores exec (λ _. cached)
 
 pub record PutsAmong (work : WorkData) (exec : ℕ) (before : List (Option AttemptData))

@@ -40,11 +40,13 @@ use Rattle.sc_task.specs.Nexts.{next_of}
 use Rattle.sc_task.specs.Steps.{FailsAs, PutsOwn}
 use Rattle.sc_task.specs.declared.next.Next.{Next}
 use Rattle.sc_task.specs.declared.next.Next.TheVariants.{Complete, Fetch, Missing}
+use Rattle.sc_world.specs.Caching.{Caches}
 use Rattle.sc_world.specs.WorldData.{WorldData, core_in, held_at, with_desk, with_held, with_store}
 use Rattle.sc_world.specs.declared.places.AttemptState.{AttemptState}
 use Rattle.sc_world.specs.declared.places.AttemptState.TheVariants as phases
 use Rattle.sc_world.specs.declared.steps.Applied.{Applied}
 use Rattle.sc_world.specs.declared.steps.Applied.TheVariants as applied
+use Rattle.sc_world.specs.declared.steps.Kept.{Kept}
 use Rattle.sc_world.specs.declared.steps.Step.{Step}
 use Rattle.sc_world.specs.declared.steps.Step.TheVariants as steps
 
@@ -111,9 +113,9 @@ Makes work t after =
     ⊎ ((is_planned work t ≡ false) × ((own_value work (target_of_task work t)).raise ≡ None)
     × HasMade work t after)
 
--- An executor's attempt that has read all computes, and its store may use and keep cached blocks
--- meanwhile.
-pub record Computes (work : WorkData) (w : WorldData) (exec : ℕ) (after : WorldData) : Type 0 where
+-- An executor's attempt that has read all computes, and its store uses and keeps cached partitions.
+pub record Computes (work : WorkData) (w : WorldData) (exec : ℕ) (kept : Kept) (after : WorldData)
+    : Type 0 where
   pub task : TaskData
   pub got : ℕ
   pub held : held_at w exec ≡ Some (assigned task got)
@@ -123,7 +125,7 @@ pub record Computes (work : WorkData) (w : WorldData) (exec : ℕ) (after : Worl
   pub store : StoreData
   pub own : slice_get w.stores exec ≡ Some store
   pub cached : StoreData
-  pub same : cached ≡ with_cache store cached.cache
+  pub caches : Caches work task kept store cached
   pub is : after ≡ with_held (with_store w exec cached) exec (Some next)
 
 -- ---- a map task puts its block
@@ -270,7 +272,7 @@ abbrev pub Does : WorkData → WorldData → Step → Applied → WorldData → 
 Does work w (steps.Take exec) (applied.Told answer) after =
     (exec < length w.held) × Takes w exec answer after
 Does work w (steps.Read exec) applied.Done after = Reads w exec after
-Does work w (steps.Compute exec) applied.Done after = Computes work w exec after
+Does work w (steps.Compute exec) (applied.Computed kept) after = Computes work w exec kept after
 Does work w (steps.Put exec) (applied.Put loc) after = Puts work w exec loc after
 Does work w (steps.Stage exec) (applied.Noted answer) after = Stages w exec answer after
 Does work w (steps.Ask exec) (applied.Noted answer) after = AsksOne w exec answer after

@@ -14,6 +14,7 @@ use Rattle.sc_desk.specs.Dues.{IsDueLoss, IsDueReport}
 use Rattle.sc_desk.specs.Orders.{ComesNext}
 use Rattle.sc_world.specs.Steps.{AsksOne, Computes, EvictsOne, HandsOrder, LosesOne, Moves, Posts, Puts, Reads, ReleasesOne, Stages, Takes, WipesOne}
 use Rattle.sc_world.specs.WorldData.{WorldData, core_in, held_at}
+use Rattle.sc_world.specs.declared.steps.Kept.{Kept}
 
 -- ---- whose turn it is
 
@@ -96,7 +97,7 @@ GoesInSave w exec answer after =
 abbrev pub AdvancesPlain : WorkData → ℕ → WorldData → WorldData → Type 0
 AdvancesPlain work exec w after =
     Reads w exec after
-    ⊎ (Computes work w exec after
+    ⊎ (((kept : Kept) × Computes work w exec kept after)
     ⊎ (((loc : Loc) × Puts work w exec loc after)
     ⊎ ((answer : Answer) × Posts work w exec answer after)))
 

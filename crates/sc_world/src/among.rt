@@ -11,7 +11,9 @@ ghost use Rattle.sc_world.specs.Places.{AreInOrder, ComputesAmong, EvictsAmong, 
 ghost use Rattle.sc_world.specs.declared.places.AttemptState.{AttemptState};
 ghost use Rattle.sc_world.specs.Steps.{phase_of};
 
-use crate::places::{Part, Place};
+use crate::places::Place;
+use crate::saving::Part;
+use crate::steps::Kept;
 use sc_core::SideAnswer;
 use sc_desk::Taken;
 use sc_ids::{AttemptId, ExecId, Loc};
@@ -53,17 +55,18 @@ pub(crate) fn read_among<W: Naming>(
     held[exec as usize].read(stores)
 }
 
-/// The attempt of an executor computes. A refused call changes nothing.
+/// The attempt of an executor computes; the answer says how much the executor's store has kept of
+/// what it computed. A refused call changes nothing.
 pub(crate) fn compute_among<W: Naming>(
     held: &mut Vec<Place<W>>,
     stores: &mut Vec<Store<W>>,
     alloc: Global,
     exec: ExecId,
-) -> Result<(), AllocError>
+) -> Result<Kept, AllocError>
     requires there { exec < length stores.old.items }
     requires computes { phase_of (at_or held.old.items exec None) ≡ AttemptState.Computes }
-    ensures computes { OnOk result (ComputesAmong W.work exec held.old.items stores.old.items
-        held.new.items stores.new.items) }
+    ensures computes { IfOk result (λ kept. ComputesAmong W.work exec held.old.items
+        stores.old.items kept held.new.items stores.new.items) }
     ensures refused { OnErr result (held.new.items ≡ held.old.items) }
     ensures same { OnErr result (stores.new.items ≡ stores.old.items) }
 {

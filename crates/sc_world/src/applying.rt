@@ -107,8 +107,7 @@ impl<W: Naming> World<W> {
         ensures refused { OnErr result (self.new ≡ self.old) }
     {
         if self.phase(exec) == AttemptState::Computes {
-            self.compute(alloc, exec)?;
-            Ok(Applied::Done)
+            Ok(Applied::Computed(self.compute(alloc, exec)?))
         } else {
             Ok(Applied::NotEnabled)
         }

@@ -1,18 +1,20 @@
 //! How one attempt goes on.
 #![tactic(auto)]
 
-ghost use Rattle.std.specs.Prelude.{◌≡◌, IfErr, IfOk, List, OnErr, OnOk, Some};
+ghost use Rattle.std.specs.Prelude.{◌≡◌, IfErr, IfOk, List, OnErr, Some};
 ghost use Rattle.sc_compute.specs.declared.caching.CachedPart.{CachedPart};
-ghost use Rattle.sc_net.specs.Tasks.{is_map_task};
+ghost use Rattle.sc_net.specs.Tasks.{is_map_task, target_of_task};
 ghost use Rattle.sc_task.specs.Attempts.{assigned, attempt_data_of};
-ghost use Rattle.sc_task.specs.Caches.{IsSameButCache};
+ghost use Rattle.sc_task.specs.Caches.{TakesCached};
 ghost use Rattle.sc_task.specs.Nexts.{next_of};
 ghost use Rattle.sc_task.specs.Steps.{Computes};
 ghost use Rattle.sc_task.specs.declared.next.Next.{Next};
+ghost use Rattle.sc_world.specs.Caching.{Caches, KeepsSoMuch};
 ghost use Rattle.sc_world.specs.Places.{AreInOrder, FetchStands, FetchesTo, IsAtRest, NextStands};
 ghost use Rattle.sc_world.specs.Steps.{HasMade, Makes, ReadsAt, is_put_aside, phase_of, phase_reading};
 
 use crate::places::AttemptState;
+use crate::steps::Kept;
 use sc_net::Task;
 use sc_store::Store;
 use sc_task::{Assigned, Attempt, Computed, Did, Next, Read, Took};
@@ -85,22 +87,25 @@ fn fetch_next<W: Naming>(
 
 /// The attempt that has computed, unless it fails: then it is to report. Partitions of cache nodes
 /// that the store has it takes from there before, and others it keeps there behind, as long as
-/// there is memory for them. A refused call hands it back.
+/// there is memory for them, which the answer tells. A refused call hands it back.
 pub(crate) fn compute_next<W: Naming>(
     alloc: Global,
     state: Assigned<W>,
     store: &mut Store<W>,
-) -> Result<Attempt<W>, AllocFailed<Assigned<W>>>
+) -> Result<(Attempt<W>, Kept), AllocFailed<Assigned<W>>>
     requires complete { next_of state.task state.got ≡ Next.Complete }
-    ensures makes { IfOk result (λ next. Makes W.work state.task (attempt_data_of next)) }
-    ensures rests { IfOk result (λ next. IsAtRest W.work (Some (attempt_data_of next))) }
-    ensures cached { OnOk result (IsSameButCache store.old store.new) }
+    ensures makes { IfOk result (λ both. Makes W.work state.task (attempt_data_of both.0)) }
+    ensures rests { IfOk result (λ both. IsAtRest W.work (Some (attempt_data_of both.0))) }
+    ensures caches { IfOk result (λ both. Caches W.work state.task both.1 store.old store.new) }
     ensures back { IfErr result (λ failed. failed.value ≡ state) }
     ensures same { OnErr result (store.new ≡ store.old) }
 {
     match did_of(alloc, state.ready(alloc), store) {
-        Ok(Did::Computed(computed)) => Ok(made_of(kept(computed, store))),
-        Ok(Did::Failed(report)) => Ok(Attempt::Reported(report)),
+        Ok(Did::Computed(computed)) => {
+            let (done, kept) = keep(computed, store);
+            Ok((made_of(done), kept))
+        }
+        Ok(Did::Failed(report)) => Ok((Attempt::Reported(report), Kept::All)),
         Err(failed) => {
             let read = failed.value;
             Err(AllocFailed {
@@ -118,6 +123,7 @@ fn did_of<W: Naming>(
     store: &Store<W>,
 ) -> Result<Did<W>, AllocFailed<Read<W>>>
     ensures did { IfOk result (λ did. (known : List CachedPart)
+        × TakesCached W.work (target_of_task W.work read.task) store.now known
         × Computes W.work read.task known did) }
     ensures task { IfErr result (λ failed. failed.value.task ≡ read.task) }
     ensures got { IfErr result (λ failed. failed.value.got ≡ read.got) }
@@ -129,14 +135,14 @@ fn did_of<W: Naming>(
 }
 
 /// An attempt whose partitions of cache nodes were kept in the store, as long as there was memory
-/// for them.
-fn kept<W: Naming>(computed: Computed<W>, store: &mut Store<W>) -> Computed<W>
-    ensures task { result.task ≡ computed.task }
-    ensures cached { IsSameButCache store.old store.new }
+/// for them, and whether there was for all.
+fn keep<W: Naming>(computed: Computed<W>, store: &mut Store<W>) -> (Computed<W>, Kept)
+    ensures task { result.0.task ≡ computed.task }
+    ensures keeps { KeepsSoMuch result.1 computed.used computed.fresh store.old store.new }
 {
     match computed.keep(store) {
-        Ok(kept) => kept,
-        Err(failed) => failed.value,
+        Ok(computed) => (computed, Kept::All),
+        Err(failed) => (failed.value, Kept::Short),
     }
 }
 

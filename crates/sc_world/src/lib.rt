@@ -33,5 +33,5 @@ mod worlds;
 
 pub use laws::{reports_move_trackers, worlds_stay_sound};
 pub use places::AttemptState;
-pub use steps::{Applied, Step};
+pub use steps::{Applied, Kept, Step};
 pub use worlds::{NoRoom, World};

@@ -3,13 +3,13 @@
 
 ghost use Rattle.std.specs.Prelude.{◌≡◌, IfOk, IfSome, None, OnErr, OnOk, Some, is_some, true};
 ghost use Rattle.sc_task.specs.Attempts.{assigned, reported};
-ghost use Rattle.sc_task.specs.Caches.{IsSameButCache};
 ghost use Rattle.sc_desk.specs.Saving.{IsEvidentAnswer};
 ghost use Rattle.sc_world.specs.Places.{AreInOrder, ComputesAt, HasPart, IsAside, IsAttemptOf, PutsAt, ReadStands, settled};
 ghost use Rattle.sc_world.specs.Steps.{ReadsAt, phase_of};
 
 use crate::going::{compute_next, phase_of, read_next};
-use crate::saving::settled;
+use crate::saving::{Part, settled};
+use crate::steps::Kept;
 use sc_core::SideAnswer;
 use sc_ids::{AttemptId, Loc};
 use sc_net::{Report, Task};
@@ -38,15 +38,6 @@ pub enum AttemptState {
     Moves,
     /// It is to report.
     Reports,
-}
-
-/// What an attempt is to write.
-#[derive(Drop)]
-pub(crate) struct Part {
-    /// The attempt's numbers.
-    pub(crate) attempt: AttemptId,
-    /// The text of its part.
-    pub(crate) text: Vec<u8>,
 }
 
 /// A place for the attempt that an executor has out.
@@ -129,12 +120,17 @@ impl<W: Naming> Place<W> {
         }
     }
 
-    /// The attempt has read all, and computes; meanwhile the store of its executor may use cached
-    /// blocks, and keep more of them. A refused call changes nothing.
-    pub(crate) fn compute(&mut self, alloc: Global, store: &mut Store<W>) -> Result<(), AllocError>
+    /// The attempt has read all, and computes; the store of its executor uses the cached partitions
+    /// that it has of it, and keeps others, as many as the answer says. A refused call changes
+    /// nothing.
+    pub(crate) fn compute(
+        &mut self,
+        alloc: Global,
+        store: &mut Store<W>,
+    ) -> Result<Kept, AllocError>
         requires computes { phase_of self.old ≡ AttemptState.Computes }
-        ensures computes { OnOk result (ComputesAt W.work self.old self.new) }
-        ensures cached { OnOk result (IsSameButCache store.old store.new) }
+        ensures computes { IfOk result
+            (λ kept. ComputesAt W.work self.old store.old kept self.new store.new) }
         ensures refused { OnErr result (self.new ≡ self.old) }
         ensures same { OnErr result (store.new ≡ store.old) }
     {
@@ -145,9 +141,9 @@ impl<W: Naming> Place<W> {
             unreachable!();
         };
         match compute_next(alloc, state, store) {
-            Ok(next) => {
+            Ok((next, kept)) => {
                 self.attempt = Some(next);
-                Ok(())
+                Ok(kept)
             }
             Err(failed) => {
                 self.attempt = Some(Attempt::Assigned(failed.value));

@@ -10,8 +10,18 @@ ghost use Rattle.sc_world.specs.Places.{IsAside, IsAtRest};
 ghost use Rattle.sc_world.specs.Steps.{after_ask, after_move, after_side, after_stage};
 
 use sc_core::SideAnswer;
+use sc_ids::AttemptId;
 use sc_task::{Attempt, Computed, Granted, Staged};
 use sc_work::Naming;
+
+/// What an attempt is to write.
+#[derive(Drop)]
+pub(crate) struct Part {
+    /// The attempt's numbers.
+    pub(crate) attempt: AttemptId,
+    /// The text of its part.
+    pub(crate) text: Vec<u8>,
+}
 
 /// What becomes of an attempt of a save that did something beside the reports, which is answered
 /// so: one that was over is let go.

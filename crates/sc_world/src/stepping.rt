@@ -19,6 +19,7 @@ use crate::among::{
     compute_among, evict_among, give_among, hold_among, put_among, read_among, report_among,
     wipe_among,
 };
+use crate::steps::Kept;
 use crate::worlds::World;
 use sc_base::OrMemory;
 use sc_core::{Answer, NotEnabled};
@@ -52,11 +53,12 @@ impl<W: Naming> World<W> {
         read_among(&mut self.held, self.stores.as_slice(), exec)
     }
 
-    /// An executor's attempt computes, which has read all; its store may use and keep cached blocks
-    /// meanwhile. A refused call changes nothing.
-    pub fn compute(&mut self, alloc: Global, exec: ExecId) -> Result<(), AllocError>
+    /// An executor's attempt computes, which has read all, from the cached partitions too that the
+    /// executor's store has; what it computes of others is kept there, and the answer says how much
+    /// of it. A refused call changes nothing.
+    pub fn compute(&mut self, alloc: Global, exec: ExecId) -> Result<Kept, AllocError>
         requires computes { phase_of (held_at self.old exec) ≡ AttemptState.Computes }
-        ensures computes { OnOk result (Computes W.work self.old exec self.new) }
+        ensures computes { IfOk result (λ kept. Computes W.work self.old exec kept self.new) }
         ensures refused { OnErr result (self.new ≡ self.old) }
     {
         compute_among(&mut self.held, &mut self.stores, alloc, exec)

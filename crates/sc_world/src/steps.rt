@@ -70,6 +70,15 @@ pub enum Step {
     NextOrder,
 }
 
+/// How much an executor's store keeps of what its attempt has computed of cache nodes.
+#[derive(Clone, Copy, Debug, PartialEq, Eq)]
+pub enum Kept {
+    /// All of it.
+    All,
+    /// The first of it, and not all, since memory ran out.
+    Short,
+}
+
 /// What a step answers.
 #[derive(Drop)]
 pub enum Applied {
@@ -77,6 +86,8 @@ pub enum Applied {
     Told(Answer),
     /// What the scheduler answered to what an attempt of a save did.
     Noted(SideAnswer),
+    /// How much was kept of what was computed.
+    Computed(Kept),
     /// Where a block was put.
     Put(Loc),
     /// What the store answered to a wipe.

@@ -194,7 +194,10 @@ impl<W: Naming> World<W> {
         self.is_world();
         match self.phase(exec) {
             AttemptState::Reads => self.read(exec),
-            AttemptState::Computes => self.compute(alloc, exec),
+            AttemptState::Computes => {
+                self.compute(alloc, exec)?;
+                Ok(())
+            }
             AttemptState::Puts => {
                 self.put(exec)?;
                 Ok(())

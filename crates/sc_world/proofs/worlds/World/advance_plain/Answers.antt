@@ -9,12 +9,12 @@ returns-in-Reads-clause-advances g c =
     c.requires.alone reads)
     c.read.ensures.reads
 
-pub returns-in-Computes-clause-advances : goal.returns-in-Computes-clause-advances
-returns-in-Computes-clause-advances g c =
-    on_ok_weaker c.compute.result
-    (λ computes. computes_advance g.W.Naming.work c.args.self.now c.compute.new.self c.args.exec
-    c.requires.alone computes)
-    c.compute.ensures.computes
+pub returns-in_ok-compute-in-Computes-clause-advances :
+    goal.returns-in_ok-compute-in-Computes-clause-advances
+returns-in_ok-compute-in-Computes-clause-advances g c =
+    computes_advance g.W.Naming.work c.args.self.now c.compute.new.self c.args.exec
+    c.in_ok-compute-in-Computes.field-0 c.requires.alone
+    c.in_ok-compute-in-Computes.ensures.computes
 
 pub returns-in_ok-put-in-Puts-clause-advances : goal.returns-in_ok-put-in-Puts-clause-advances
 returns-in_ok-put-in-Puts-clause-advances g c =
