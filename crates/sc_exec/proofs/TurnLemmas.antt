@@ -1,8 +1,15 @@
 -- What a log tells once it has one entry more.
-use Rattle.std.proofs.Common.{ℕ, ◌≡◌, ◌∙◌, ◌==◌, ◌&&◌, ◌||◌, Bool, true, false, List, [], ◌∷◌, ◌++◌, Option, Some, None, refl, ap, sym, subst, arith, nat_tests}
+use Rattle.std.proofs.Common.{ℕ, ◌≡◌, ◌∙◌, ◌==◌, ◌&&◌, ◌||◌, All, Bool, true, false, List, [], ◌∷◌, ◌++◌, Option, Some, None, refl, ap, sym, subst, arith, nat_tests}
+use Rattle.std.proofs.lemmas.List.Elements.{All-weaker}
 use Rattle.sc_ids.specs.declared.attempts.AttemptId.{AttemptId}
 use Rattle.sc_ids.specs.declared.attempts.Mark.TheVariants.{Exec}
+use Rattle.sc_tracker.specs.TrackerData.{TrackerData}
+use Rattle.sc_tracker.specs.declared.outputs.Location.{Location}
+use Rattle.sc_tracker.specs.declared.outputs.Location.TheVariants.{Here, Missing}
+use Rattle.sc_core.specs.HandOuts.{HandOutData}
 use Rattle.sc_core.specs.Journals.{entry}
+use Rattle.sc_core.specs.Sound.{IsSoundCore}
+use Rattle.sc_core.specs.Takes.{Takes}
 use Rattle.sc_core.specs.declared.answers.Answer.{Answer}
 use Rattle.sc_core.specs.declared.answers.Answer.TheVariants as says
 use Rattle.sc_core.specs.declared.entries.Entry.{Entry}
@@ -10,14 +17,16 @@ use Rattle.sc_core.specs.declared.events.Event.{Event}
 use Rattle.sc_core.specs.declared.events.Event.TheVariants as events
 use Rattle.sc_jobs.specs.JobData.{JobData}
 use Rattle.sc_net.specs.Tasks.{TaskData}
-use Rattle.sc_desk.specs.DeskData.{DeskData}
+use Rattle.sc_causes.specs.Inputs.{IsThereOrLost}
+use Rattle.sc_causes.proofs.InputLemmas.{missing_inputs_were_lost}
+use Rattle.sc_desk.specs.DeskData.{DeskData, core_of}
 use Rattle.sc_desk.specs.Takes.{IsTaken}
 use Rattle.sc_desk.specs.declared.takes.Taken.{Taken}
 use Rattle.sc_desk.specs.declared.takes.Taken.TheVariants as takes
 use Rattle.sc_logs.specs.Folds.{asked, asks_as, given, has_asked_as, has_left, is_leave, last_take, owed_after, owing}
 use Rattle.sc_exec.specs.Lefts.{IsAtWork, WasTold}
 use Rattle.sc_exec.specs.Logging.{IsLogged, IsSameLog, TakesBoth}
-use Rattle.sc_exec.specs.Turns.{IsTold}
+use Rattle.sc_exec.specs.Turns.{IsTold, LiesOrLay}
 use Rattle.sc_logs.specs.declared.logs.ExecLog.{ExecLog}
 use Rattle.sc_logs.proofs.FoldLemmas.{asks_more, last_take_more, left_more, owed_more}
 
@@ -39,15 +48,28 @@ works_on log then event answer owed logged no_leave own w =
     e : Entry
     e = entry (Exec log.exec) event answer
 
+lies_or_lay : (t : TrackerData) (l : Location) → IsThereOrLost t l → LiesOrLay l
+lies_or_lay t (Here loc) h = tt
+lies_or_lay t (Missing (Some last)) h = tt
+lies_or_lay t (Missing None) h = h
+
 same_self : (n : ℕ) → (n == n) ≡ true
 same_self n = grind (arith, nat_tests)
 
 -- what an executor was told stands in its log
 pub told_so : {W : _} (d after : DeskData) (log then : ExecLog) (job : JobData) (t : Taken W)
-    → d.job ≡ job → IsAtWork [] log → TakesBoth d log t after then → IsTold job t then
-told_so {W = W} d after log then job t same w (answer, takes_it, logged) =
-    by t answer takes_it.0 logged
+    → d.job ≡ job → IsSoundCore (core_of d) → IsAtWork [] log → TakesBoth d log t after then
+    → IsTold job t then
+told_so {W = W} d after log then job t same sound w (answer, takes_it, logged) =
+    by t answer takes_it.0 takes_it.1.step logged
   where
+    lay : (h : HandOutData) → Takes (core_of d) log.exec (says.Task h) (core_of after)
+        → All LiesOrLay h.inputs
+    lay h takes =
+        All-weaker (IsThereOrLost (core_of d).dag.tracker) LiesOrLay
+        (lies_or_lay (core_of d).dag.tracker) h.inputs
+        (missing_inputs_were_lost (core_of d) log.exec h sound takes.1)
+
     on : (a : Answer) → IsLogged log (events.Take log.exec) a then → IsAtWork (given a []) then
     on a l = works_on log then (events.Take log.exec) a [] l refl (same_self log.exec) w
 
@@ -57,26 +79,28 @@ told_so {W = W} d after log then job t same w (answer, takes_it, logged) =
         ∙ last_take_more None log.entries.items (entry (Exec log.exec) (events.Take log.exec) a)
 
     by : (t : Taken W) (a : Answer) → IsTaken d.job t a
+        → Takes (core_of d) log.exec a (core_of after)
         → IsLogged log (events.Take log.exec) a then → IsTold job t then
-    by (takes.Task t) (says.Task h) e l = (
+    by (takes.Task t) (says.Task h) e k l = (
           ap (λ (x : TaskData). x.job) e ∙ same,
           subst (λ (x : TaskData). IsAtWork (x.hand_out.attempt ∷ []) then) (sym e)
               (on (says.Task h) l),
+          subst (λ (x : TaskData). All LiesOrLay x.hand_out.inputs) (sym e) (lay h k),
         )
-    by (takes.Wait out) (says.Wait attempt) e l = on (says.Wait attempt) l
-    by (takes.Busy held) (says.Busy attempt) e l = (
+    by (takes.Wait out) (says.Wait attempt) e k l = on (says.Wait attempt) l
+    by (takes.Busy held) (says.Busy attempt) e k l = (
           subst (λ (x : AttemptId). WasTold (says.Busy x) then) (sym e)
               (last (says.Busy attempt) l),
           on (says.Busy attempt) l,
         )
-    by takes.Lost says.Lost e l = (last says.Lost l, on says.Lost l)
-    by (takes.Stopped exec) (says.Stopped first) e l = (
+    by takes.Lost says.Lost e k l = (last says.Lost l, on says.Lost l)
+    by (takes.Stopped exec) (says.Stopped first) e k l = (
           subst (λ (x : ℕ). WasTold (says.Stopped x) then) (sym e) (last (says.Stopped first) l),
           on (says.Stopped first) l,
         )
-    by takes.Ended says.Ended e l = (last says.Ended l, on says.Ended l)
-    by (takes.Aborted why) (says.Aborted cause) e l = on (says.Aborted cause) l
-    by t a bad l = absurd bad
+    by takes.Ended says.Ended e k l = (last says.Ended l, on says.Ended l)
+    by (takes.Aborted why) (says.Aborted cause) e k l = on (says.Aborted cause) l
+    by t a bad k l = absurd bad
 
 -- a log with the same entries tells the same
 pub works_same : (log then : ExecLog) (owed : List AttemptId) → IsSameLog log then

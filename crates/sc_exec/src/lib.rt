@@ -11,7 +11,7 @@
 //! the executor. Room for one entry more is kept, so that it can always leave. `specs/Logging.antt`
 //! has each call as a relation from both to both. A [`Driver`] is the locked helm with its bell,
 //! and a [`Gate`] is what an executor passes that was handed a task. A [`Worker`] is an executor
-//! with its log and why it takes no more tasks ([`Left`]); [`verdict`] says how a job went by the
+//! with its log and why it takes no more tasks ([`Left`]); [`judge`] says how a job went by the
 //! workers of all its executors.
 //!
 //! `proofs/Crossing.antt` shows that threads may share a driver, and stores behind locks, for any
@@ -38,5 +38,5 @@ pub use gates::{Gate, OpenGate};
 pub use helms::Helm;
 pub use lefts::Left;
 pub use openings::Opening;
-pub use verdicts::{Verdict, verdict};
+pub use verdicts::{Verdict, judge};
 pub use workers::{Worker, into_logs};

@@ -30,7 +30,7 @@ pub enum Verdict {
 /// How a job went whose executors all take no more tasks. A job is given up only where its entries
 /// aren't an interleaving of what the executors wrote down, or one of them met what can't be. It
 /// takes no memory.
-pub fn verdict<W: Naming>(desk: &Desk<W>, workers: &[Worker]) -> Verdict
+pub fn judge<W: Naming>(desk: &Desk<W>, workers: &[Worker]) -> Verdict
     requires worked { All HasCause workers.now }
     requires places { AreInPlace W.work.limits.executors workers.now }
     ensures { IsVerdict (core_of desk.now) desk.now.journal.entries workers.now result }
