@@ -1,5 +1,7 @@
 -- What an executor gets that begins a turn at the desk.
-use Rattle.std.specs.Prelude.{◌≡◌, ◌<◌, [], ◌∷◌}
+use Rattle.std.specs.Prelude.{◌≡◌, ◌<◌, [], ◌∷◌, All, None, Some}
+use Rattle.sc_tracker.specs.declared.outputs.Location.{Location}
+use Rattle.sc_tracker.specs.declared.outputs.Location.TheVariants.{Here, Missing}
 use Rattle.sc_lineage.specs.ScriptData.{WorkData}
 use Rattle.sc_core.specs.declared.answers.Answer.TheVariants as says
 use Rattle.sc_jobs.specs.JobData.{JobData}
@@ -10,9 +12,16 @@ use Rattle.sc_exec.specs.declared.turns.Asked.{Asked}
 use Rattle.sc_exec.specs.declared.turns.Asked.TheVariants as askeds
 use Rattle.sc_logs.specs.declared.logs.ExecLog.{ExecLog}
 
+-- a block that a task reads lies somewhere, or lay there
+abbrev pub LiesOrLay : Location → Type 0
+LiesOrLay (Here loc) = Unit {0}
+LiesOrLay (Missing (Some last)) = Unit {0}
+LiesOrLay (Missing None) = ⊥
+
 -- what an executor was told that asked for a task: a task of the job is owed a report from now on
 abbrev pub IsTold : {W : _} → JobData → Taken W → ExecLog → Type 0
-IsTold job (takes.Task t) log = (t.job ≡ job) × IsAtWork (t.hand_out.attempt ∷ []) log
+IsTold job (takes.Task t) log =
+    (t.job ≡ job) × IsAtWork (t.hand_out.attempt ∷ []) log × All LiesOrLay t.hand_out.inputs
 IsTold job (takes.Wait out) log = IsAtWork [] log
 IsTold job (takes.Busy held) log = WasTold (says.Busy held) log × IsAtWork [] log
 IsTold job takes.Lost log = WasTold says.Lost log × IsAtWork [] log

@@ -2,6 +2,8 @@
 #![tactic(auto)]
 
 ghost use Rattle.std.specs.Prelude.{◌≡◌};
+ghost use Rattle.sc_core.specs.Sound.{IsSoundCore};
+ghost use Rattle.sc_desk.specs.DeskData.{core_of};
 ghost use Rattle.sc_staging.specs.Outputs.{output_dir, output_files};
 ghost use Rattle.sc_exec.specs.Helms.{IsJobOf, helm_data};
 
@@ -62,6 +64,13 @@ impl<W: Naming, J: Opening, F: Files> Helm<W, J, F> {
         ensures { IsJobOf W.work J.opening self.now }
     {
         let _ = &self.desk;
+    }
+
+    /// What its core keeps. A call does nothing.
+    pub(crate) fn is_sound(&self)
+        ensures { IsSoundCore (core_of self.now.desk) }
+    {
+        self.desk.core().is_sound();
     }
 
     /// The desk and the files, and how their job began.

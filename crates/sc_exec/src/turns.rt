@@ -123,6 +123,7 @@ impl<W: Naming, J: Opening, F: Files> Helm<W, J, F> {
         ensures room { HasRoom log.new }
     {
         self.is_job();
+        self.is_sound();
         self.take(log)
     }
 }
