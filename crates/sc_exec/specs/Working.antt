@@ -1,5 +1,5 @@
 -- What an executor leaves that works turn by turn.
-use Rattle.std.specs.Prelude.{ℕ, ◌≡◌, List, [], ◌∷◌}
+use Rattle.std.specs.Prelude.{ℕ, ◌≡◌, ◌<◌, List, [], ◌∷◌}
 use Rattle.sc_ids.specs.declared.attempts.AttemptId.{AttemptId}
 use Rattle.sc_lineage.specs.ScriptData.{WorkData}
 use Rattle.sc_core.specs.declared.answers.Answer.TheVariants as says
@@ -12,6 +12,7 @@ use Rattle.sc_desk.specs.Dues.{IsEarly}
 use Rattle.sc_exec.specs.Lefts.{IsAtWork, IsCause, WasTold}
 use Rattle.sc_exec.specs.Logging.{HasRoom}
 use Rattle.sc_exec.specs.Performing.{IsHindrance}
+use Rattle.sc_exec.specs.Workers.{HasCause}
 use Rattle.sc_exec.specs.declared.lefts.Left.{Left}
 use Rattle.sc_exec.specs.declared.lefts.Left.TheVariants as lefts
 use Rattle.sc_exec.specs.declared.work.Turn.{Turn}
@@ -46,10 +47,12 @@ IsTurn (turns.Over left) log = IsCause left log
 
 -- ---- executors
 
--- an executor that did nothing yet, whose log has room
-abbrev pub IsFresh : Worker → Type 0
-IsFresh w = (w.log.entries.items ≡ []) × HasRoom w.log
+-- one of so many executors did nothing yet, and its log has room
+pub record IsFresh (executors : ℕ) (w : Worker) : Type 0 where
+  pub entries : w.log.entries.items ≡ []
+  pub room : HasRoom w.log
+  pub known : w.log.exec < executors
 
 -- it has worked since
 abbrev pub HasWorked : Worker → Worker → Type 0
-HasWorked w after = (after.log.exec ≡ w.log.exec) × IsCause after.left after.log
+HasWorked w after = (after.log.exec ≡ w.log.exec) × HasCause after

@@ -1,13 +1,14 @@
 //! One attempt, from its task to its report.
 #![tactic(auto)]
 
-ghost use Rattle.std.specs.Prelude.{◌≡◌, ◌∷◌, [], IfErr, IfOk, OnOk, true};
+ghost use Rattle.std.specs.Prelude.{◌≡◌, ◌∷◌, [], All, IfErr, IfOk, OnOk, true};
 ghost use Rattle.sc_jobs.specs.JobData.{saves};
 ghost use Rattle.sc_desk.specs.Saving.{IsEvidentAnswer};
 ghost use Rattle.sc_task.specs.States.{IsOfPart};
 ghost use Rattle.sc_exec.specs.Lefts.{IsAtWork};
 ghost use Rattle.sc_exec.specs.Logging.{HasRoom};
 ghost use Rattle.sc_exec.specs.Performing.{IsHindrance};
+ghost use Rattle.sc_exec.specs.Turns.{LiesOrLay};
 ghost use Rattle.sc_exec.specs.Working.{IsTooEarly, owed_by};
 
 use crate::calls::Delivery;
@@ -40,6 +41,7 @@ pub(crate) fn perform<W: Naming, J: Opening, F: Files, G: Gate, R: Wait>(
 ) -> Result<(), Left>
     requires works { IsAtWork (task.hand_out.attempt ∷ []) log.old }
     requires job { task.job ≡ J.opening.job }
+    requires lay { All LiesOrLay task.hand_out.inputs }
     requires room { HasRoom log.old }
     ensures works { OnOk result (IsAtWork [] log.new) }
     ensures hinders { IfErr result IsHindrance }
@@ -54,6 +56,7 @@ pub(crate) fn perform<W: Naming, J: Opening, F: Files, G: Gate, R: Wait>(
 }
 
 /// An executor posts what its attempt reports.
+#[tactic(auto, using(crate::proofs::OwedLemmas::posts_owed))]
 fn post<W: Naming, J: Opening, F: Files, R: Wait>(
     rt: &R,
     driver: &Driver<W, J, F>,
@@ -165,6 +168,7 @@ fn finish<W: Naming, J: Opening, F: Files, R: Wait>(
 }
 
 /// An attempt of a save has its part written at the desk.
+#[tactic(auto, using(crate::proofs::OwedLemmas::stages_owed, crate::proofs::PartLemmas::part_text))]
 fn stage<W: Naming, J: Opening, F: Files, R: Wait>(
     rt: &R,
     alloc: Global,
@@ -199,6 +203,7 @@ fn stage<W: Naming, J: Opening, F: Files, R: Wait>(
 }
 
 /// An attempt of a save asks at the desk whether it may commit.
+#[tactic(auto, using(crate::proofs::OwedLemmas::asks_owed))]
 fn ask<W: Naming, J: Opening, F: Files, R: Wait>(
     rt: &R,
     driver: &Driver<W, J, F>,
@@ -221,6 +226,7 @@ fn ask<W: Naming, J: Opening, F: Files, R: Wait>(
 }
 
 /// An attempt of a save has its part moved at the desk.
+#[tactic(auto, using(crate::proofs::OwedLemmas::moves_owed))]
 fn move_part<W: Naming, J: Opening, F: Files, R: Wait>(
     rt: &R,
     alloc: Global,

@@ -1,14 +1,15 @@
 //! What an executor does with a task, store by store.
 #![tactic(auto)]
 
-ghost use Rattle.std.specs.Prelude.{◌≡◌, ◌≢◌, IfErr, IfOk, true};
+ghost use Rattle.std.specs.Prelude.{◌≡◌, ◌≢◌, All, IfErr, IfOk, false, true};
 ghost use Rattle.sc_net.specs.Tasks.{is_map_task};
 ghost use Rattle.sc_task.specs.Nexts.{FetchesFrom, next_of};
 ghost use Rattle.sc_task.specs.declared.next.Next.{Next};
 ghost use Rattle.sc_exec.specs.Performing.{Gets, IsGathered, IsHindrance, IsPrepared};
+ghost use Rattle.sc_exec.specs.Turns.{LiesOrLay};
 
 use crate::lefts::Left;
-use sc_ids::ExecId;
+use sc_ids::{ExecId, Target};
 use sc_net::{Report, Task};
 use sc_store::Store;
 use sc_task::{Assigned, Computed, Did, Next, Read, Took, assign};
@@ -53,6 +54,7 @@ pub(crate) fn prepare<W: Naming, R: Wait>(
     exec: ExecId,
     task: Task<W>,
 ) -> Result<Prepared<W>, Left>
+    requires lay { All LiesOrLay task.hand_out.inputs }
     ensures prepared { IfOk result (IsPrepared W.work task) }
     ensures hinders { IfErr result IsHindrance }
 {
@@ -63,12 +65,14 @@ pub(crate) fn prepare<W: Naming, R: Wait>(
 }
 
 /// Reads the blocks of a task, one after another, until all are there or one isn't to be had.
+#[tactic(auto, using(crate::proofs::ReadingLemmas::some_left))]
 fn gather<W: Naming, R: Wait>(
     rt: &R,
     alloc: Global,
     stores: &[Mutex<Store<W>>],
     task: Task<W>,
 ) -> Result<Gathered<W>, Left>
+    requires lay { All LiesOrLay task.hand_out.inputs }
     ensures gathered { IfOk result (IsGathered task) }
     ensures hinders { IfErr result IsHindrance }
 {
@@ -83,11 +87,13 @@ fn gather<W: Naming, R: Wait>(
 }
 
 /// Goes for the next block of an attempt, which lies on some executor, or had no location.
+#[tactic(auto, using(crate::proofs::ReadingLemmas::lay_somewhere))]
 fn get_next<W: Naming, R: Wait>(
     rt: &R,
     stores: &[Mutex<Store<W>>],
     state: Assigned<W>,
 ) -> Result<Got<W>, Left>
+    requires lay { All LiesOrLay state.task.hand_out.inputs }
     requires next { next_of state.task state.got ≢ Next.Complete }
     ensures gets { IfOk result (Gets state) }
     ensures hinders { IfErr result IsHindrance }
@@ -97,8 +103,7 @@ fn get_next<W: Naming, R: Wait>(
             let store = store_at(stores, loc.exec)?.lock(rt);
             fetch_from(&store, loc.exec, state)
         }
-        Next::Missing { last: Some(_) } => Ok(Got::Report(state.missing())),
-        Next::Missing { last: None } => Err(Left::Stranger),
+        Next::Missing { .. } => Ok(Got::Report(state.missing())),
         Next::Complete => unreachable!(),
     }
 }
@@ -216,7 +221,10 @@ fn hand_over<W: Naming>(computed: Computed<W>) -> Prepared<W>
 fn is_map<W: Naming>(task: &Task<W>) -> bool
     ensures { result ≡ is_map_task task.now }
 {
-    task.block().is_some()
+    match task.job().stage(task.attempt().stage) {
+        Some(stage) => matches!(stage.target(), Target::Map(_)),
+        None => false,
+    }
 }
 
 /// The store at the place of an executor.

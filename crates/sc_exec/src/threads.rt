@@ -27,6 +27,7 @@ use std::thread::Threads;
 
 /// The executors of a job work, each on a thread of its own where one can be had, until each takes
 /// no more tasks. The desk and the files come back.
+#[tactic(auto, using(crate::proofs::HelmLemmas::job_opened))]
 pub fn work_job<W: Naming + Send + Sync, F: Files + Send, G: Gate + Sync, R: Threads + Wait + Sync>(
     rt: &R,
     alloc: Global,
@@ -38,7 +39,7 @@ pub fn work_job<W: Naming + Send + Sync, F: Files + Send, G: Gate + Sync, R: Thr
 ) -> (Desk<W>, Output<F>)
     requires begun { desk.journal.entries ≡ [] }
     requires stand { FilesStand W.work desk (output_dir output) (output_files F.state output) }
-    requires fresh { All IsFresh workers.old }
+    requires fresh { All (IsFresh W.work.limits.executors) workers.old }
     requires places { AreInPlace W.work.limits.executors workers.old }
     ensures job { IsJobOf W.work
         (opening_of (helm_data desk (output_dir output) (output_files F.state output)))
@@ -67,7 +68,7 @@ fn work_job_of<
 ) -> (Desk<W>, Output<F>)
     requires job { IsJobOf W.work J.opening
         (helm_data desk (output_dir output) (output_files F.state output)) }
-    requires fresh { All IsFresh workers.old }
+    requires fresh { All (IsFresh W.work.limits.executors) workers.old }
     requires places { AreInPlace W.work.limits.executors workers.old }
     ensures job { IsJobOf W.work J.opening
         (helm_data result.0 (output_dir result.1) (output_files F.state result.1)) }
@@ -85,7 +86,7 @@ fn work_job_of<
             workers,
             many,
             &|_, worker|
-                requires { IsFresh worker.now × (worker.now.log.exec < W.work.limits.executors) }
+                requires { IsFresh W.work.limits.executors worker.now }
                 ensures { HasWorked worker.entry.now worker.exit.now }
             { employ(rt, alloc, &driver, stores, gate, worker) },
         );
@@ -103,8 +104,7 @@ fn employ<W: Naming, J: Opening, F: Files, G: Gate, R: Wait>(
     gate: &G,
     worker: &mut Worker,
 )
-    requires fresh { IsFresh worker.old }
-    requires known { worker.old.log.exec < W.work.limits.executors }
+    requires fresh { IsFresh W.work.limits.executors worker.old }
     ensures { HasWorked worker.old worker.new }
 {
     worker.left = work_loop(rt, alloc, driver, stores, gate, &mut worker.log);

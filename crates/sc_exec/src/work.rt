@@ -35,6 +35,7 @@ pub(crate) enum Turn {
 
 /// An executor works turn by turn until there is no more for it, and logs what it enters. It says
 /// why it takes no more tasks.
+#[tactic(auto, using(crate::proofs::OwedLemmas::fresh_works))]
 pub fn work_loop<W: Naming, J: Opening, F: Files, G: Gate, R: Wait>(
     rt: &R,
     alloc: Global,
@@ -168,6 +169,7 @@ fn end_turn<W: Naming, J: Opening, F: Files, R: Wait>(
 }
 
 /// An executor leaves that can't go on.
+#[tactic(auto, using(crate::proofs::OwedLemmas::leaves_cause))]
 fn leave<W: Naming, J: Opening, F: Files, R: Wait>(
     rt: &R,
     driver: &Driver<W, J, F>,
