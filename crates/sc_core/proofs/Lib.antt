@@ -44,6 +44,7 @@ pub mod MapLemmas
 pub mod ResultLemmas
 pub mod LossLemmas
 pub mod LoseLemmas
+pub mod IsSaveLemmas
 pub mod FailureLemmas
 pub mod StepLemmas
 pub mod SpendLemmas
