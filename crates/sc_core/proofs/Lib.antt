@@ -54,6 +54,7 @@ pub mod EndLemmas
 pub mod TakeAgreeLemmas
 pub mod AgreeLemmas
 pub mod SaveOpenLemmas
+pub mod LeavingLemmas
 pub mod OpeningLemmas
 pub mod SubmitLemmas
 pub mod TakeAnswerLemmas

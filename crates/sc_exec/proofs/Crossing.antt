@@ -7,25 +7,47 @@ use denote.Struct.Declared.{shape}
 use denote.Param.Send.{IsSend, IsSync, sendable, recorded_sync, struct_sync}
 use Rattle.std.proofs.Crossing.{crosses}
 use Rattle.std.proofs.sync.Mutex.TheSendSync as mutex
+use Rattle.std.specs.contracts.alloc.Global as global
+use Rattle.sc_value.proofs.text.Text.TheSendSync as text
+use Rattle.sc_value.proofs.name.Name.TheSendSync as name
+use Rattle.sc_files.specs.declared.files.Files as files
+use Rattle.sc_staging.specs.contracts.outputs.Output as output
+use Rattle.sc_staging.specs.contracts.staging.Staging as staging
 use Rattle.sc_work.specs.declared.naming.Naming as naming
 use Rattle.sc_exec.proofs.JobsCross.{desk_send}
 use Rattle.sc_exec.specs.contracts.driver.Driver as driver
-use Rattle.sc_exec.specs.contracts.named.Named as named
+use Rattle.sc_exec.specs.contracts.helms.Helm as helm
 use Rattle.sc_exec.specs.declared.openings.Opening as opening
 
-pub named_send : (W J : RattleType) (g : naming.Ghosts W.Denot) (o : opening.Ghosts J.Denot)
-    → IsSend W → IsSend J → IsSend (named.the_row W J g o)
-named_send W J g o s t = search (desk_send, crosses, sendable) depth 60 fits 20000
+ruleset known = (text.the_send, text.the_sync, name.the_send, name.the_sync, crosses, sendable)
 
-pub driver_sync : (W J : RattleType) (g : naming.Ghosts W.Denot) (o : opening.Ghosts J.Denot)
-    → IsSend W → IsSend J → IsSync (driver.the_row W J g o)
-driver_sync W J g o s t =
-    search (named_send, mutex.the_sync, crosses, sendable) depth 60 fits 20000
+staging_send : (F : RattleType) (f : files.Ghosts F.Denot) → IsSend F
+    → IsSend (staging.the_row F f)
+staging_send F f s = search known depth 60 fits 20000
 
--- four values that a closure captures
-pub four_sync : (n : List ℕ) (A B C D : RattleType) → IsSync A → IsSync B → IsSync C → IsSync D
-    → IsSync (TupleAt n (A ∷ B ∷ C ∷ D ∷ []))
-four_sync n A B C D a b c d =
-    recorded_sync (field_at n (A ∷ B ∷ C ∷ D ∷ [])).row _ _
-    (type_at n (A ∷ B ∷ C ∷ D ∷ [])).to_one
-    (struct_sync (shape (type_at n (A ∷ B ∷ C ∷ D ∷ []))) (a, (b, (c, (d, tt)))))
+output_send : (F : RattleType) (f : files.Ghosts F.Denot) → IsSend F
+    → IsSend (output.the_field F f).row
+output_send F f s = search (staging_send, crosses, sendable) depth 60 fits 20000
+
+pub helm_send : (W J F : RattleType) (g : naming.Ghosts W.Denot) (o : opening.Ghosts J.Denot)
+    (f : files.Ghosts F.Denot) → IsSend W → IsSend J → IsSend F
+    → IsSend (helm.the_row W J F g o f)
+helm_send W J F g o f s t u =
+    search (desk_send, output_send, crosses, sendable) depth 60 fits 20000
+
+pub driver_sync : (W J F : RattleType) (g : naming.Ghosts W.Denot) (o : opening.Ghosts J.Denot)
+    (f : files.Ghosts F.Denot) → IsSend W → IsSend J → IsSend F
+    → IsSync (driver.the_row W J F g o f)
+driver_sync W J F g o f s t u =
+    search (helm_send, mutex.the_sync, crosses, sendable) depth 60 fits 20000
+
+pub global_sync : IsSync global.the_row
+global_sync = search (crosses, sendable) depth 60 fits 20000
+
+-- five values that a closure captures
+pub five_sync : (n : List ℕ) (A B C D E : RattleType) → IsSync A → IsSync B → IsSync C → IsSync D
+    → IsSync E → IsSync (TupleAt n (A ∷ B ∷ C ∷ D ∷ E ∷ []))
+five_sync n A B C D E a b c d e =
+    recorded_sync (field_at n (A ∷ B ∷ C ∷ D ∷ E ∷ [])).row _ _
+    (type_at n (A ∷ B ∷ C ∷ D ∷ E ∷ [])).to_one
+    (struct_sync (shape (type_at n (A ∷ B ∷ C ∷ D ∷ E ∷ []))) (a, (b, (c, (d, (e, tt))))))

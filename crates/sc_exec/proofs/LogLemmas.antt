@@ -1,10 +1,9 @@
 -- What a call at a desk leaves in the log beside it.
-use Rattle.std.proofs.Common.{ℕ, ◌≡◌, ◌∙◌, List, [], ◌∷◌, ◌++◌, ap, subst, sym, Bool, true, false, Option, true≢false}
+use Rattle.std.proofs.Common.{ℕ, ◌≡◌, ◌∙◌, List, [], ◌∷◌, ◌++◌, ap, subst, sym, Bool, true, false, Some, true≢false}
 use Rattle.sc_ids.specs.declared.attempts.AttemptId.{AttemptId}
 use Rattle.sc_ids.specs.declared.attempts.Mark.TheVariants.{Exec}
 use Rattle.sc_lineage.specs.ScriptData.{WorkData}
 use Rattle.sc_staging.specs.StagingData.{StagingData}
-use Rattle.sc_plan.specs.declared.orders.Order.{Order}
 use Rattle.sc_core.specs.CoreData.{job_runs}
 use Rattle.sc_core.specs.Journals.{entry}
 use Rattle.sc_core.specs.Sides.{LeavesIf}
@@ -19,14 +18,14 @@ use Rattle.sc_net.specs.Reports.{ReportData, outcome_of}
 use Rattle.sc_core.specs.declared.events.SideEvent.TheVariants.{Leave}
 use Rattle.sc_desk.specs.Asides.{Leaves, Notes}
 use Rattle.sc_desk.specs.DeskData.{DeskData, core_of}
-use Rattle.sc_desk.specs.Dues.{IsEarly, IsOrdered, IsOrderedIf}
+use Rattle.sc_desk.specs.Dues.{IsEarly}
 use Rattle.sc_desk.specs.Posts.{Posts, attempt_of}
 use Rattle.sc_desk.specs.Saving.{MovesPart, StagesPart}
 use Rattle.sc_desk.specs.declared.posts.Posted.{Posted}
 use Rattle.sc_desk.specs.declared.posts.Posted.TheVariants as posteds
 use Rattle.sc_desk.specs.declared.receipts.Noted.{Noted}
+use Rattle.sc_exec.specs.Helms.{helm_data}
 use Rattle.sc_exec.specs.Logging.{IsDelivered, IsLogged, IsLoggedLast, IsSameLog, LeavesBoth, MovesBoth, PostsBoth, StagesBoth, leave_answer, leave_answer_if}
-use Rattle.sc_exec.specs.Openings.{IsOpenedAs, OpeningData}
 use Rattle.sc_exec.specs.declared.calls.Delivery.{Delivery}
 use Rattle.sc_exec.specs.declared.calls.Delivery.TheVariants as deliveries
 use Rattle.sc_logs.specs.declared.logs.ExecLog.{ExecLog}
@@ -49,15 +48,26 @@ pub stages_logged : (d : DeskData) (log mid : ExecLog) (a : AttemptId) (text : L
     → (answer : SideAnswer) → noted.answer ≡ answer → IsLoggedLast mid entries answer then
     → entries ≡ after.journal.entries → mid.exec ≡ log.exec
     → mid.entries.items ≡ log.entries.items
-    → StagesBoth d log a text before behind answer after then
+    → StagesBoth (helm_data d (Some before.dir) before.files) log a text answer
+    (helm_data after (Some behind.dir) behind.files) then
 stages_logged d log mid a text before behind noted after then entries stages answer same
-    (said, last, logged) is exec items = (
-      noted,
-      same,
-      stages,
-      relogged log mid then said _ (says.Side answer)
-          (last d.journal.entries _ (is ∙ stages.notes.enters.entries)) (exec, items) logged,
-    )
+    (said, last, logged) is exec items =
+    record {
+      dir = before.dir;
+      saves_to = refl;
+      stays = ap Some stages.dir;
+      noted = noted;
+      answer_is = same;
+      stages = record {
+        wrote = stages.wrote;
+        notes = stages.notes;
+        dir = refl;
+        later = stages.later;
+        calls = stages.calls;
+      };
+      logged = relogged log mid then said _ (says.Side answer)
+          (last d.journal.entries _ (is ∙ stages.notes.enters.entries)) (exec, items) logged;
+    }
 
 pub moves_logged : (d : DeskData) (log mid : ExecLog) (a : AttemptId)
     (before behind : StagingData) (noted : Noted) (after : DeskData) (then : ExecLog)
@@ -65,15 +75,26 @@ pub moves_logged : (d : DeskData) (log mid : ExecLog) (a : AttemptId)
     → (answer : SideAnswer) → noted.answer ≡ answer → IsLoggedLast mid entries answer then
     → entries ≡ after.journal.entries → mid.exec ≡ log.exec
     → mid.entries.items ≡ log.entries.items
-    → MovesBoth d log a before behind answer after then
+    → MovesBoth (helm_data d (Some before.dir) before.files) log a answer
+    (helm_data after (Some behind.dir) behind.files) then
 moves_logged d log mid a before behind noted after then entries moves answer same
-    (said, last, logged) is exec items = (
-      noted,
-      same,
-      moves,
-      relogged log mid then said _ (says.Side answer)
-          (last d.journal.entries _ (is ∙ moves.notes.enters.entries)) (exec, items) logged,
-    )
+    (said, last, logged) is exec items =
+    record {
+      dir = before.dir;
+      saves_to = refl;
+      stays = ap Some moves.dir;
+      noted = noted;
+      answer_is = same;
+      moves = record {
+        renamed = moves.renamed;
+        notes = moves.notes;
+        dir = refl;
+        later = moves.later;
+        calls = moves.calls;
+      };
+      logged = relogged log mid then said _ (says.Side answer)
+          (last d.journal.entries _ (is ∙ moves.notes.enters.entries)) (exec, items) logged;
+    }
 
 same_log : (log mid then : ExecLog) → IsSameLog log mid → IsSameLog mid then → IsSameLog log then
 same_log log mid then x y = (y.0 ∙ x.0, y.1 ∙ x.1)
@@ -155,14 +176,3 @@ leaves_logged d after log then true answer is (stayed, (noted, notes)) told logg
   },
 )
 leaves_logged d after log then false answer is leaves told logged = absurd (true≢false (sym is))
-
--- an order that is handed out changes nothing of how the job began
-pub ordered_opened : (work : WorkData) (d after : DeskData) (order : Option Order)
-    (o : OpeningData) → IsOrdered work d order after → IsOpenedAs o d → IsOpenedAs o after
-ordered_opened work d after order o h opened = by (job_runs (core_of d)) h
-  where
-    by : (b : Bool) → IsOrderedIf b work d order after → IsOpenedAs o after
-    by false (none, same) = subst (IsOpenedAs o) (sym same) opened
-    by true (next, same) =
-        subst (IsOpenedAs o) (sym same)
-        (record { core = opened.core; job = opened.job; carried = opened.carried })

@@ -1,9 +1,10 @@
--- Calls at a desk in step with the log of an executor.
-use Rattle.std.specs.Prelude.{ℕ, ◌≡◌, ◌<◌, List, [], ◌∷◌, ◌++◌, vec_capacity, vec_len, Bool, true, false}
+-- Calls at a desk, or at one with its files, in step with the log of an executor.
+use Rattle.std.specs.Prelude.{ℕ, ◌≡◌, ◌<◌, List, [], ◌∷◌, ◌++◌, vec_capacity, vec_len, Bool, true, false, Some}
+use Rattle.sc_base.specs.Trees.{Path}
 use Rattle.sc_ids.specs.declared.attempts.AttemptId.{AttemptId}
 use Rattle.sc_ids.specs.declared.attempts.Mark.TheVariants.{Exec}
 use Rattle.sc_lineage.specs.ScriptData.{WorkData}
-use Rattle.sc_staging.specs.StagingData.{StagingData}
+use Rattle.sc_staging.specs.StagingData.{staging_data}
 use Rattle.sc_core.specs.CoreData.{CoreData, job_runs}
 use Rattle.sc_core.specs.Journals.{entry}
 use Rattle.sc_core.specs.declared.answers.Answer.{Answer}
@@ -28,6 +29,7 @@ use Rattle.sc_desk.specs.declared.posts.Posted.TheVariants as posteds
 use Rattle.sc_desk.specs.declared.receipts.Noted.{Noted}
 use Rattle.sc_desk.specs.declared.receipts.Receipt.{Receipt}
 use Rattle.sc_desk.specs.declared.takes.Taken.{Taken}
+use Rattle.sc_exec.specs.Helms.{HelmData}
 use Rattle.sc_exec.specs.declared.calls.Delivery.{Delivery}
 use Rattle.sc_exec.specs.declared.calls.Delivery.TheVariants as deliveries
 use Rattle.sc_logs.specs.declared.logs.ExecLog.{ExecLog}
@@ -107,20 +109,28 @@ AsksBoth d log attempt answer after then =
     × IsLogged log (events.Side (Ask attempt)) (says.Side answer) then
 
 -- its attempt, where it comes next, writes its part, which has this text
-abbrev pub StagesBoth : DeskData → ExecLog → AttemptId → List ℕ → StagingData → StagingData
-    → SideAnswer → DeskData → ExecLog → Type 0
-StagesBoth d log attempt text before behind answer after then =
-    (noted : Noted) × (noted.answer ≡ answer)
-    × (stages : StagesPart d (Exec log.exec) attempt text before behind noted after)
-    × IsLogged log (events.Side (Stage attempt stages.wrote)) (says.Side answer) then
+pub record StagesBoth (h : HelmData) (log : ExecLog) (attempt : AttemptId) (text : List ℕ)
+    (answer : SideAnswer) (after : HelmData) (then : ExecLog) : Type 0 where
+  pub dir : Path
+  pub saves_to : h.dir ≡ Some dir
+  pub stays : after.dir ≡ Some dir
+  pub noted : Noted
+  pub answer_is : noted.answer ≡ answer
+  pub stages : StagesPart h.desk (Exec log.exec) attempt text (staging_data dir h.files)
+      (staging_data dir after.files) noted after.desk
+  pub logged : IsLogged log (events.Side (Stage attempt stages.wrote)) (says.Side answer) then
 
 -- its attempt, where it comes next, gives its part the name of a committed one
-abbrev pub MovesBoth : DeskData → ExecLog → AttemptId → StagingData → StagingData → SideAnswer
-    → DeskData → ExecLog → Type 0
-MovesBoth d log attempt before behind answer after then =
-    (noted : Noted) × (noted.answer ≡ answer)
-    × (moves : MovesPart d (Exec log.exec) attempt before behind noted after)
-    × IsLogged log (events.Side (Move attempt moves.renamed)) (says.Side answer) then
+pub record MovesBoth (h : HelmData) (log : ExecLog) (attempt : AttemptId) (answer : SideAnswer)
+    (after : HelmData) (then : ExecLog) : Type 0 where
+  pub dir : Path
+  pub saves_to : h.dir ≡ Some dir
+  pub stays : after.dir ≡ Some dir
+  pub noted : Noted
+  pub answer_is : noted.answer ≡ answer
+  pub moves : MovesPart h.desk (Exec log.exec) attempt (staging_data dir h.files)
+      (staging_data dir after.files) noted after.desk
+  pub logged : IsLogged log (events.Side (Move attempt moves.renamed)) (says.Side answer) then
 
 -- what an executor is answered that leaves: after the job's end nothing changes
 abbrev pub leave_answer_if : Bool → SideAnswer

@@ -2,12 +2,14 @@
 #![tactic(auto)]
 
 ghost use Rattle.std.specs.Prelude.{◌≡◌, ◌<◌, ◌+◌, IfErr, IfOk, OnErr, vec_capacity, vec_len};
+ghost use Rattle.sc_exec.specs.Helms.{KeepsFiles};
 ghost use Rattle.sc_exec.specs.Logging.{HasRoom, IsDelivered, IsSameLog, PostsBoth, TakesBoth};
 
-use crate::named::Named;
+use crate::helms::Helm;
 use crate::openings::Opening;
 use sc_core::{Entry, Event};
 use sc_desk::{Logged, Posted, Taken};
+use sc_files::Files;
 use sc_ids::Mark;
 use sc_logs::ExecLog;
 use sc_net::Report;
@@ -30,11 +32,13 @@ pub enum Delivery<W: Naming> {
     },
 }
 
-impl<W: Naming, J: Opening> Named<W, J> {
+impl<W: Naming, J: Opening, F: Files> Helm<W, J, F> {
     /// An executor asks for a task, and logs what it was answered. A refused call changes nothing.
     pub fn take(&mut self, log: &mut ExecLog) -> Result<Taken<W>, AllocError>
         requires room { HasRoom log.old }
-        ensures taken { IfOk result (λ t. TakesBoth self.old log.old t self.new log.new) }
+        ensures taken { IfOk result
+            (λ t. TakesBoth self.old.desk log.old t self.new.desk log.new) }
+        ensures files { KeepsFiles self.old self.new }
         ensures refused { OnErr result (self.new ≡ self.old) }
         ensures unlogged { OnErr result (IsSameLog log.old log.new) }
         ensures room { HasRoom log.new }
@@ -61,7 +65,8 @@ impl<W: Naming, J: Opening> Named<W, J> {
     ) -> Result<Delivery<W>, AllocFailed<Report<W>>>
         requires room { HasRoom log.old }
         ensures posted { IfOk result
-            (λ p. PostsBoth W.work self.old log.old report p self.new log.new) }
+            (λ p. PostsBoth W.work self.old.desk log.old report p self.new.desk log.new) }
+        ensures files { KeepsFiles self.old self.new }
         ensures refused { OnErr result (self.new ≡ self.old) }
         ensures unlogged { OnErr result (IsSameLog log.old log.new) }
         ensures back { IfErr result (λ failed. failed.value ≡ report) }

@@ -3,25 +3,27 @@
 
 ghost use Rattle.std.specs.Prelude.{◌≡◌, ◌<◌};
 ghost use Rattle.sc_desk.specs.Dues.{IsOrdered};
+ghost use Rattle.sc_exec.specs.Helms.{KeepsFiles};
 ghost use Rattle.sc_exec.specs.Logging.{HasRoom, LeavesBoth, leave_answer};
-ghost use Rattle.sc_exec.specs.Openings.{IsOpenedAs};
 
-use crate::named::Named;
+use crate::helms::Helm;
 use crate::openings::Opening;
 use sc_core::{Answer, Core, Entry, Event, JobState, SideAnswer, SideEvent};
+use sc_files::Files;
 use sc_ids::Mark;
 use sc_logs::ExecLog;
 use sc_plan::Order;
 use sc_work::Naming;
 
-impl<W: Naming, J: Opening> Named<W, J> {
+impl<W: Naming, J: Opening, F: Files> Helm<W, J, F> {
     /// An executor of the work that can't go on leaves the job, and logs what it was answered. It
     /// takes no memory. False comes exactly where it left before, and then nothing changes.
     #[tactic(auto, using(crate::proofs::LogLemmas::leaves_logged))]
     pub fn leave(&mut self, log: &mut ExecLog) -> bool
         requires known { log.old.exec < W.work.limits.executors }
         requires room { HasRoom log.old }
-        ensures { LeavesBoth self.old log.old result self.new log.new }
+        ensures leaves { LeavesBoth self.old.desk log.old result self.new.desk log.new }
+        ensures files { KeepsFiles self.old self.new }
     {
         let answer = leave_answer(self.desk.core());
         let exec = log.exec;
@@ -40,16 +42,10 @@ impl<W: Naming, J: Opening> Named<W, J> {
     /// handed out from now on.
     #[tactic(auto, using(crate::proofs::LogLemmas::ordered_opened))]
     pub fn due_order(&mut self) -> Option<Order>
-        ensures { IsOrdered W.work self.old result self.new }
+        ensures ordered { IsOrdered W.work self.old.desk result self.new.desk }
+        ensures files { KeepsFiles self.old self.new }
     {
         self.desk.due_order()
-    }
-
-    /// What it is by its type: a desk of a job that began so.
-    pub fn is_opened(&self)
-        ensures { IsOpenedAs J.opening self.now }
-    {
-        let _ = &self.desk;
     }
 }
 

@@ -1,31 +1,33 @@
 //! What an attempt of a save does at a desk, in step with the log of its executor.
 #![tactic(auto)]
 
-ghost use Rattle.std.specs.Prelude.{◌≡◌, ◌<◌, ◌+◌, IfOk, IfSome, OnErr, length, true, vec_capacity, vec_len};
-ghost use Rattle.sc_core.specs.Saving.{is_granted, saver_phase};
-ghost use Rattle.sc_desk.specs.DeskData.{core_of};
+ghost use Rattle.std.specs.Prelude.{◌≡◌, ◌<◌, ◌+◌, IfOk, OnErr, length, true, vec_capacity, vec_len};
+ghost use Rattle.sc_desk.specs.Files.{part_texts};
 ghost use Rattle.sc_desk.specs.Saving.{IsEvidentAnswer};
-ghost use Rattle.sc_output.specs.Calls.{IsOpen};
-ghost use Rattle.sc_staging.specs.Parts.{part_rename};
+ghost use Rattle.sc_jobs.specs.JobData.{saves};
+ghost use Rattle.sc_staging.specs.Done.{text_of};
+ghost use Rattle.sc_exec.specs.Helms.{KeepsFiles};
 ghost use Rattle.sc_exec.specs.Logging.{AsksBoth, HasRoom, IsLastEvent, IsLoggedLast, IsSameLog, MovesBoth, StagesBoth};
 
-use crate::named::Named;
+use crate::helms::Helm;
 use crate::openings::Opening;
 use sc_core::{Answer, Entry, Event, SideAnswer, SideEvent};
 use sc_files::Files;
 use sc_ids::{AttemptId, Mark};
 use sc_logs::ExecLog;
-use sc_staging::Staging;
+use sc_output::is_within_types;
+use sc_staging::Output;
 use sc_work::Naming;
 use std::alloc::{AllocError, Global};
 
-impl<W: Naming, J: Opening> Named<W, J> {
+impl<W: Naming, J: Opening, F: Files> Helm<W, J, F> {
     /// An attempt of an executor asks whether it may commit, and what it was answered is logged. A
     /// refused call changes nothing.
     pub fn ask(&mut self, log: &mut ExecLog, attempt: AttemptId) -> Result<SideAnswer, AllocError>
         requires room { HasRoom log.old }
         ensures asked { IfOk result
-            (λ answer. AsksBoth self.old log.old attempt answer self.new log.new) }
+            (λ answer. AsksBoth self.old.desk log.old attempt answer self.new.desk log.new) }
+        ensures files { KeepsFiles self.old self.new }
         ensures refused { OnErr result (self.new ≡ self.old) }
         ensures unlogged { OnErr result (IsSameLog log.old log.new) }
         ensures room { HasRoom log.new }
@@ -41,27 +43,31 @@ impl<W: Naming, J: Opening> Named<W, J> {
         Ok(noted.answer)
     }
 
-    /// An attempt of an executor that comes next to stage writes its part, which has this text, and
-    /// what it was answered is logged. A refused call changes nothing.
-    pub fn stage_part<F: Files>(
+    /// An attempt of an executor that comes next to stage writes its part, which has the text of
+    /// its partition, and what it was answered is logged. A refused call changes nothing.
+    pub fn stage_part(
         &mut self,
         alloc: Global,
         log: &mut ExecLog,
         attempt: AttemptId,
-        staging: &mut Staging<F>,
         text: &[u8],
     ) -> Result<SideAnswer, AllocError>
         requires room { HasRoom log.old }
-        ensures stages { IfOk result (λ answer. StagesBoth self.old log.old attempt text.now
-            staging.old staging.new answer self.new log.new) }
+        requires saves { saves W.work J.opening.job.goal ≡ true }
+        requires text { text.now ≡ text_of (part_texts W.work J.opening.job.goal) attempt }
+        ensures stages { IfOk result
+            (λ answer. StagesBoth self.old log.old attempt text.now answer self.new log.new) }
         ensures evident { IfOk result IsEvidentAnswer }
         ensures refused { OnErr result (self.new ≡ self.old) }
-        ensures unwritten { OnErr result (staging.new ≡ staging.old) }
         ensures unlogged { OnErr result (IsSameLog log.old log.new) }
         ensures room { HasRoom log.new }
     {
         log.entries.reserve(2)?;
+        is_within_types(attempt);
         let by = Mark::Exec(log.exec);
+        let Output::Save(staging) = &mut self.output else {
+            unreachable!();
+        };
         let noted = self.desk.stage_part(alloc, by, attempt, staging, text)?;
         log_last(log, self.desk.entries(), noted.answer);
         Ok(noted.answer)
@@ -69,26 +75,29 @@ impl<W: Naming, J: Opening> Named<W, J> {
 
     /// An attempt of an executor that comes next to move gives its part the name of a committed
     /// one, and what it was answered is logged. A refused call changes nothing.
-    pub fn move_part<F: Files>(
+    pub fn move_part(
         &mut self,
         alloc: Global,
         log: &mut ExecLog,
         attempt: AttemptId,
-        staging: &mut Staging<F>,
     ) -> Result<SideAnswer, AllocError>
         requires room { HasRoom log.old }
-        requires staged { is_granted (saver_phase (core_of self.old) attempt) ≡ true
-            → IfSome staging.old.files.shown (IsOpen (part_rename staging.old.dir attempt)) }
-        ensures moves { IfOk result (λ answer. MovesBoth self.old log.old attempt
-            staging.old staging.new answer self.new log.new) }
+        requires saves { saves W.work J.opening.job.goal ≡ true }
+        ensures moves { IfOk result
+            (λ answer. MovesBoth self.old log.old attempt answer self.new log.new) }
         ensures evident { IfOk result IsEvidentAnswer }
         ensures refused { OnErr result (self.new ≡ self.old) }
-        ensures unmoved { OnErr result (staging.new ≡ staging.old) }
         ensures unlogged { OnErr result (IsSameLog log.old log.new) }
         ensures room { HasRoom log.new }
     {
         log.entries.reserve(2)?;
+        is_within_types(attempt);
+        self.desk.is_sound();
+        self.desk.is_replay();
         let by = Mark::Exec(log.exec);
+        let Output::Save(staging) = &mut self.output else {
+            unreachable!();
+        };
         let noted = self.desk.move_part(alloc, by, attempt, staging)?;
         log_last(log, self.desk.entries(), noted.answer);
         Ok(noted.answer)

@@ -7,24 +7,28 @@ ghost use Rattle.sc_core.specs.Releases.{has_no_shelved};
 ghost use Rattle.sc_core.specs.declared.answers.NotEnabled.{NotEnabled};
 ghost use Rattle.sc_base.specs.declared.refusals.OrMemory.TheVariants as OrMemory;
 ghost use Rattle.sc_desk.specs.DeskData.{core_of};
+ghost use Rattle.sc_exec.specs.Helms.{KeepsFiles};
 ghost use Rattle.sc_exec.specs.Logging.{HasRoom, IsSameLog, LosesBoth, ReleasesBoth};
 
-use crate::named::Named;
+use crate::helms::Helm;
 use crate::openings::Opening;
 use sc_base::OrMemory;
 use sc_core::{Entry, Event, NotEnabled};
+use sc_files::Files;
 use sc_ids::{ExecId, Mark};
 use sc_logs::ExecLog;
 use sc_work::Naming;
 
-impl<W: Naming, J: Opening> Named<W, J> {
+impl<W: Naming, J: Opening, F: Files> Helm<W, J, F> {
     /// An executor has the report under a key told, and logs what it was answered. A fault says
     /// that there is no such report. A refused call changes nothing.
     pub fn release(&mut self, log: &mut ExecLog, key: u32) -> Result<(), OrMemory<NotEnabled>>
         requires room { HasRoom log.old }
-        ensures released { OnOk result (ReleasesBoth self.old log.old key self.new log.new) }
+        ensures released { OnOk result
+            (ReleasesBoth self.old.desk log.old key self.new.desk log.new) }
+        ensures files { KeepsFiles self.old self.new }
         ensures not_enabled { (fault : NotEnabled) → result ≡ Err (OrMemory.Fault fault)
-            → has_no_shelved (core_of self.old) key ≡ true }
+            → has_no_shelved (core_of self.old.desk) key ≡ true }
         ensures refused { OnErr result (self.new ≡ self.old) }
         ensures unlogged { OnErr result (IsSameLog log.old log.new) }
         ensures room { HasRoom log.new }
@@ -44,9 +48,11 @@ impl<W: Naming, J: Opening> Named<W, J> {
     /// says that it may not be told so. A refused call changes nothing.
     pub fn tell_lost(&mut self, log: &mut ExecLog, exec: ExecId) -> Result<(), OrMemory<NotEnabled>>
         requires room { HasRoom log.old }
-        ensures lost { OnOk result (LosesBoth self.old log.old exec self.new log.new) }
+        ensures lost { OnOk result
+            (LosesBoth self.old.desk log.old exec self.new.desk log.new) }
+        ensures files { KeepsFiles self.old self.new }
         ensures not_enabled { (fault : NotEnabled) → result ≡ Err (OrMemory.Fault fault)
-            → may_be_lost (core_of self.old) exec ≡ false }
+            → may_be_lost (core_of self.old.desk) exec ≡ false }
         ensures refused { OnErr result (self.new ≡ self.old) }
         ensures unlogged { OnErr result (IsSameLog log.old log.new) }
         ensures room { HasRoom log.new }

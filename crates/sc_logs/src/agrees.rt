@@ -26,8 +26,8 @@ pub(crate) fn agree_on(entries: &[Entry], logs: &[ExecLog]) -> bool
     logs.iter().all(|log| is_log(entries, log)) && entries.iter().all(|e| is_known(logs, e))
 }
 
-/// Whether the entries of an executor are its log.
-fn is_log(entries: &[Entry], log: &ExecLog) -> bool
+/// Whether the entries of an executor are its log. It takes no memory.
+pub fn is_log(entries: &[Entry], log: &ExecLog) -> bool
     ensures { IsTrue result ↔ IsLogIn entries.now log.now }
 {
     is_run(log.exec, entries, log.entries.as_slice())
@@ -61,7 +61,7 @@ fn behind<'a>(exec: ExecId, e: &Entry, rest: &'a [Entry]) -> Option<&'a [Entry]>
 }
 
 /// Whether an entry is an executor's.
-fn is_by(exec: ExecId, e: &Entry) -> bool
+pub fn is_by(exec: ExecId, e: &Entry) -> bool
     ensures { result ≡ is_by exec e.now }
 {
     match e.by {
@@ -71,7 +71,7 @@ fn is_by(exec: ExecId, e: &Entry) -> bool
 }
 
 /// Whether an entry is the driver's.
-fn is_drivers(e: &Entry) -> bool
+pub fn is_drivers(e: &Entry) -> bool
     ensures { result ≡ is_drivers e.now }
 {
     match e.by {

@@ -19,6 +19,6 @@ mod same;
 #[cfg(test)]
 mod tests;
 
-pub use agrees::agree;
+pub use agrees::{agree, is_by, is_drivers, is_log};
 pub use laws::worked_jobs_have_ended;
 pub use logs::ExecLog;
