@@ -7,6 +7,7 @@ use denote.Struct.Declared.{shape}
 use denote.Param.Send.{IsSend, IsSync, sendable, recorded_sync, struct_sync}
 use Rattle.std.proofs.Crossing.{crosses}
 use Rattle.std.proofs.sync.Mutex.TheSendSync as mutex
+use Rattle.std.specs.contracts.alloc.Global as global
 use Rattle.sc_value.proofs.text.Text.TheSendSync as text
 use Rattle.sc_value.proofs.name.Name.TheSendSync as name
 use Rattle.sc_files.specs.declared.files.Files as files
@@ -40,10 +41,13 @@ pub driver_sync : (W J F : RattleType) (g : naming.Ghosts W.Denot) (o : opening.
 driver_sync W J F g o f s t u =
     search (helm_send, mutex.the_sync, crosses, sendable) depth 60 fits 20000
 
--- four values that a closure captures
-pub four_sync : (n : List ℕ) (A B C D : RattleType) → IsSync A → IsSync B → IsSync C → IsSync D
-    → IsSync (TupleAt n (A ∷ B ∷ C ∷ D ∷ []))
-four_sync n A B C D a b c d =
-    recorded_sync (field_at n (A ∷ B ∷ C ∷ D ∷ [])).row _ _
-    (type_at n (A ∷ B ∷ C ∷ D ∷ [])).to_one
-    (struct_sync (shape (type_at n (A ∷ B ∷ C ∷ D ∷ []))) (a, (b, (c, (d, tt)))))
+pub global_sync : IsSync global.the_row
+global_sync = search (crosses, sendable) depth 60 fits 20000
+
+-- five values that a closure captures
+pub five_sync : (n : List ℕ) (A B C D E : RattleType) → IsSync A → IsSync B → IsSync C → IsSync D
+    → IsSync E → IsSync (TupleAt n (A ∷ B ∷ C ∷ D ∷ E ∷ []))
+five_sync n A B C D E a b c d e =
+    recorded_sync (field_at n (A ∷ B ∷ C ∷ D ∷ E ∷ [])).row _ _
+    (type_at n (A ∷ B ∷ C ∷ D ∷ E ∷ [])).to_one
+    (struct_sync (shape (type_at n (A ∷ B ∷ C ∷ D ∷ E ∷ []))) (a, (b, (c, (d, (e, tt))))))

@@ -2,6 +2,9 @@ pub mod Crossing
 pub mod HelmLemmas
 pub mod JobsCross
 pub mod LogLemmas
+pub mod OwedLemmas
+pub mod PartLemmas
+pub mod ReadingLemmas
 pub mod TurnLemmas
 pub mod VerdictLemmas
 pub mod WorksCross

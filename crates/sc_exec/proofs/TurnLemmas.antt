@@ -82,22 +82,22 @@ told_so {W = W} d after log then job t same sound w (answer, takes_it, logged) =
         → Takes (core_of d) log.exec a (core_of after)
         → IsLogged log (events.Take log.exec) a then → IsTold job t then
     by (takes.Task t) (says.Task h) e k l = (
-          ap (λ (x : TaskData). x.job) e ∙ same,
-          subst (λ (x : TaskData). IsAtWork (x.hand_out.attempt ∷ []) then) (sym e)
-              (on (says.Task h) l),
-          subst (λ (x : TaskData). All LiesOrLay x.hand_out.inputs) (sym e) (lay h k),
-        )
+      ap (λ (x : TaskData). x.job) e ∙ same,
+      subst (λ (x : TaskData). IsAtWork (x.hand_out.attempt ∷ []) then) (sym e)
+          (on (says.Task h) l),
+      subst (λ (x : TaskData). All LiesOrLay x.hand_out.inputs) (sym e) (lay h k),
+    )
     by (takes.Wait out) (says.Wait attempt) e k l = on (says.Wait attempt) l
     by (takes.Busy held) (says.Busy attempt) e k l = (
-          subst (λ (x : AttemptId). WasTold (says.Busy x) then) (sym e)
-              (last (says.Busy attempt) l),
-          on (says.Busy attempt) l,
-        )
+      subst (λ (x : AttemptId). WasTold (says.Busy x) then) (sym e)
+          (last (says.Busy attempt) l),
+      on (says.Busy attempt) l,
+    )
     by takes.Lost says.Lost e k l = (last says.Lost l, on says.Lost l)
     by (takes.Stopped exec) (says.Stopped first) e k l = (
-          subst (λ (x : ℕ). WasTold (says.Stopped x) then) (sym e) (last (says.Stopped first) l),
-          on (says.Stopped first) l,
-        )
+      subst (λ (x : ℕ). WasTold (says.Stopped x) then) (sym e) (last (says.Stopped first) l),
+      on (says.Stopped first) l,
+    )
     by takes.Ended says.Ended e k l = (last says.Ended l, on says.Ended l)
     by (takes.Aborted why) (says.Aborted cause) e k l = on (says.Aborted cause) l
     by t a bad k l = absurd bad
@@ -112,4 +112,3 @@ works_same log then owed same w =
       asks = ap (λ (exec : ℕ). has_asked_as exec then.entries.items) same.0
           ∙ ap (has_asked_as log.exec) same.1 ∙ w.asks;
     }
-

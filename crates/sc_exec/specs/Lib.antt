@@ -2,6 +2,8 @@ pub mod Helms
 pub mod Lefts
 pub mod Logging
 pub mod Openings
+pub mod Performing
 pub mod Turns
 pub mod Verdicts
 pub mod Workers
+pub mod Working

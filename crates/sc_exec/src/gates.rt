@@ -1,14 +1,14 @@
 //! Gates.
 #![tactic(auto)]
 
-use sc_ids::ExecId;
+use sc_ids::{AttemptId, ExecId};
 use std::sync::Wait;
 
 /// What an executor passes that was handed a task, before it does it. A gate may keep it for a
 /// while, and no longer: an executor that is kept for ever keeps all others waiting.
 pub trait Gate {
-    /// An executor passes.
-    fn enter<R: Wait>(&self, rt: &R, exec: ExecId);
+    /// An executor passes with an attempt.
+    fn enter<R: Wait>(&self, rt: &R, exec: ExecId, attempt: AttemptId);
 }
 
 /// A gate that keeps nobody.
@@ -16,5 +16,5 @@ pub trait Gate {
 pub struct OpenGate;
 
 impl Gate for OpenGate {
-    fn enter<R: Wait>(&self, _rt: &R, _exec: ExecId) {}
+    fn enter<R: Wait>(&self, _rt: &R, _exec: ExecId, _attempt: AttemptId) {}
 }

@@ -1,4 +1,4 @@
-//! The desk of a job that executor threads share, and how such a job went.
+//! A job on executor threads, and how it went.
 //!
 //! Threads lock the desk of a job one after another, and of a value under a lock no more is known
 //! than what its type says. So a [`Helm`], which is the desk with the files of the job, has a
@@ -9,16 +9,20 @@
 //! An executor makes each call in step with its log (`ExecLog` of `sc_logs`): the log takes room
 //! first, then the desk is called, and then the log has the same entry as the journal, marked with
 //! the executor. Room for one entry more is kept, so that it can always leave. `specs/Logging.antt`
-//! has each call as a relation from both to both. A [`Driver`] is the locked helm with its bell,
-//! and a [`Gate`] is what an executor passes that was handed a task. A [`Worker`] is an executor
-//! with its log and why it takes no more tasks ([`Left`]); [`judge`] says how a job went by the
-//! workers of all its executors.
+//! has each call as a relation from both to both.
+//!
+//! [`work_job`] has a thread for each [`Worker`]. They share a [`Driver`], which is the locked helm
+//! with its bell, and the stores, each behind a lock of its own. Turn by turn an executor tells what
+//! is due, gets an order or a task and does it ([`work_loop`]); what it reads and leaves lies in
+//! stores, and only what it reports, or the part of a save, goes to the desk. At the end its log
+//! tells why it takes no more tasks ([`Left`]), and [`judge`] says by all of them how the job went.
 //!
 //! `proofs/Crossing.antt` shows that threads may share a driver, and stores behind locks, for any
 //! work: down to rows and values, whose types know nothing of threads. Below lie `sc_desk`,
-//! `sc_logs`, `sc_store` and `sc_staging`.
+//! `sc_task`, `sc_logs`, `sc_store` and `sc_staging`.
 #![tactic(auto)]
 
+mod attempts;
 mod calls;
 mod driver;
 mod gates;
@@ -26,10 +30,13 @@ mod helms;
 mod leaves;
 mod lefts;
 mod openings;
+mod performing;
 mod savers;
 mod tellings;
+mod threads;
 mod turns;
 mod verdicts;
+mod work;
 mod workers;
 
 pub use calls::Delivery;
@@ -38,5 +45,7 @@ pub use gates::{Gate, OpenGate};
 pub use helms::Helm;
 pub use lefts::Left;
 pub use openings::Opening;
+pub use threads::work_job;
 pub use verdicts::{Verdict, judge};
+pub use work::work_loop;
 pub use workers::{Worker, into_logs};

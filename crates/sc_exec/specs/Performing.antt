@@ -1,0 +1,46 @@
+-- How far an executor comes with a task by stores alone.
+use Rattle.std.specs.Prelude.{◌≡◌, ◌+◌, ◌<◌}
+use Rattle.sc_lineage.specs.ScriptData.{WorkData}
+use Rattle.sc_net.specs.Tasks.{TaskData}
+use Rattle.sc_net.specs.declared.findings.Finding.{Finding}
+use Rattle.sc_net.specs.declared.findings.Finding.TheVariants as findings
+use Rattle.sc_task.specs.States.{AssignedData, IsOfPart, assigned_data}
+use Rattle.sc_exec.specs.declared.lefts.Left.{Left}
+use Rattle.sc_exec.specs.declared.lefts.Left.TheVariants as lefts
+use Rattle.sc_exec.specs.declared.performing.Gathered.{Gathered}
+use Rattle.sc_exec.specs.declared.performing.Gathered.TheVariants as gathered
+use Rattle.sc_exec.specs.declared.performing.Got.{Got}
+use Rattle.sc_exec.specs.declared.performing.Got.TheVariants as got
+use Rattle.sc_exec.specs.declared.performing.Prepared.{Prepared}
+use Rattle.sc_exec.specs.declared.performing.Prepared.TheVariants as prepared
+
+-- what keeps an executor from going on with a task that it has: what it meets, and nothing that it
+-- was told at a Take
+abbrev pub IsHindrance : Left → Type 0
+IsHindrance lefts.Stranger = Unit {0}
+IsHindrance (lefts.Early found due) = due < found
+IsHindrance (lefts.Absent loc) = Unit {0}
+IsHindrance lefts.NoMemory = Unit {0}
+IsHindrance left = ⊥
+
+-- a finding speaks of a block that the task reads: it is gone, or had no location
+abbrev pub IsOfReading : Finding → Type 0
+IsOfReading (findings.Gone exec wanted found) = Unit {0}
+IsOfReading (findings.Metadata last) = Unit {0}
+IsOfReading finding = ⊥
+
+-- what an attempt gets that goes for its next block: it has read one more, or reports of the block
+abbrev pub Gets : {W : _} → AssignedData → Got W → Type 0
+Gets a (got.Next next) = next ≡ assigned_data a.task (a.got + 1)
+Gets a (got.Report report) = (report.task ≡ a.task) × IsOfReading report.finding
+
+-- what the attempt of a task gets that goes for all its blocks: it has read all, or reports of one
+abbrev pub IsGathered : {W : _} → TaskData → Gathered W → Type 0
+IsGathered t (gathered.Read read) = read.task ≡ t
+IsGathered t (gathered.Report report) = (report.task ≡ t) × IsOfReading report.finding
+
+-- how far the attempt of a task comes by stores alone: it has something to report, or has its part,
+-- where it is one of a save
+abbrev pub IsPrepared : {W : _} → WorkData → TaskData → Prepared W → Type 0
+IsPrepared work t (prepared.Report report) = report.task ≡ t
+IsPrepared work t (prepared.Part computed) = (computed.task ≡ t) × IsOfPart work t

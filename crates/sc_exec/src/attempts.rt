@@ -1,0 +1,252 @@
+//! One attempt, from its task to its report.
+#![tactic(auto)]
+
+ghost use Rattle.std.specs.Prelude.{◌≡◌, ◌∷◌, [], All, IfErr, IfOk, OnOk, true};
+ghost use Rattle.sc_jobs.specs.JobData.{saves};
+ghost use Rattle.sc_desk.specs.Saving.{IsEvidentAnswer};
+ghost use Rattle.sc_task.specs.States.{IsOfPart};
+ghost use Rattle.sc_exec.specs.Lefts.{IsAtWork};
+ghost use Rattle.sc_exec.specs.Logging.{HasRoom};
+ghost use Rattle.sc_exec.specs.Performing.{IsHindrance};
+ghost use Rattle.sc_exec.specs.Turns.{LiesOrLay};
+ghost use Rattle.sc_exec.specs.Working.{IsTooEarly, owed_by};
+
+use crate::calls::Delivery;
+use crate::driver::Driver;
+use crate::gates::Gate;
+use crate::lefts::Left;
+use crate::openings::Opening;
+use crate::performing::{Prepared, prepare};
+use sc_core::SideAnswer;
+use sc_files::Files;
+use sc_ids::AttemptId;
+use sc_logs::ExecLog;
+use sc_net::{Finding, Report, Task};
+use sc_store::Store;
+use sc_task::{Computed, Staged};
+use sc_work::Naming;
+use std::alloc::Global;
+use std::sync::{Mutex, Wait};
+
+/// An executor does a task that it was handed, once its gate lets it, and posts what its attempt
+/// reports. An attempt of a save has its part written and moved before.
+pub(crate) fn perform<W: Naming, J: Opening, F: Files, G: Gate, R: Wait>(
+    rt: &R,
+    alloc: Global,
+    driver: &Driver<W, J, F>,
+    stores: &[Mutex<Store<W>>],
+    gate: &G,
+    log: &mut ExecLog,
+    task: Task<W>,
+) -> Result<(), Left>
+    requires works { IsAtWork (task.hand_out.attempt ∷ []) log.old }
+    requires job { task.job ≡ J.opening.job }
+    requires lay { All LiesOrLay task.hand_out.inputs }
+    requires room { HasRoom log.old }
+    ensures works { OnOk result (IsAtWork [] log.new) }
+    ensures hinders { IfErr result IsHindrance }
+    ensures exec { log.new.exec ≡ log.old.exec }
+    ensures room { HasRoom log.new }
+{
+    gate.enter(rt, log.exec, task.attempt());
+    match prepare(rt, alloc, stores, log.exec, task)? {
+        Prepared::Report(report) => post(rt, driver, log, report),
+        Prepared::Part(computed) => save(rt, alloc, driver, log, computed),
+    }
+}
+
+/// An executor posts what its attempt reports.
+#[tactic(auto, using(crate::proofs::OwedLemmas::posts_owed))]
+fn post<W: Naming, J: Opening, F: Files, R: Wait>(
+    rt: &R,
+    driver: &Driver<W, J, F>,
+    log: &mut ExecLog,
+    report: Report<W>,
+) -> Result<(), Left>
+    requires works { IsAtWork (report.task.hand_out.attempt ∷ []) log.old }
+    requires room { HasRoom log.old }
+    ensures works { OnOk result (IsAtWork [] log.new) }
+    ensures hinders { IfErr result IsHindrance }
+    ensures exec { log.new.exec ≡ log.old.exec }
+    ensures room { HasRoom log.new }
+{
+    let posted = driver.helm.lock(rt).post(log, report);
+    driver.bell.notify_all();
+    match posted {
+        Ok(Delivery::Received) => Ok(()),
+        Ok(Delivery::Stranger(_)) => Err(Left::Stranger),
+        Ok(Delivery::Early { report, due }) => Err(early(&report, due)),
+        Err(_) => Err(Left::NoMemory),
+    }
+}
+
+/// Why an executor leaves whose report speaks of a generation that can't be there yet.
+fn early<W: Naming>(report: &Report<W>, due: u64) -> Left
+    requires early { IsTooEarly W.work report.now.finding due }
+    ensures { IsHindrance result }
+{
+    match report.finding() {
+        Finding::Gone { found, .. } => Left::Early { found: *found, due },
+        _ => unreachable!(),
+    }
+}
+
+/// An attempt of a save has its part written, and commits it, unless it is over before; else it
+/// reports that it can't.
+fn save<W: Naming, J: Opening, F: Files, R: Wait>(
+    rt: &R,
+    alloc: Global,
+    driver: &Driver<W, J, F>,
+    log: &mut ExecLog,
+    computed: Computed<W>,
+) -> Result<(), Left>
+    requires works { IsAtWork (computed.task.hand_out.attempt ∷ []) log.old }
+    requires part { IsOfPart W.work computed.task }
+    requires job { computed.task.job ≡ J.opening.job }
+    requires room { HasRoom log.old }
+    ensures works { OnOk result (IsAtWork [] log.new) }
+    ensures hinders { IfErr result IsHindrance }
+    ensures exec { log.new.exec ≡ log.old.exec }
+    ensures room { HasRoom log.new }
+{
+    match stage(rt, alloc, driver, log, &computed)? {
+        SideAnswer::Staged => commit(rt, alloc, driver, log, computed.staged()),
+        SideAnswer::Fault(fault) => post(rt, driver, log, computed.device(fault)),
+        SideAnswer::Over => Ok(()),
+        // the job has ended, and nothing may be committed any more
+        _ => post(rt, driver, log, computed.staged().denied()),
+    }
+}
+
+/// An attempt of a save whose part was written asks whether it may commit, and has its part moved
+/// where it may.
+fn commit<W: Naming, J: Opening, F: Files, R: Wait>(
+    rt: &R,
+    alloc: Global,
+    driver: &Driver<W, J, F>,
+    log: &mut ExecLog,
+    staged: Staged<W>,
+) -> Result<(), Left>
+    requires works { IsAtWork (staged.task.hand_out.attempt ∷ []) log.old }
+    requires saves { saves W.work J.opening.job.goal ≡ true }
+    requires room { HasRoom log.old }
+    ensures works { OnOk result (IsAtWork [] log.new) }
+    ensures hinders { IfErr result IsHindrance }
+    ensures exec { log.new.exec ≡ log.old.exec }
+    ensures room { HasRoom log.new }
+{
+    match ask(rt, driver, log, staged.task().attempt())? {
+        SideAnswer::Granted => finish(rt, alloc, driver, log, staged),
+        SideAnswer::Over => Ok(()),
+        _ => post(rt, driver, log, staged.denied()),
+    }
+}
+
+/// An attempt of a save that may commit has its part moved, and reports it.
+fn finish<W: Naming, J: Opening, F: Files, R: Wait>(
+    rt: &R,
+    alloc: Global,
+    driver: &Driver<W, J, F>,
+    log: &mut ExecLog,
+    staged: Staged<W>,
+) -> Result<(), Left>
+    requires works { IsAtWork (staged.task.hand_out.attempt ∷ []) log.old }
+    requires saves { saves W.work J.opening.job.goal ≡ true }
+    requires room { HasRoom log.old }
+    ensures works { OnOk result (IsAtWork [] log.new) }
+    ensures hinders { IfErr result IsHindrance }
+    ensures exec { log.new.exec ≡ log.old.exec }
+    ensures room { HasRoom log.new }
+{
+    match move_part(rt, alloc, driver, log, staged.task().attempt())? {
+        SideAnswer::Moved => post(rt, driver, log, staged.granted().moved().report()),
+        SideAnswer::Fault(fault) => post(rt, driver, log, staged.granted().device(fault)),
+        SideAnswer::Over => Ok(()),
+        // the job has ended, and the grant counts no more
+        _ => post(rt, driver, log, staged.denied()),
+    }
+}
+
+/// An attempt of a save has its part written at the desk.
+#[tactic(auto, using(crate::proofs::OwedLemmas::stages_owed, crate::proofs::PartLemmas::part_text))]
+fn stage<W: Naming, J: Opening, F: Files, R: Wait>(
+    rt: &R,
+    alloc: Global,
+    driver: &Driver<W, J, F>,
+    log: &mut ExecLog,
+    computed: &Computed<W>,
+) -> Result<SideAnswer, Left>
+    requires works { IsAtWork (computed.now.task.hand_out.attempt ∷ []) log.old }
+    requires part { IsOfPart W.work computed.now.task }
+    requires job { computed.now.task.job ≡ J.opening.job }
+    requires room { HasRoom log.old }
+    ensures works { IfOk result
+        (λ said. IsAtWork (owed_by computed.now.task.hand_out.attempt said) log.new) }
+    ensures evident { IfOk result IsEvidentAnswer }
+    ensures hinders { IfErr result IsHindrance }
+    ensures exec { log.new.exec ≡ log.old.exec }
+    ensures room { HasRoom log.new }
+{
+    let attempt = computed.task().attempt();
+    let Ok(text) = computed.part_text(alloc) else {
+        return Err(Left::NoMemory);
+    };
+    let said = driver
+        .helm
+        .lock(rt)
+        .stage_part(alloc, log, attempt, text.as_slice());
+    driver.bell.notify_all();
+    match said {
+        Ok(said) => Ok(said),
+        Err(_) => Err(Left::NoMemory),
+    }
+}
+
+/// An attempt of a save asks at the desk whether it may commit.
+#[tactic(auto, using(crate::proofs::OwedLemmas::asks_owed))]
+fn ask<W: Naming, J: Opening, F: Files, R: Wait>(
+    rt: &R,
+    driver: &Driver<W, J, F>,
+    log: &mut ExecLog,
+    attempt: AttemptId,
+) -> Result<SideAnswer, Left>
+    requires works { IsAtWork (attempt ∷ []) log.old }
+    requires room { HasRoom log.old }
+    ensures works { IfOk result (λ said. IsAtWork (owed_by attempt said) log.new) }
+    ensures hinders { IfErr result IsHindrance }
+    ensures exec { log.new.exec ≡ log.old.exec }
+    ensures room { HasRoom log.new }
+{
+    let said = driver.helm.lock(rt).ask(log, attempt);
+    driver.bell.notify_all();
+    match said {
+        Ok(said) => Ok(said),
+        Err(_) => Err(Left::NoMemory),
+    }
+}
+
+/// An attempt of a save has its part moved at the desk.
+#[tactic(auto, using(crate::proofs::OwedLemmas::moves_owed))]
+fn move_part<W: Naming, J: Opening, F: Files, R: Wait>(
+    rt: &R,
+    alloc: Global,
+    driver: &Driver<W, J, F>,
+    log: &mut ExecLog,
+    attempt: AttemptId,
+) -> Result<SideAnswer, Left>
+    requires works { IsAtWork (attempt ∷ []) log.old }
+    requires saves { saves W.work J.opening.job.goal ≡ true }
+    requires room { HasRoom log.old }
+    ensures works { IfOk result (λ said. IsAtWork (owed_by attempt said) log.new) }
+    ensures evident { IfOk result IsEvidentAnswer }
+    ensures hinders { IfErr result IsHindrance }
+    ensures exec { log.new.exec ≡ log.old.exec }
+    ensures room { HasRoom log.new }
+{
+    let said = driver.helm.lock(rt).move_part(alloc, log, attempt);
+    driver.bell.notify_all();
+    match said {
+        Ok(said) => Ok(said),
+        Err(_) => Err(Left::NoMemory),
+    }
+}

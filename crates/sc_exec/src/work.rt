@@ -1,0 +1,205 @@
+//! What an executor does turn by turn.
+#![tactic(auto)]
+
+ghost use Rattle.std.specs.Prelude.{◌≡◌, ◌<◌, [], IfErr, IfOk, OnOk};
+ghost use Rattle.sc_exec.specs.Lefts.{IsAtWork, IsCause};
+ghost use Rattle.sc_exec.specs.Logging.{HasRoom};
+ghost use Rattle.sc_exec.specs.Performing.{IsHindrance};
+ghost use Rattle.sc_exec.specs.Turns.{IsAsked, IsTold};
+ghost use Rattle.sc_exec.specs.Working.{IsReasonToLeave, IsTurn};
+
+use crate::attempts::perform;
+use crate::driver::Driver;
+use crate::gates::Gate;
+use crate::lefts::Left;
+use crate::openings::Opening;
+use crate::performing::store_at;
+use crate::turns::Asked;
+use sc_desk::Taken;
+use sc_files::Files;
+use sc_logs::ExecLog;
+use sc_plan::{Order, OrderKind};
+use sc_store::Store;
+use sc_work::Naming;
+use std::alloc::{AllocError, Global};
+use std::sync::{Mutex, Wait};
+
+/// How a turn ends.
+#[derive(Clone, Copy, Debug, PartialEq, Eq)]
+pub(crate) enum Turn {
+    /// Another one follows.
+    Again,
+    /// It was the last.
+    Over(Left),
+}
+
+/// An executor works turn by turn until there is no more for it, and logs what it enters. It says
+/// why it takes no more tasks.
+#[tactic(auto, using(crate::proofs::OwedLemmas::fresh_works))]
+pub fn work_loop<W: Naming, J: Opening, F: Files, G: Gate, R: Wait>(
+    rt: &R,
+    alloc: Global,
+    driver: &Driver<W, J, F>,
+    stores: &[Mutex<Store<W>>],
+    gate: &G,
+    log: &mut ExecLog,
+) -> Left
+    requires fresh { log.old.entries.items ≡ [] }
+    requires room { HasRoom log.old }
+    requires known { log.old.exec < W.work.limits.executors }
+    ensures exec { log.new.exec ≡ log.old.exec }
+    ensures cause { IsCause result log.new }
+{
+    for _ in rt.forever() {
+        match take_turn(rt, alloc, driver, stores, gate, log) {
+            Turn::Again => {}
+            Turn::Over(left) => return left,
+        }
+    }
+    unreachable!()
+}
+
+/// An executor takes a turn: what is due is told, and then it carries out an order that is due, or
+/// asks for a task and does it. Where there is none for it now, it has waited for the bell.
+fn take_turn<W: Naming, J: Opening, F: Files, G: Gate, R: Wait>(
+    rt: &R,
+    alloc: Global,
+    driver: &Driver<W, J, F>,
+    stores: &[Mutex<Store<W>>],
+    gate: &G,
+    log: &mut ExecLog,
+) -> Turn
+    requires works { IsAtWork [] log.old }
+    requires room { HasRoom log.old }
+    requires known { log.old.exec < W.work.limits.executors }
+    ensures turn { IsTurn result log.new }
+    ensures exec { log.new.exec ≡ log.old.exec }
+{
+    match begin(rt, driver, log) {
+        Ok(Asked::Order(order)) => {
+            let went = obey(rt, stores, order);
+            end_turn(rt, driver, log, went)
+        }
+        Ok(Asked::Taken(taken)) => follow(rt, alloc, driver, stores, gate, log, taken),
+        Err(AllocError) => leave(rt, driver, log, Left::NoMemory),
+    }
+}
+
+/// An executor begins a turn at the desk. The others hear of what it entered there, and where there
+/// is nothing for it now it waits for the bell, under the lock that it was told so.
+fn begin<W: Naming, J: Opening, F: Files, R: Wait>(
+    rt: &R,
+    driver: &Driver<W, J, F>,
+    log: &mut ExecLog,
+) -> Result<Asked<W>, AllocError>
+    requires works { IsAtWork [] log.old }
+    requires room { HasRoom log.old }
+    ensures asked { IfOk result (λ asked. IsAsked J.opening.job asked log.new) }
+    ensures exec { log.new.exec ≡ log.old.exec }
+    ensures room { HasRoom log.new }
+{
+    let entered = log.entries.len();
+    let mut helm = driver.helm.lock(rt);
+    let asked = helm.begin_turn(log);
+    if waits(&asked) {
+        // a Take that is answered so is nothing to wake the others for
+        if log.entries.len() > entered + 1 {
+            driver.bell.notify_all();
+        }
+        let _helm = driver.bell.wait(rt, helm);
+    } else {
+        drop(helm);
+        driver.bell.notify_all();
+    }
+    asked
+}
+
+/// Whether there is nothing for an executor now.
+fn waits<W: Naming>(asked: &Result<Asked<W>, AllocError>) -> bool {
+    matches!(asked, Ok(Asked::Taken(Taken::Wait { .. })))
+}
+
+/// An executor does what it was told.
+fn follow<W: Naming, J: Opening, F: Files, G: Gate, R: Wait>(
+    rt: &R,
+    alloc: Global,
+    driver: &Driver<W, J, F>,
+    stores: &[Mutex<Store<W>>],
+    gate: &G,
+    log: &mut ExecLog,
+    taken: Taken<W>,
+) -> Turn
+    requires told { IsTold J.opening.job taken log.old }
+    requires room { HasRoom log.old }
+    requires known { log.old.exec < W.work.limits.executors }
+    ensures turn { IsTurn result log.new }
+    ensures exec { log.new.exec ≡ log.old.exec }
+{
+    match taken {
+        Taken::Task(task) => {
+            let went = perform(rt, alloc, driver, stores, gate, log, task);
+            end_turn(rt, driver, log, went)
+        }
+        Taken::Wait { .. } | Taken::Aborted(_) => Turn::Again,
+        Taken::Busy { held } => leave(rt, driver, log, Left::Busy { held }),
+        Taken::Lost => Turn::Over(Left::Lost),
+        Taken::Stopped { exec } => Turn::Over(Left::Stopped { exec }),
+        Taken::Ended => Turn::Over(Left::JobEnded),
+    }
+}
+
+/// The turn of an executor ends in which it did what it was told, or couldn't.
+fn end_turn<W: Naming, J: Opening, F: Files, R: Wait>(
+    rt: &R,
+    driver: &Driver<W, J, F>,
+    log: &mut ExecLog,
+    went: Result<(), Left>,
+) -> Turn
+    requires works { OnOk went (IsAtWork [] log.old) }
+    requires hinders { IfErr went IsHindrance }
+    requires room { HasRoom log.old }
+    requires known { log.old.exec < W.work.limits.executors }
+    ensures turn { IsTurn result log.new }
+    ensures exec { log.new.exec ≡ log.old.exec }
+{
+    match went {
+        Ok(()) => Turn::Again,
+        Err(left) => leave(rt, driver, log, left),
+    }
+}
+
+/// An executor leaves that can't go on.
+#[tactic(auto, using(crate::proofs::OwedLemmas::leaves_cause))]
+fn leave<W: Naming, J: Opening, F: Files, R: Wait>(
+    rt: &R,
+    driver: &Driver<W, J, F>,
+    log: &mut ExecLog,
+    left: Left,
+) -> Turn
+    requires reason { IsReasonToLeave left log.old }
+    requires room { HasRoom log.old }
+    requires known { log.old.exec < W.work.limits.executors }
+    ensures turn { IsTurn result log.new }
+    ensures exec { log.new.exec ≡ log.old.exec }
+{
+    let _ = driver.helm.lock(rt).leave(log);
+    driver.bell.notify_all();
+    Turn::Over(left)
+}
+
+/// Carries out an order of the fault plan at the store of its executor.
+fn obey<W: Naming, R: Wait>(rt: &R, stores: &[Mutex<Store<W>>], order: Order) -> Result<(), Left>
+    ensures hinders { IfErr result IsHindrance }
+{
+    let mut store = store_at(stores, order.exec)?.lock(rt);
+    if store.exec() != order.exec {
+        return Err(Left::Stranger);
+    }
+    match order.kind {
+        OrderKind::Drop | OrderKind::Lose => {
+            let _ = store.wipe(order);
+        }
+        OrderKind::Evict => store.evict(),
+    }
+    Ok(())
+}
