@@ -44,6 +44,7 @@ pub mod MapLemmas
 pub mod ResultLemmas
 pub mod LossLemmas
 pub mod LoseLemmas
+pub mod IsSaveLemmas
 pub mod FailureLemmas
 pub mod StepLemmas
 pub mod SpendLemmas
@@ -53,6 +54,7 @@ pub mod EndLemmas
 pub mod TakeAgreeLemmas
 pub mod AgreeLemmas
 pub mod SaveOpenLemmas
+pub mod LeavingLemmas
 pub mod OpeningLemmas
 pub mod SubmitLemmas
 pub mod TakeAnswerLemmas

@@ -41,7 +41,7 @@ use Rattle.sc_core.proofs.TrackerCarryLemmas.{live_there}
 
 -- ---- grants that are freed one after the other
 
-all_left : (these : List AttemptId) (c : CoreData) → Left c (all_released these c)
+pub all_left : (these : List AttemptId) (c : CoreData) → Left c (all_released these c)
 all_left [] c = left_same c
 all_left (a ∷ these) c =
     left_then c (released c a endings.Failed) (all_released these (released c a endings.Failed))

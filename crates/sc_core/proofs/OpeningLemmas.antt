@@ -31,7 +31,7 @@ use Rattle.sc_core.specs.CoreData.{CoreData, result_stage}
 use Rattle.sc_core.specs.Laws.{OpeningsAreSound}
 use Rattle.sc_core.specs.Losses.{is_due_after}
 use Rattle.sc_core.specs.Openings.{plan_behind, told_before, tracker_behind}
-use Rattle.sc_core.specs.Sound.{AreTwo, IsShelvedWell, IsSoundCore, IsSoundJob, IsSoundShelf, RunsWell, is_shelved, AreOnLive, HasLive, IsLive}
+use Rattle.sc_core.specs.Sound.{AreTwo, IsShelvedWell, IsSoundCore, IsSoundJob, IsSoundShelf, RunsWell, is_shelved, AreOnLive, HasLive, IsLive, LeavesWell}
 use Rattle.sc_core.proofs.StageCallLemmas.{submitted_calm}
 use Rattle.sc_core.proofs.MoveLemmas.{Calm}
 use Rattle.sc_core.proofs.StateLemmas.{runs_in}
@@ -138,7 +138,7 @@ begins graph last t d job opens =
 
 -- ---- the tracker
 
-behind_sound : (last : Option CoreData) (limits : Limits) → IfSome last IsSoundCore
+behind_sound : (last : Option CoreData) (limits : Limits) → IfSome last LeavesWell
     → IsSoundTracker (tracker_behind last limits)
 behind_sound None limits sound =
     record {
@@ -146,7 +146,7 @@ behind_sound None limits sound =
       marks = All-replicate (HasMarkBelow 0) limits.executors untold tt;
       events = omega arith;
     }
-behind_sound (Some last) limits sound = sound.job.dag.tracker
+behind_sound (Some last) limits sound = sound.tracker
 
 -- nobody is told lost at first
 none_lost : (n e : ℕ) → (at_or (replicate n untold) e untold).lost ≡ false
@@ -197,10 +197,10 @@ all_sized_placed [] t all = all
 all_sized_placed (stage ∷ graph) t all =
     all_sized_placed graph (sized_by t stage) (one_sized_placed stage t all)
 
-behind_placed : (last : Option CoreData) (limits : Limits) → IfSome last IsSoundCore
+behind_placed : (last : Option CoreData) (limits : Limits) → IfSome last LeavesWell
     → AreOnLive (tracker_behind last limits)
 behind_placed None limits sound = λ block. tt
-behind_placed (Some last) limits sound = sound.job.placed
+behind_placed (Some last) limits sound = sound.placed
 
 -- ---- the core
 
@@ -337,12 +337,12 @@ openings_by calls opening settles graph limits saved plan last c job fits sound 
         ∙ ap length (all_sized graph (tracker_behind last limits)))
         trust somebody
 
-    planned : (before : Option CoreData) → IfSome before IsSoundCore → (e : ℕ)
+    planned : (before : Option CoreData) → IfSome before LeavesWell → (e : ℕ)
         → (trust_of (tracker_behind before limits) e).lost ≡ true
         → is_due_after (loss_of (plan_behind before plan) e) (told_before before) ≡ true
     planned None s e h = absurd (true≢false (sym h ∙ none_lost limits.executors e))
     planned (Some before) s e h = s.lost e h
 
-    counts : (before : Option CoreData) → IfSome before IsSoundCore → told_before before < 2 ^ 64
+    counts : (before : Option CoreData) → IfSome before LeavesWell → told_before before < 2 ^ 64
     counts None s = omega arith
     counts (Some before) s = s.told

@@ -17,10 +17,10 @@ use Rattle.sc_tracker.specs.TrackerData.{TrackerData, trust_of}
 use Rattle.sc_tracker.specs.Trust.{are_lost}
 use Rattle.sc_core.specs.CoreData.{CoreData, job_runs, result_stage, running_of, under_way}
 use Rattle.sc_core.specs.Journals.{Replays}
-use Rattle.sc_core.specs.Openings.{IsOpening, tracker_behind}
+use Rattle.sc_core.specs.Openings.{IsOpening, tracker_behind, unregistered_core}
 use Rattle.sc_core.specs.Saving.{is_staged, saver_phase}
 use Rattle.sc_core.specs.Sides.{IsAside}
-use Rattle.sc_core.specs.Sound.{HasLive, IsSoundCore}
+use Rattle.sc_core.specs.Sound.{HasLive, IsSoundCore, LeavesWell}
 use Rattle.sc_core.specs.Steps.{Steps, is_enabled}
 use Rattle.sc_core.specs.Takes.{IsAsking}
 use Rattle.sc_core.specs.declared.answers.Abort.TheVariants.{Budget, NoExecutor, StageLimit, TaskLimit}
@@ -57,12 +57,23 @@ ReplaysKeepSound =
 abbrev pub FirstHasLive : Type 0
 FirstHasLive = (limits : Limits) → 0 < limits.executors → HasLive (tracker_behind None limits)
 
+-- a sound core leaves what the job behind it rests on
+abbrev pub SoundCoresLeaveWell : Type 0
+SoundCoresLeaveWell = (c : CoreData) → IsSoundCore c → LeavesWell c
+
+-- so does one of which nothing is registered any more, and the same executors are live
+abbrev pub UnregisteredLeaveWell : Type 0
+UnregisteredLeaveWell =
+    (c : CoreData)
+    → (LeavesWell c → LeavesWell (unregistered_core c))
+    × (HasLive c.dag.tracker → HasLive (unregistered_core c).dag.tracker)
+
 -- the core of a job that begins where somebody is live is sound
 abbrev pub OpeningsAreSound : Type 0
 OpeningsAreSound =
     (graph : List StageData) (limits : Limits) (saves : Bool) (plan : List PlanLine)
     (last : Option CoreData) (c : CoreData)
-    → IsJob graph → FitsJob (tracker_behind last limits) graph → IfSome last IsSoundCore
+    → IsJob graph → FitsJob (tracker_behind last limits) graph → IfSome last LeavesWell
     → HasLive (tracker_behind last limits) → IsOpening graph limits saves plan last c
     → IsSoundCore c
 

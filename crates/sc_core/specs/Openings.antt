@@ -3,15 +3,16 @@ use Rattle.std.specs.Prelude.{ℕ, ◌≡◌, ◌↔◌, List, [], Bool, true, f
 use Rattle.std.specs.Option.{option_map}
 use Rattle.sc_commit.specs.declared.committers.Committer.{Committer}
 use Rattle.sc_commit.specs.declared.committers.Committer.TheVariants.{Nobody}
-use Rattle.sc_dag.specs.DagData.{DagData, stage_at}
+use Rattle.sc_dag.specs.DagData.{DagData, stage_at, with_tracker}
 use Rattle.sc_dag.specs.Openings.{Opens}
 use Rattle.sc_dag.specs.Submission.{IsSubmitted, this_stage}
 use Rattle.sc_ids.specs.Graphs.{StageData}
 use Rattle.sc_ids.specs.declared.limits.Limits.{Limits}
 use Rattle.sc_plan.specs.declared.lines.PlanLine.{PlanLine}
 use Rattle.sc_tracker.specs.TrackerData.{TrackerData, tracker_data}
+use Rattle.sc_tracker.specs.Tracking.{unregistered}
 use Rattle.sc_tracker.specs.Trust.{untold}
-use Rattle.sc_core.specs.CoreData.{CoreData, result_stage, with_dag}
+use Rattle.sc_core.specs.CoreData.{CoreData, core_data, result_stage, with_dag}
 use Rattle.sc_core.specs.declared.answers.JobState.TheVariants as jobs
 
 -- the tracker that is carried on from the job before, or a new one
@@ -32,6 +33,11 @@ now_before (Some last) = last.now
 abbrev pub plan_behind : Option CoreData → List PlanLine → List PlanLine
 plan_behind None plan = plan
 plan_behind (Some last) plan = last.plan
+
+-- A core of which nothing is registered any more, as where all stores are new. All else stays: what
+-- was heard of the executors, what was told, and how many attempts its stages had.
+abbrev pub unregistered_core : CoreData → CoreData
+unregistered_core c = with_dag c (with_tracker c.dag (unregistered c.dag.tracker))
 
 -- who may commit as a job begins: nobody, with a place for each result task of a job that saves,
 -- and none of any other
@@ -93,6 +99,19 @@ pub record BeginsWith (graph : List StageData) (limits : Limits) (last : Option 
   pub opens : Opens graph last t dag
   pub limits_are : dag.limits ≡ limits
   pub submits : IsSubmitted dag (this_stage (result_stage dag)) after
+
+-- all of the core of a job that begins but its stages: what goes on from the job before, and else
+-- nothing
+abbrev pub begun_core : Bool → List PlanLine → Option CoreData → DagData → CoreData
+begun_core saves plan last dag =
+    core_data (told_before last) (now_before last) 0 jobs.Running None [] [] 0
+    (committers_for saves dag) dag (plan_behind last plan)
+
+-- A job begins behind another one or none, with this tracker in place of the one that is carried on.
+pub record BeginsBehind (graph : List StageData) (limits : Limits) (saves : Bool)
+    (plan : List PlanLine) (last : Option CoreData) (t : TrackerData) (c : CoreData) : Type 0 where
+  pub stages : BeginsWith graph limits (option_map (λ l. l.dag) last) t c.dag
+  pub others : c ≡ begun_core saves plan last c.dag
 
 -- a core is that of a job that begins exactly where it was unsubmitted, and its result stage is
 -- submitted

@@ -19,6 +19,7 @@ use Rattle.sc_plan.specs.Orders.{loss_of}
 use Rattle.sc_taskset.specs.Lookups.{task_at}
 use Rattle.sc_taskset.specs.TaskSetData.{TaskData, TaskSetData}
 use Rattle.sc_tracker.specs.TrackerData.{TrackerData, output_of, trust_of}
+use Rattle.sc_tracker.specs.TrackerFacts.{IsSoundTracker}
 use Rattle.sc_tracker.specs.Trust.{is_marked}
 use Rattle.sc_tracker.specs.declared.outputs.Location.{Location}
 use Rattle.sc_tracker.specs.declared.outputs.Location.TheVariants.{Here, Missing}
@@ -223,6 +224,19 @@ AreLostAsPlanned c =
 -- somebody is live, unless the job was aborted since nobody was
 abbrev pub IsStaffed : CoreData → Type 0
 IsStaffed c = c.job ≢ jobs.Aborted NoExecutor → HasLive c.dag.tracker
+
+-- ---- between jobs
+
+-- What a core leaves to the job behind it: of all that holds of a core, what that one's beginning
+-- rests on.
+pub record LeavesWell (c : CoreData) : Type 0 where
+  pub tracker : IsSoundTracker c.dag.tracker
+  -- what is registered lies on executors that are live
+  pub placed : AreOnLive c.dag.tracker
+  -- who was told lost was planned to be
+  pub lost : AreLostAsPlanned c
+  -- the count of what was told is within its type
+  pub told : c.told < 2 ^ 64
 
 -- ---- every core
 

@@ -1,13 +1,13 @@
 //! The core.
 #![tactic(auto)]
 
-ghost use Rattle.std.specs.Prelude.{◌≡◌, IfOk, IfSome, OnErr, false, length, true};
+ghost use Rattle.std.specs.Prelude.{◌≡◌, IfOk, IfSome, OnErr, Some, false, length, true};
 ghost use Rattle.std.specs.Option.{option_map};
 ghost use Rattle.sc_commit.specs.CommitLaws.{winner_of};
 ghost use Rattle.sc_dag.specs.DagData.{stage_at};
 ghost use Rattle.sc_dag.specs.Openings.{FitsJob, IsJob};
 ghost use Rattle.sc_core.specs.CoreData.{job_runs, result_stage};
-ghost use Rattle.sc_core.specs.Openings.{IsOpening, tracker_behind};
+ghost use Rattle.sc_core.specs.Openings.{IsOpening, tracker_behind, unregistered_core};
 ghost use Rattle.sc_core.specs.Owners.{IsThrice};
 ghost use Rattle.sc_core.specs.Sound.{HasLive, IsSoundCore};
 ghost use Rattle.sc_core.specs.Steps.{Steps, is_enabled};
@@ -60,6 +60,26 @@ impl Core {
             c) }
     {
         let state = State::open(alloc, graph, limits, saves, plan, state_behind(last))?;
+        Ok(Core { state })
+    }
+
+    /// The core of a job that is run again, behind another one of the run whose outputs are gone with
+    /// their stores: nothing is registered, and all else is carried on. Some executor wasn't told
+    /// lost.
+    pub fn open_again(
+        alloc: Global,
+        graph: &StageGraph,
+        limits: Limits,
+        saves: bool,
+        plan: &Plan,
+        last: &Core,
+    ) -> Result<Core, AllocError>
+        requires job { IsJob graph.now }
+        requires live { HasLive last.now.dag.tracker }
+        ensures { IfOk result
+            (λ c. IsOpening graph.now limits saves plan.now (Some (unregistered_core last.now)) c) }
+    {
+        let state = State::open_again(alloc, graph, limits, saves, plan, &last.state)?;
         Ok(Core { state })
     }
 

@@ -1,7 +1,7 @@
 //! Laws of cores, as functions that do nothing.
 #![tactic(auto)]
 
-ghost use Rattle.sc_core.specs.Laws.{AsksAreOver, DoneJobsAreWhole, EventsAreAnswered, FirstHasLive, NeverStuck, NoExecutorsAreLeft, OpeningsAreSound, ReplaysAgree, ReplaysKeepSound, SideEventsStayAside, StageLimitsAreReached, StepsAgree, StepsAreSpent, StepsKeepSound, TaskLimitsAreReached, WaitsHaveCause};
+ghost use Rattle.sc_core.specs.Laws.{AsksAreOver, DoneJobsAreWhole, EventsAreAnswered, FirstHasLive, NeverStuck, NoExecutorsAreLeft, OpeningsAreSound, ReplaysAgree, ReplaysKeepSound, SideEventsStayAside, SoundCoresLeaveWell, StageLimitsAreReached, StepsAgree, StepsAreSpent, StepsKeepSound, TaskLimitsAreReached, UnregisteredLeaveWell, WaitsHaveCause};
 ghost use Rattle.sc_core.specs.Openings.{OpeningsAreSubmissions};
 ghost use Rattle.sc_core.specs.Waits.{WaitsAreForOthers};
 
@@ -18,6 +18,13 @@ pub fn cores_are_sound()
     ensures begins { OpeningsAreSound }
     ensures steps { StepsKeepSound }
     ensures replays { ReplaysKeepSound }
+{}
+
+/// What a job leaves serves the job behind it, with what is registered or with nothing. A call does
+/// nothing.
+pub fn cores_leave_well()
+    ensures sound { SoundCoresLeaveWell }
+    ensures unregistered { UnregisteredLeaveWell }
 {}
 
 /// A job begins with its result stage submitted, and before that nothing has happened. A call does

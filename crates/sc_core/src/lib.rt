@@ -50,6 +50,6 @@ pub use entries::Entry;
 pub use events::{Event, FileOutcome, Outcome, SideEvent};
 pub use inputs::Inputs;
 pub use journals::{Entered, JobHistory, Journal};
-pub use laws::cores_are_sound;
+pub use laws::{cores_are_sound, cores_leave_well};
 pub use running::{HandOut, Phase, Running, Shelved};
 pub use stories::story;

@@ -1,10 +1,10 @@
 //! The core of a job that begins.
 #![tactic(auto)]
 
-ghost use Rattle.std.specs.Prelude.{◌≡◌, IfOk};
+ghost use Rattle.std.specs.Prelude.{◌≡◌, IfOk, Some};
 ghost use Rattle.std.specs.Option.{option_map};
 ghost use Rattle.sc_dag.specs.Openings.{FitsJob, IsJob};
-ghost use Rattle.sc_core.specs.Openings.{BeginsWith, IsOpening, committers_for, now_before, plan_behind, told_before, tracker_behind};
+ghost use Rattle.sc_core.specs.Openings.{BeginsBehind, BeginsWith, IsOpening, committers_for, now_before, plan_behind, told_before, tracker_behind, unregistered_core};
 
 use crate::answers::JobState;
 use crate::stages::Stages;
@@ -33,10 +33,47 @@ impl State {
             (λ s. IsOpening graph.now limits saves plan.now
             (option_map (λ l. l.now.0) last.entry) s.0) }
     {
+        let tracker = tracker_behind(alloc, limits, last)?;
+        State::open_with(alloc, graph, limits, saves, plan, last, tracker)
+    }
+
+    /// A job that is run again, behind another one of whose outputs none is registered any more.
+    pub fn open_again(
+        alloc: Global,
+        graph: &StageGraph,
+        limits: Limits,
+        saves: bool,
+        plan: &Plan,
+        last: &State,
+    ) -> Result<State, AllocError>
+        requires { IsJob graph.now }
+        ensures { IfOk result
+            (λ s. IsOpening graph.now limits saves plan.now
+            (Some (unregistered_core last.now.0)) s.0) }
+    {
+        let tracker = last.stages.dag().tracker().without_outputs()?;
+        State::open_with(alloc, graph, limits, saves, plan, Some(last), tracker)
+    }
+
+    /// The same with this tracker in place of the one that is carried on.
+    fn open_with(
+        alloc: Global,
+        graph: &StageGraph,
+        limits: Limits,
+        saves: bool,
+        plan: &Plan,
+        last: Option<&State>,
+        tracker: Tracker,
+    ) -> Result<State, AllocError>
+        requires job { IsJob graph.now }
+        requires fits { FitsJob tracker graph.now }
+        ensures { IfOk result
+            (λ s. BeginsBehind graph.now limits saves plan.now
+            (option_map (λ l. l.now.0) last.entry) tracker s.0) }
+    {
         let told = told_before(last);
         let tick = now_before(last);
         let plan = plan_behind(plan, last).copied(alloc)?;
-        let tracker = tracker_behind(alloc, limits, last)?;
         let stages = submitted(alloc, graph, limits, last, tracker)?;
         let commit = commit_for(alloc, saves, &stages)?;
         Ok(State {

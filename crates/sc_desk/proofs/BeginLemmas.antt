@@ -20,7 +20,7 @@ use Rattle.sc_dag.specs.Outputs.{results_in}
 use Rattle.sc_dag.specs.Submission.{is_map, this_stage}
 use Rattle.sc_core.specs.CoreData.{CoreData, result_stage}
 use Rattle.sc_core.specs.Openings.{IsOpening, plan_behind, told_before, tracker_behind}
-use Rattle.sc_core.specs.Sound.{IsSoundCore}
+use Rattle.sc_core.specs.Sound.{IsSoundCore, LeavesWell}
 use Rattle.sc_core.proofs.MoveLemmas.{Calm}
 use Rattle.sc_core.proofs.StageCallLemmas.{submitted_calm, submitted_results}
 use Rattle.sc_history.proofs.OpeningLemmas.{openings_agree}
@@ -85,7 +85,7 @@ fits_job work limits job last is fits =
 -- two cores of one opening are one
 pub opened_alike :
     (work : WorkData) (limits : Limits) (job : JobData) (saving : Bool) (last : Option CoreData)
-    (x y : CoreData) → IsJobFor work job → FitsLast work last → IfSome last IsSoundCore
+    (x y : CoreData) → IsJobFor work job → FitsLast work last → IfSome last LeavesWell
     → IsOpening job.graph limits saving work.plan last x
     → IsOpening job.graph limits saving work.plan last y → x ≡ y
 opened_alike work limits job saving last x y is fits sound a b =

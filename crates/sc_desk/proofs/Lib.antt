@@ -18,6 +18,7 @@ pub mod PostLemmas
 pub mod ReleaseLemmas
 pub mod LeaveLemmas
 pub mod BeginLemmas
+pub mod AgainLemmas
 pub mod DeedLemmas
 pub mod PartLemmas
 pub mod CountLemmas

@@ -18,7 +18,8 @@ use Rattle.sc_core.specs.declared.answers.Answer.TheVariants as says
 use Rattle.sc_core.specs.declared.events.Outcome.{Outcome}
 use Rattle.sc_core.specs.declared.running.Running.{Running}
 use Rattle.sc_core.specs.declared.running.Shelved.{Shelved}
-use Rattle.sc_core.proofs.LeftLemmas.{Left, left_same, left_then, released_left, tells_left}
+use Rattle.sc_core.proofs.LeftLemmas.{Left, tells_left}
+use Rattle.sc_core.proofs.LoseLemmas.{all_left}
 use Rattle.sc_core.proofs.PlannedLemmas.{counted_more}
 use Rattle.sc_desk.proofs.TrackLemmas.{Sees, ShowsWithin, StaysOrDrops, Tracks, all_released_trust, lost_sees, sees_same, sees_then, tells_track}
 use Rattle.sc_core.proofs.TakeCases.{TakesSo, takes_so}
@@ -150,12 +151,6 @@ aside_pass bound c after is =
     }
 
 -- ---- losses
-
-all_left : (these : List AttemptId) (c : CoreData) → Left c (all_released these c)
-all_left [] c = left_same c
-all_left (a ∷ these) c =
-    left_then c (released c a endings.Failed) (all_released these (released c a endings.Failed))
-    (released_left c a endings.Failed) (all_left these (released c a endings.Failed))
 
 pub losses_pass :
     (bound : ℕ → ℕ) (c after : CoreData) (exec : ℕ) (answer : Answer) → Loses c exec answer after

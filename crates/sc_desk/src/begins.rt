@@ -5,9 +5,9 @@ ghost use Rattle.std.specs.Prelude.{◌≡◌, [], IfErr, IfOk, IfSome, None, On
 ghost use Rattle.std.specs.Option.{option_map};
 ghost use Rattle.sc_stagecut.specs.Carrying.{HasBounds};
 ghost use Rattle.sc_core.specs.Sound.{HasLive, IsSoundCore};
-ghost use Rattle.sc_core.specs.Openings.{tracker_behind};
+ghost use Rattle.sc_core.specs.Openings.{IsOpening, tracker_behind};
 ghost use Rattle.sc_jobs.specs.JobData.{IsGoal, goal_node, saves};
-ghost use Rattle.sc_desk.specs.Begins.{Begins, FitsLast, IsFresh, IsHandedBack, IsPassedFor, begun_desk};
+ghost use Rattle.sc_desk.specs.Begins.{Begins, FitsLast, IsFresh, IsHandedBack, IsPassedFor, begun_desk, left_for};
 ghost use Rattle.sc_desk.specs.Sound.{IsSoundDesk, result_count};
 
 use crate::desks::Desk;
@@ -94,7 +94,7 @@ fn open_job<W: Naming>(
 {
     let job = Job::plan(alloc, work, &mut passed.carried, goal)?;
     job.is_job();
-    let begun = begin_journal(alloc, work, &job, last)?;
+    let begun = begin_journal(alloc, work, &job, last, false)?;
     Ok(Opened {
         job,
         journal: begun.journal,
@@ -104,54 +104,80 @@ fn open_job<W: Naming>(
 
 /// A journal that begins, with places for the results of its job.
 #[derive(Drop)]
-struct Begun {
-    journal: DeskJournal,
-    results: Vec<Option<TaskResult>>,
+pub(crate) struct Begun {
+    pub journal: DeskJournal,
+    pub results: Vec<Option<TaskResult>>,
 }
 
-/// The journal of a job that begins, and places for its results, of which none is there.
-fn begin_journal<W: Naming>(
+/// The journal of a job that begins, or begins again, and places for its results, of which none is
+/// there.
+pub(crate) fn begin_journal<W: Naming>(
     alloc: Global,
     work: &SharedWork<W>,
     job: &Job<W>,
     last: Option<&Core>,
+    again: bool,
 ) -> Result<Begun, AllocError>
     requires fits { FitsLast W.work (option_map (λ l. l.now) last) }
     requires live { HasLive (tracker_behind (option_map (λ l. l.now) last) W.work.limits) }
     ensures fresh { IfOk result (λ b. IsFresh job.now.graph W.work.limits
-        (saves W.work job.now.goal) W.work.plan (option_map (λ l. l.now) last.entry) b.journal.0) }
+        (saves W.work job.now.goal) W.work.plan
+        (left_for again (option_map (λ l. l.now) last.entry)) b.journal.0) }
     ensures sound { IfOk result (λ b. IsSoundCore b.journal.0.core) }
     ensures results { IfOk result (λ b. b.results.items
         ≡ replicate (result_count b.journal.0.core.dag) None) }
 {
-    let journal = journal_of(alloc, work, job, last)?;
+    let journal = journal_of(alloc, work, job, last, again)?;
     let results = no_results(alloc, &journal)?;
     Ok(Begun { journal, results })
 }
 
-/// The journal of a job that begins. Its core is opened twice, since none is copied.
+/// The journal of a job that begins, or begins again. Its core is opened twice, since none is
+/// copied.
 fn journal_of<W: Naming>(
     alloc: Global,
     work: &SharedWork<W>,
     job: &Job<W>,
     last: Option<&Core>,
+    again: bool,
 ) -> Result<DeskJournal, AllocError>
     requires fits { FitsLast W.work (option_map (λ l. l.now) last) }
     requires live { HasLive (tracker_behind (option_map (λ l. l.now) last) W.work.limits) }
     ensures fresh { IfOk result (λ j. IsFresh job.now.graph W.work.limits
-        (saves W.work job.now.goal) W.work.plan (option_map (λ l. l.now) last.entry) j.0) }
+        (saves W.work job.now.goal) W.work.plan
+        (left_for again (option_map (λ l. l.now) last.entry)) j.0) }
     ensures sound { IfOk result (λ j. IsSoundCore j.0.core) }
+{
+    job.is_job();
+    are_sound(last);
+    let opening = core_behind(alloc, work, job, last, again)?;
+    let core = core_behind(alloc, work, job, last, again)?;
+    core.is_sound();
+    DeskJournal::of(alloc, Journal::begin(alloc, opening, core))
+}
+
+/// The core of a job that begins behind another one or none, or that begins again there.
+fn core_behind<W: Naming>(
+    alloc: Global,
+    work: &SharedWork<W>,
+    job: &Job<W>,
+    last: Option<&Core>,
+    again: bool,
+) -> Result<Core, AllocError>
+    requires fits { FitsLast W.work (option_map (λ l. l.now) last) }
+    requires live { HasLive (tracker_behind (option_map (λ l. l.now) last) W.work.limits) }
+    ensures { IfOk result (λ c. IsOpening job.now.graph W.work.limits (saves W.work job.now.goal)
+        W.work.plan (left_for again (option_map (λ l. l.now) last.entry)) c) }
 {
     work.is_named();
     job.is_job();
-    are_sound(last);
     let limits = work.get().limits();
     let plan = work.get().plan();
     let saving = job.saves(work);
-    let opening = Core::open(alloc, job.graph(), limits, saving, plan, last)?;
-    let core = Core::open(alloc, job.graph(), limits, saving, plan, last)?;
-    core.is_sound();
-    DeskJournal::of(alloc, Journal::begin(alloc, opening, core))
+    match last {
+        Some(core) if again => Core::open_again(alloc, job.graph(), limits, saving, plan, core),
+        _ => Core::open(alloc, job.graph(), limits, saving, plan, last),
+    }
 }
 
 /// What the core before keeps, where there is one.

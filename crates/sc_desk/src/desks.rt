@@ -3,6 +3,8 @@
 
 ghost use Rattle.std.specs.Prelude.{◌≡◌, All};
 ghost use Rattle.sc_tracker.specs.TrackerData.{trust_of};
+ghost use Rattle.sc_core.specs.Posts.{is_save};
+ghost use Rattle.sc_jobs.specs.JobData.{saves};
 ghost use Rattle.sc_desk.specs.DeskData.{core_of};
 ghost use Rattle.sc_desk.specs.Files.{HasReplay};
 ghost use Rattle.sc_desk.specs.Leaving.{IsOwnLeave};
@@ -108,6 +110,13 @@ impl<W: Naming> Desk<W> {
     /// Its core is what the entries leave of how the job began.
     pub fn is_replay(&self)
         ensures { HasReplay self.now }
+    {
+        self.journal.is_replay();
+    }
+
+    /// Its core has places for those who may commit exactly where the goal of its job saves.
+    pub fn saves_by_goal(&self)
+        ensures { is_save (core_of self.now).committers ≡ saves W.work self.now.job.goal }
     {
         self.journal.is_replay();
     }

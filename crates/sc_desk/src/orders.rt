@@ -53,6 +53,14 @@ impl Orders {
         Ok(Orders { given })
     }
 
+    /// A copy.
+    pub fn copied(&self, alloc: Global) -> Result<Orders, AllocError>
+        ensures { IfOk result (λ o. o ≡ self.now) }
+    {
+        let given = self.given.as_slice().to_vec(alloc)?;
+        Ok(Orders { given })
+    }
+
     /// The order that comes next once so many reports were told, if one is due. It counts as handed
     /// out from now on.
     pub fn next(&mut self, plan: &Plan, told: u64) -> Option<Order>

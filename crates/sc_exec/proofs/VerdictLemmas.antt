@@ -41,14 +41,22 @@ all_logs P (w ∷ workers) all =
     All-cons (λ x. P x.log) w workers (All-head P w.log (logs_of workers) all)
     (all_logs P workers (All-tail P w.log (logs_of workers) all))
 
-pub are_logged : (entries : List Entry) (workers : List Worker)
-    → (All (λ w. IsLogIn entries w.log) workers
-    × All (λ e. is_known (logs_of workers) e ≡ true) entries)
-    ↔ AreLogged entries workers
-are_logged entries workers = (
-  (λ both. (All-map (IsLogIn entries) (λ w. w.log) workers both.0, both.1)),
-  (λ both. (all_logs (IsLogIn entries) workers both.0, both.1)),
-)
+-- Whether logs agree, by whether each is right and whether each entry is known.
+module _ (entries : List Entry) (workers : List Worker) (logs known : Bool)
+    (right : IsTrue logs ↔ All (λ w. IsLogIn entries w.log) workers) where
+  pub agree_then : logs ≡ true
+      → (IsTrue known ↔ All (λ e. is_known (logs_of workers) e ≡ true) entries)
+      → IsTrue known ↔ AreLogged entries workers
+  agree_then is all = (
+    (λ h. (All-map (IsLogIn entries) (λ w. w.log) workers (right.0 is), all.0 h)),
+    (λ h. all.1 h.1),
+  )
+
+  pub agree_else : logs ≡ false → IsTrue logs ↔ AreLogged entries workers
+  agree_else is = (
+    (λ h. absurd (true≢false (sym h ∙ is))),
+    (λ h. right.1 (all_logs (IsLogIn entries) workers h.0)),
+  )
 
 -- the logs of executors at their places are those of all
 have_logs : (work : WorkData) (d : DeskData) (workers : List Worker) → IsSoundDesk work d
@@ -61,10 +69,10 @@ have_logs work d workers sound places exec there =
         → ((w : Worker) → i < length ws → (slice_index_or ws i w).log.exec ≡ exec)
         → i < length ws → (l : ExecLog) × Contains (logs_of ws) l × (l.exec ≡ exec)
     of i [] place lt = absurd (omega (arith, lt))
-    of zero (w ∷ ws) place lt = (w.log, (0, (omega arith, refl)), place w (omega arith))
+    of zero (w ∷ ws) place lt = (w.log, (0, omega arith, refl), place w (omega arith))
     of (suc i) (w ∷ ws) place lt =
         let rest = of i ws (λ x more. place x (omega (arith, more))) (omega (arith, lt)) in
-        (rest.0, (suc rest.1.0, (omega (arith, rest.1.1), rest.1.2)), rest.2)
+        (rest.0, (suc rest.1.0, omega (arith, rest.1.1), rest.1.2), rest.2)
 
 -- ---- why executors take no more tasks
 
@@ -91,26 +99,29 @@ worked_out w cause = by w.left cause
 abbrev GivesUp : List Worker → Type 0
 GivesUp workers = (left : Left) × Contains (lefts_of workers) left × (gives_up left ≡ true)
 
+with_one : (w : Worker) (workers : List Worker) → HasCause w → (m g : Bool)
+    → is_no_memory w.left ≡ m → gives_up w.left ≡ g → (m || wants_memory workers) ≡ false
+    → (wants_memory workers ≡ false → All IsWorkedOut (logs_of workers) ⊎ GivesUp workers)
+    → All IsWorkedOut (w.log ∷ logs_of workers) ⊎ GivesUp (w ∷ workers)
+with_one w workers cause true g is up none rest = absurd (true≢false none)
+with_one w workers cause false true is up none rest = inr (w.left, (0, omega arith, refl), up)
+with_one w workers cause false false is up none rest = by (rest none)
+  where
+    by : All IsWorkedOut (logs_of workers) ⊎ GivesUp workers
+        → All IsWorkedOut (w.log ∷ logs_of workers) ⊎ GivesUp (w ∷ workers)
+    by (inl all) =
+        inl (All-cons IsWorkedOut w.log (logs_of workers) (worked_out w cause is up) all)
+    by (inr (left, (k, lt, at), gives)) =
+        inr (left, (suc k, omega (arith, lt), at), gives)
+
 -- either one did, or all worked until there was no more for them
 all_or_one : (workers : List Worker) → All HasCause workers → wants_memory workers ≡ false
     → All IsWorkedOut (logs_of workers) ⊎ GivesUp workers
 all_or_one [] causes memory = inl (λ k d lt. absurd (omega (arith, lt)))
-all_or_one (w ∷ workers) causes memory = by (is_no_memory w.left) (gives_up w.left) refl refl memory
-  where
-    behind : All IsWorkedOut (logs_of workers) ⊎ GivesUp workers → IsWorkedOut w.log
-        → All IsWorkedOut (w.log ∷ logs_of workers) ⊎ GivesUp (w ∷ workers)
-    behind (inl all) one = inl (All-cons IsWorkedOut w.log (logs_of workers) one all)
-    behind (inr (left, (k, (lt, is)), up)) one =
-        inr (left, (suc k, (omega (arith, lt), is)), up)
-
-    by : (m g : Bool) → is_no_memory w.left ≡ m → gives_up w.left ≡ g
-        → (m || wants_memory workers) ≡ false
-        → All IsWorkedOut (w.log ∷ logs_of workers) ⊎ GivesUp (w ∷ workers)
-    by true g is up none = absurd (true≢false none)
-    by false true is up none = inr (w.left, (0, (omega arith, refl)), up)
-    by false false is up none =
-        behind (all_or_one workers (All-tail HasCause w workers causes) none)
-        (worked_out w (All-head HasCause w workers causes) is up)
+all_or_one (w ∷ workers) causes memory =
+    with_one w workers (All-head HasCause w workers causes) (is_no_memory w.left)
+    (gives_up w.left) refl refl memory
+    (all_or_one workers (All-tail HasCause w workers causes))
 
 -- ---- how a job went
 

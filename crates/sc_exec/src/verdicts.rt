@@ -1,7 +1,7 @@
 //! How a job went whose executors take no more tasks.
 #![tactic(auto)]
 
-ghost use Rattle.std.specs.Prelude.{◌≡◌, ◌↔◌, All, IsTrue};
+ghost use Rattle.std.specs.Prelude.{◌≡◌, ◌↔◌, All, IsTrue, true};
 ghost use Rattle.std.specs.List.{list_any};
 ghost use Rattle.sc_core.specs.CoreData.{job_runs};
 ghost use Rattle.sc_desk.specs.DeskData.{core_of};
@@ -56,17 +56,39 @@ pub fn judge<W: Naming>(desk: &Desk<W>, workers: &[Worker]) -> Verdict
 fn are_logged(entries: &[Entry], workers: &[Worker]) -> bool
     ensures { IsTrue result ↔ AreLogged entries.now workers.now }
 {
-    workers.iter().all(|w| is_log(entries, &w.log)) && entries.iter().all(|e| is_known(workers, e))
+    are_logs(entries, workers) && are_known(entries, workers)
+}
+
+/// Whether what each executor wrote down are its entries, in order.
+fn are_logs(entries: &[Entry], workers: &[Worker]) -> bool
+    ensures { IsTrue result ↔ All (λ w. IsLogIn entries.now w.log) workers.now }
+{
+    workers.iter().all(|w| is_log(entries, &w.log))
+}
+
+/// Whether each entry is the driver's, or of one of these executors.
+fn are_known(entries: &[Entry], workers: &[Worker]) -> bool
+    ensures { IsTrue result
+        ↔ All (λ e. is_known (logs_of workers.now) e ≡ true) entries.now }
+{
+    entries.iter().all(|e| is_known(workers, e))
 }
 
 /// Whether an entry is the driver's, or of one of these executors.
 fn is_known(workers: &[Worker], e: &Entry) -> bool
     ensures { result ≡ is_known (logs_of workers.now) e.now }
 {
-    is_drivers(e) || is_any(workers, e)
+    is_drivers(e) || has_log(workers, e)
 }
 
 /// Whether an entry is of one of these executors.
+fn has_log(workers: &[Worker], e: &Entry) -> bool
+    ensures { result ≡ list_any (λ l. is_by l.exec e.now) (logs_of workers.now) }
+{
+    is_any(workers, e)
+}
+
+/// The same of what they wrote down.
 fn is_any(workers: &[Worker], e: &Entry) -> bool
     ensures { result ≡ list_any (λ w. is_by w.log.exec e.now) workers.now }
 {

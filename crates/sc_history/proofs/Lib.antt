@@ -26,6 +26,7 @@ pub mod RulingLemmas
 pub mod GivenLemmas
 pub mod CommitSteps
 pub mod Committed
+pub mod SavingLemmas
 pub mod StandLemmas
 pub mod BirthLemmas
 pub mod LaterLemmas

@@ -15,8 +15,8 @@ use Rattle.sc_dag.specs.Submission.{IsSubmitted, this_stage}
 use Rattle.sc_dag.proofs.Looking.{submissions_agree}
 use Rattle.sc_dag.proofs.Opening.{openings_are_sound}
 use Rattle.sc_core.specs.CoreData.{CoreData, core_data, result_stage}
-use Rattle.sc_core.specs.Openings.{IsOpening, committers_for, now_before, plan_behind, told_before, tracker_behind}
-use Rattle.sc_core.specs.Sound.{IsSoundCore}
+use Rattle.sc_core.specs.Openings.{IsOpening, begun_core, committers_for, now_before, plan_behind, told_before, tracker_behind}
+use Rattle.sc_core.specs.Sound.{LeavesWell}
 use Rattle.sc_core.specs.declared.answers.JobState.TheVariants as jobs
 use Rattle.sc_history.specs.Openings.{OpeningsAgree}
 
@@ -84,7 +84,7 @@ opens_agree graph last t d e a b limits =
 
 -- ---- cores
 
-behind_sound : (last : Option CoreData) (limits : Limits) → IfSome last IsSoundCore
+behind_sound : (last : Option CoreData) (limits : Limits) → IfSome last LeavesWell
     → IsSoundTracker (tracker_behind last limits)
 behind_sound None limits sound =
     record {
@@ -92,19 +92,12 @@ behind_sound None limits sound =
       marks = All-replicate (HasMarkBelow 0) limits.executors untold tt;
       events = omega arith;
     }
-behind_sound (Some last) limits sound = sound.job.dag.tracker
-
--- all of a core that begins but its stages
-opened : Limits → Bool → List PlanLine → Option CoreData → DagData → CoreData
-opened limits saved plan last dag =
-    core_data (told_before last) (now_before last) 0 jobs.Running None [] [] 0
-    (committers_for saved dag) dag (plan_behind last plan)
+behind_sound (Some last) limits sound = sound.tracker
 
 opening_is :
     (graph : List StageData) (limits : Limits) (saved : Bool) (plan : List PlanLine)
     (last : Option CoreData) (c : CoreData) → IsOpening graph limits saved plan last c
-    → c ≡ opened limits saved plan last c.dag
-unfolding opened
+    → c ≡ begun_core saved plan last c.dag
 opening_is graph limits saved plan last c o =
     ap (λ x. core_data x c.now c.handed c.job c.left_first c.running c.shelf c.next_key
     c.committers c.dag c.plan) o.told
@@ -129,7 +122,7 @@ opening_is graph limits saved plan last c o =
 
 pub openings_agree : OpeningsAgree
 openings_agree graph limits saved plan last x y job fits sound a b =
-    opening_is graph limits saved plan last x a ∙ ap (opened limits saved plan last) dags
+    opening_is graph limits saved plan last x a ∙ ap (begun_core saved plan last) dags
     ∙ sym (opening_is graph limits saved plan last y b)
   where
     same : a.dag ≡ b.dag

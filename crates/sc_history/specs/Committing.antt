@@ -8,6 +8,7 @@ use Rattle.sc_plan.specs.declared.lines.PlanLine.{PlanLine}
 use Rattle.sc_core.specs.CoreData.{CoreData}
 use Rattle.sc_core.specs.Journals.{Replays}
 use Rattle.sc_core.specs.Openings.{IsOpening}
+use Rattle.sc_core.specs.Posts.{is_save}
 use Rattle.sc_core.specs.Sound.{IsSoundCore}
 use Rattle.sc_core.specs.declared.answers.Answer.TheVariants as says
 use Rattle.sc_core.specs.declared.answers.SideAnswer.TheVariants as sides
@@ -76,3 +77,9 @@ WinnersCommit =
     → IsOpening graph limits saves plan last opening → IsSoundCore opening
     → Replays opening entries end → winner_of end.committers p ≡ Some winner
     → WasCommitted opening entries winner
+
+-- a job saves in the end exactly where it did as it began
+abbrev pub SavesStay : Type 0
+SavesStay =
+    (opening end : CoreData) (entries : List Entry) → Replays opening entries end
+    → is_save end.committers ≡ is_save opening.committers

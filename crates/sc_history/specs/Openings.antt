@@ -10,7 +10,7 @@ use Rattle.sc_tracker.specs.Tracking.{has_room}
 use Rattle.sc_dag.specs.Openings.{FitsJob, IsJob}
 use Rattle.sc_core.specs.CoreData.{CoreData}
 use Rattle.sc_core.specs.Openings.{IsOpening, tracker_behind}
-use Rattle.sc_core.specs.Sound.{IsSoundCore}
+use Rattle.sc_core.specs.Sound.{LeavesWell}
 use Rattle.sc_history.specs.Rooms.{IsSameRoom}
 
 -- two cores of one opening are the same
@@ -19,7 +19,7 @@ OpeningsAgree =
     (graph : List StageData) (limits : Limits) (saves : Bool) (plan : List PlanLine)
     (last : Option CoreData) (x y : CoreData) → IsJob graph
     → FitsJob (tracker_behind last limits) graph
-    → IfSome last IsSoundCore → IsOpening graph limits saves plan last x
+    → IfSome last LeavesWell → IsOpening graph limits saves plan last x
     → IsOpening graph limits saves plan last y → x ≡ y
 
 -- there is room for the outputs of a stage, and for no more of its shuffle

@@ -3,7 +3,7 @@
 
 ghost use Rattle.sc_history.specs.Budgets.{BudgetsAreShown, HandOutsAreCounted, LimitsStay};
 ghost use Rattle.sc_history.specs.Charges.{FailedAttemptsAreCharged, StepsCharge};
-ghost use Rattle.sc_history.specs.Committing.{GrantsAreSole, WinnersCommit};
+ghost use Rattle.sc_history.specs.Committing.{GrantsAreSole, SavesStay, WinnersCommit};
 ghost use Rattle.sc_history.specs.Evidence.{TaskLimitsAreShown};
 ghost use Rattle.sc_history.specs.Fresh.{TakesAreFresh};
 ghost use Rattle.sc_history.specs.Given.{HeardAreGiven, RunningAreGiven};
@@ -105,6 +105,11 @@ pub fn results_are_once()
 pub fn grants_are_sole()
     ensures sole { GrantsAreSole }
     ensures winners { WinnersCommit }
+{}
+
+/// A job saves in the end exactly where it did as it began. A call does nothing.
+pub fn saves_stay()
+    ensures { SavesStay }
 {}
 
 /// What stands of the output of an attempt is a function of the entries. A call does nothing.

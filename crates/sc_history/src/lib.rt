@@ -12,5 +12,5 @@ mod laws;
 pub use laws::{
     aborts_are_shown, epochs_count, failures_are_charged, grants_are_sole, hand_outs_are_counted,
     losses_are_shown, openings_agree, reports_are_posted, results_are_once, room_is_kept,
-    running_are_given, stands_are_told, takes_are_fresh, what_is_heard_stays,
+    running_are_given, saves_stay, stands_are_told, takes_are_fresh, what_is_heard_stays,
 };

@@ -13,7 +13,7 @@ use Rattle.sc_ids.specs.Changes.{change_at}
 use Rattle.sc_ids.proofs.ChangeLemmas.{length_change_at}
 use Rattle.sc_tracker.specs.Outputs.{forgotten, forgotten_on, never, placed}
 use Rattle.sc_tracker.specs.Trust.{is_live, is_newer, lost_at, seen_at}
-use Rattle.sc_tracker.specs.Tracking.{has_room, sized, with_forgotten, with_forgotten_on, with_placed}
+use Rattle.sc_tracker.specs.Tracking.{has_room, sized, with_forgotten_on, with_placed}
 use Rattle.sc_tracker.specs.TrackerData.{ShuffleData, TrackerData, is_of, outputs_of, outputs_under, place_of, shuffle_data, tracker_data}
 use Rattle.sc_tracker.proofs.BlockLemmas.{is_of_itself, one_shuffle, under_behind, under_here}
 use Rattle.sc_dag.specs.Openings.{FitsIn, sized_by, sized_for_all}
@@ -125,7 +125,7 @@ module _ (work : WorkData) where
         (tracker_data (map (with_forgotten_on exec) t.shuffles)
         (change_at t.trust exec (lost_at t.epoch)) (t.epoch + 1))
         (fits_forgotten exec t.shuffles fits);
-    all = fits_each with_forgotten (λ s its. length-map s.outputs forgotten ∙ its) t.shuffles fits;
+    none = All-nil (HasItsMaps work);
   }
     where
       either : (b : Bool) (other : TrackerData) → FitsWork work other

@@ -3,7 +3,7 @@ use Rattle.std.specs.Prelude.{ℕ, ◌≡◌, List, [], All, length}
 use Rattle.sc_lineage.specs.ScriptData.{WorkData}
 use Rattle.sc_ids.specs.declared.blocks.BlockId.{BlockId}
 use Rattle.sc_ids.specs.declared.blocks.Loc.{Loc}
-use Rattle.sc_tracker.specs.Tracking.{after_executor_lost, after_gone, emptied, registered}
+use Rattle.sc_tracker.specs.Tracking.{after_executor_lost, after_gone, registered, unregistered}
 use Rattle.sc_tracker.specs.TrackerData.{ShuffleData, TrackerData, tracker_data}
 use Rattle.sc_tracker.specs.declared.trust.Trust.{Trust}
 use Rattle.sc_dag.specs.Openings.{FitsJob, sized_for_all}
@@ -35,12 +35,13 @@ SizedTrackersFit =
     (work : WorkData) (job : JobData) (t : TrackerData)
     → IsJobFor work job → FitsWork work t → FitsWork work (sized_for_all t job.graph)
 
--- a tracker that fits still does when an output is registered, or when outputs are forgotten
+-- a tracker that fits still does when an output is registered, when outputs are forgotten, and when
+-- nothing is registered any more
 pub record ChangesFit (work : WorkData) (t : TrackerData) : Type 0 where
   pub output : (block : BlockId) (loc : Loc) → FitsWork work (registered t block loc)
   pub gone : (exec found : ℕ) → FitsWork work (after_gone t exec found)
   pub lost : (exec : ℕ) → FitsWork work (after_executor_lost t exec)
-  pub all : FitsWork work (emptied t)
+  pub none : FitsWork work (unregistered t)
 
 abbrev pub ChangedTrackersFit : Type 0
 ChangedTrackersFit = (work : WorkData) (t : TrackerData) → FitsWork work t → ChangesFit work t

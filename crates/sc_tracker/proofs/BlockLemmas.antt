@@ -10,10 +10,10 @@ use Rattle.sc_ids.specs.declared.blocks.ShuffleId.{ShuffleId}
 use Rattle.sc_ids.specs.Changes.{change_at}
 use Rattle.sc_ids.proofs.ChangeLemmas.{All_at_or, at_or_change_other, at_or_change_same}
 use Rattle.sc_tracker.specs.declared.outputs.Output.{Output}
-use Rattle.sc_tracker.specs.Outputs.{forgotten, forgotten_on, never, output_in, placed}
+use Rattle.sc_tracker.specs.Outputs.{forgotten_on, never, output_in, placed}
 use Rattle.sc_tracker.specs.TrackerData.{ShuffleData, is_of, output_of, output_under, outputs_among, outputs_under, place_of, shuffle_data, tracker_data}
 use Rattle.sc_tracker.specs.TrackerFacts.{HasMarkBelow, IsSoundOutput}
-use Rattle.sc_tracker.specs.TrackerLaws.{EmptiesAll, ForgetsOnOne, HasRoomFor, LookupsAreSound, RegistersOne, SizesForAll}
+use Rattle.sc_tracker.specs.TrackerLaws.{ForgetsOnOne, HasRoomFor, LookupsAreSound, RegistersOne, SizesForAll, UnregistersAll}
 use Rattle.sc_tracker.specs.Tracking.{after_executor_lost, after_gone, has_room, registered, sized, with_forgotten_on}
 use Rattle.sc_tracker.specs.Trust.{is_live, is_newer, trust_at, untold}
 
@@ -306,7 +306,5 @@ forgets_on_one t exec block = (gone, lost)
         → output_of (after_executor_lost t exec) block ≡ forgotten_on exec (output_of t block)
     lost e = rw e (output_forgotten t.shuffles exec block)
 
-pub empties_all : EmptiesAll
-empties_all t block =
-    ap (λ outputs. output_in outputs block.map) (under_mapped t.shuffles block.shuffle forgotten)
-    ∙ at_or-map forgotten (outputs_under t.shuffles block.shuffle) block.map never refl
+pub unregisters_all : UnregistersAll
+unregisters_all t = (λ block. refl, λ shuffle. refl)

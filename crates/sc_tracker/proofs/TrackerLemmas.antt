@@ -9,10 +9,10 @@ use Rattle.sc_ids.specs.declared.blocks.Loc.{Loc}
 use Rattle.sc_ids.specs.Changes.{change_at}
 use Rattle.sc_ids.proofs.ChangeLemmas.{All_change_at, at_or_change_other}
 use Rattle.sc_tracker.specs.declared.trust.Trust.{Trust}
-use Rattle.sc_tracker.specs.Outputs.{forgotten, forgotten_on, never, placed}
+use Rattle.sc_tracker.specs.Outputs.{forgotten_on, never, placed}
 use Rattle.sc_tracker.specs.TrackerData.{ShuffleData, TrackerData, place_of, tracker_data}
 use Rattle.sc_tracker.specs.TrackerFacts.{HasMarkBelow, IsSoundOutput, IsSoundTracker, SeenFits, events_of}
-use Rattle.sc_tracker.specs.Tracking.{emptied, is_bogus, registered, with_forgotten, with_forgotten_on, with_placed}
+use Rattle.sc_tracker.specs.Tracking.{is_bogus, registered, unregistered, with_forgotten_on, with_placed}
 use Rattle.sc_tracker.specs.Trust.{is_live, is_marked, is_newer, lost_at, seen_at, trust_at, untold}
 
 -- what isn't bogus isn't below the generation that was seen
@@ -173,24 +173,14 @@ pub seen_fits : (trust : List Trust) (exec : ℕ) (f : Trust → Trust)
     → SeenFits trust → SeenFits (change_at trust exec f)
 seen_fits trust exec f h a = All_change_at (λ x. x.seen < 2 ^ 32) trust exec f h a
 
--- forgetting all keeps the facts
-pub emptied_sound : (t : TrackerData) → IsSoundTracker t → IsSoundTracker (emptied t)
-emptied_sound t s =
+-- so does a tracker with nothing registered
+pub unregistered_sound : (t : TrackerData) → IsSoundTracker t → IsSoundTracker (unregistered t)
+unregistered_sound t s =
     record {
-      outputs = All-map (SoundShuffle t.trust t.epoch) with_forgotten t.shuffles
-          (All-weaker (SoundShuffle t.trust t.epoch)
-          (λ y. SoundShuffle t.trust t.epoch (with_forgotten y)) each t.shuffles s.outputs);
+      outputs = All-nil (SoundShuffle t.trust t.epoch);
       marks = s.marks;
       events = s.events;
     }
-  where
-    each : (y : ShuffleData) → SoundShuffle t.trust t.epoch y
-        → SoundShuffle t.trust t.epoch (with_forgotten y)
-    each y a =
-        All-map (IsSoundOutput t.trust t.epoch) forgotten y.outputs
-        (All-weaker (IsSoundOutput t.trust t.epoch)
-        (λ o. IsSoundOutput t.trust t.epoch (forgotten o))
-        (λ o p. record { fresh = tt; is_last = tt; before = p.before }) y.outputs a)
 
 -- room for one more shuffle keeps the facts
 pub sized_sound : (t : TrackerData) (s : ShuffleData) (n : ℕ) → s.outputs ≡ replicate n never

@@ -5,10 +5,10 @@ use Rattle.std.proofs.lemmas.List.{length-map, length-replicate, map-append}
 use Rattle.sc_base.specs.Lists.{at_or}
 use Rattle.sc_ids.specs.Changes.{change_at}
 use Rattle.sc_ids.proofs.ChangeLemmas.{at_or_change_other, at_or_change_same, length_change_at}
-use Rattle.sc_tracker.specs.Lists.{AreListed, IsList, ListsData, back_at, emptied_lists, lists_data, next_at, output_at, unlinked, with_first}
+use Rattle.sc_tracker.specs.Lists.{AreListed, IsList, ListsData, back_at, lists_data, next_at, output_at, unlinked, with_first}
 use Rattle.sc_tracker.specs.Outputs.{forgotten, forgotten_on, is_on, never}
 use Rattle.sc_tracker.specs.TrackerData.{ShuffleData}
-use Rattle.sc_tracker.specs.Tracking.{with_forgotten, with_forgotten_on}
+use Rattle.sc_tracker.specs.Tracking.{with_forgotten_on}
 use Rattle.sc_tracker.specs.declared.links.Link.{Link}
 use Rattle.sc_tracker.specs.declared.links.Place.{Place}
 use Rattle.sc_tracker.specs.declared.outputs.Output.{Output}
@@ -38,30 +38,6 @@ new_listed executors =
           (nothing_on exec executors) (λ p. refl);
       linked = refl;
     }
-
-pub emptied_listed : (shuffles : List ShuffleData) (l : ListsData) → AreListed shuffles l
-    → AreListed (map with_forgotten shuffles) (emptied_lists l)
-emptied_listed shuffles l are =
-    record {
-      each = λ exec within.
-          empty_list (map with_forgotten shuffles) l.rows exec
-          (at_or (map (λ _. nowhere) l.firsts) exec None) (none l.firsts exec)
-          (λ p. ap (λ (o : Output). is_on exec o.here) (output_mapped shuffles p forgotten refl));
-      linked = are.linked ∙ lengths shuffles;
-    }
-  where
-    none : (firsts : List (Option Place)) (exec : ℕ)
-        → at_or (map (λ _. nowhere) firsts) exec nowhere ≡ nowhere
-    none [] exec = refl
-    none (f ∷ firsts) zero = refl
-    none (f ∷ firsts) (suc exec) = none firsts exec
-
-    lengths : (xs : List ShuffleData)
-        → map (λ s. length s.outputs) xs ≡ map (λ s. length s.outputs) (map with_forgotten xs)
-    lengths [] = refl
-    lengths (x ∷ xs) =
-        ap (λ n. n ∷ map (λ s. length s.outputs) xs) (sym (length-map x.outputs forgotten))
-        ∙ ap (λ ns. length (map forgotten x.outputs) ∷ ns) (lengths xs)
 
 pub more_listed : (shuffles : List ShuffleData) (l : ListsData) (s : ShuffleData) (n : ℕ)
     → s.outputs ≡ replicate n never → AreListed shuffles l
@@ -159,6 +135,3 @@ lost_listed shuffles l exec are =
               (output_mapped shuffles p (forgotten_on exec) refl)
               ∙ on_other other ne (output_at shuffles p));
         })
-
-pub emptied_many : (l : ListsData) → length (emptied_lists l).firsts ≡ length l.firsts
-emptied_many l = length-map l.firsts (λ _. nowhere)

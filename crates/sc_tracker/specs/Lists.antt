@@ -138,10 +138,6 @@ removed exec p l =
     else unchained p l)
     else l
 
--- all lists emptied
-abbrev pub emptied_lists : ListsData → ListsData
-emptied_lists l = lists_data (map (λ _. None) l.firsts) l.rows
-
 -- a shuffle with one output forgotten
 abbrev pub with_one_forgotten : ℕ → ShuffleData → ShuffleData
 with_one_forgotten place s = shuffle_data s.shuffle (change_at s.outputs place forgotten)

@@ -4,10 +4,10 @@ use Rattle.sc_ids.specs.declared.blocks.BlockId.{BlockId}
 use Rattle.sc_ids.specs.declared.blocks.Loc.{Loc}
 use Rattle.sc_ids.specs.declared.blocks.ShuffleId.{ShuffleId}
 use Rattle.sc_tracker.specs.declared.trust.Trust.{Trust}
-use Rattle.sc_tracker.specs.Outputs.{forgotten, forgotten_on, never, placed}
+use Rattle.sc_tracker.specs.Outputs.{forgotten_on, never, placed}
 use Rattle.sc_tracker.specs.TrackerData.{TrackerData, output_of, outputs_of, trust_of}
 use Rattle.sc_tracker.specs.TrackerFacts.{HasMarkBelow, IsSoundOutput, IsSoundTracker}
-use Rattle.sc_tracker.specs.Tracking.{after_executor_lost, after_gone, emptied, has_room, is_bogus, registered, sized}
+use Rattle.sc_tracker.specs.Tracking.{after_executor_lost, after_gone, has_room, is_bogus, registered, sized, unregistered}
 use Rattle.sc_tracker.specs.Trust.{is_live, is_newer}
 
 -- the facts of every tracker hold of what it knows of any block and of any executor
@@ -49,11 +49,12 @@ ForgetsOnOne =
     → output_of (after_executor_lost t exec) block
     ≡ forgotten_on exec (output_of t block))
 
--- a tracker that is emptied knows of each block where it was last, and no more
-abbrev pub EmptiesAll : Type 0
-EmptiesAll =
-    (t : TrackerData) (block : BlockId)
-    → output_of (emptied t) block ≡ forgotten (output_of t block)
+-- a tracker with nothing registered knows of no block, and has room for none
+abbrev pub UnregistersAll : Type 0
+UnregistersAll =
+    (t : TrackerData)
+    → ((block : BlockId) → output_of (unregistered t) block ≡ never)
+    × ((shuffle : ShuffleId) → has_room (unregistered t) shuffle ≡ false)
 
 -- what was heard of an executor later on
 pub record IsLaterTrust (before after : Trust) : Type 0 where

@@ -5,7 +5,7 @@ use Rattle.sc_ids.specs.declared.blocks.BlockId.{BlockId}
 use Rattle.sc_ids.specs.declared.blocks.Loc.{Loc}
 use Rattle.sc_ids.specs.declared.blocks.ShuffleId.{ShuffleId}
 use Rattle.sc_ids.specs.Changes.{change_at}
-use Rattle.sc_tracker.specs.Outputs.{forgotten, forgotten_on, never, placed}
+use Rattle.sc_tracker.specs.Outputs.{forgotten_on, never, placed}
 use Rattle.sc_tracker.specs.TrackerData.{ShuffleData, TrackerData, is_of, place_of, shuffle_data, tracker_data, trust_of}
 use Rattle.sc_tracker.specs.Trust.{is_bogus_for, is_live, is_newer, lost_at, seen_at}
 
@@ -58,10 +58,7 @@ after_executor_lost t exec =
     (change_at t.trust exec (lost_at t.epoch)) (t.epoch + 1)
     else t
 
--- a shuffle whose outputs are all forgotten
-abbrev pub with_forgotten : ShuffleData → ShuffleData
-with_forgotten s = shuffle_data s.shuffle (map forgotten s.outputs)
-
--- a tracker whose outputs are all forgotten, while what was heard is kept
-abbrev pub emptied : TrackerData → TrackerData
-emptied t = tracker_data (map with_forgotten t.shuffles) t.trust t.epoch
+-- A tracker with nothing registered and room for no shuffle, as where all stores are new: it knows
+-- no output, nor where one was last. What was heard of the executors is kept, and so is the epoch.
+abbrev pub unregistered : TrackerData → TrackerData
+unregistered t = tracker_data [] t.trust t.epoch

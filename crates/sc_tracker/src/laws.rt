@@ -1,7 +1,7 @@
 //! What the changes of a tracker mean for each block and for each executor.
 #![tactic(auto)]
 
-ghost use Rattle.sc_tracker.specs.TrackerLaws.{BogusStaysBogus, CallsGoForward, EmptiesAll, ForgetsOnOne, LookupsAreSound, NewTasksAreTrusted, OlderTasksAreBogus, RegistersOne, SizesForAll};
+ghost use Rattle.sc_tracker.specs.TrackerLaws.{BogusStaysBogus, CallsGoForward, ForgetsOnOne, LookupsAreSound, NewTasksAreTrusted, OlderTasksAreBogus, RegistersOne, SizesForAll, UnregistersAll};
 
 /// The laws of blocks: what holds of every tracker holds of each, and which of them a call changes.
 /// A call does nothing.
@@ -10,7 +10,7 @@ pub fn laws_of_blocks()
     ensures sized { SizesForAll }
     ensures registered { RegistersOne }
     ensures forgotten { ForgetsOnOne }
-    ensures emptied { EmptiesAll }
+    ensures unregistered { UnregistersAll }
 {}
 
 /// The laws of what was heard: it never goes back, what it rules out it rules out for good, and it

@@ -1,10 +1,10 @@
 //! The outputs that are registered on each executor, in a list of their places.
 #![tactic(auto)]
 
-ghost use Rattle.std.specs.Prelude.{◌≡◌, IfOk, OnErr, OnOk, [], ◌∷◌, ◌++◌, None, map, replicate};
+ghost use Rattle.std.specs.Prelude.{◌≡◌, IfOk, OnErr, OnOk, [], ◌∷◌, ◌++◌, None, replicate};
 ghost use Rattle.sc_base.specs.Lists.{at_or};
 ghost use Rattle.sc_ids.specs.Changes.{change_at};
-ghost use Rattle.sc_tracker.specs.Lists.{emptied_lists, link_at, lists_data, pushed, removed, unlinked, with_back, with_first, with_item, with_next};
+ghost use Rattle.sc_tracker.specs.Lists.{link_at, lists_data, pushed, removed, unlinked, with_back, with_first, with_item, with_next};
 
 use crate::links::{Link, LinkRow, Place};
 use sc_ids::ExecId;
@@ -135,21 +135,6 @@ impl Lists {
                 self.set_first(exec, link.next);
             }
         }
-    }
-
-    /// Empties all lists.
-    pub(crate) fn clear(&mut self)
-        ensures { self.new ≡ emptied_lists self.old }
-    {
-        clear_each(self.firsts.as_mut_slice());
-    }
-}
-
-fn clear_each(firsts: &mut [Option<Place>])
-    ensures { firsts.new ≡ map (λ _. None) firsts.old }
-{
-    for first in firsts.iter_mut() {
-        *first = None;
     }
 }
 

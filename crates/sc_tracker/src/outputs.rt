@@ -1,7 +1,7 @@
 //! What is known of one map output.
 #![tactic(auto)]
 
-ghost use Rattle.std.specs.Prelude.{◌≡◌, map};
+ghost use Rattle.std.specs.Prelude.{◌≡◌};
 ghost use Rattle.sc_ids.specs.Changes.{change_at};
 ghost use Rattle.sc_tracker.specs.Outputs.{forgotten, is_here, location_in, placed};
 
@@ -87,14 +87,5 @@ pub(crate) fn forget_in(outputs: &mut Vec<Output>, map: u32)
 {
     if (map as usize) < outputs.len() {
         outputs[map as usize].forget();
-    }
-}
-
-/// Forgets all outputs of a shuffle.
-pub(crate) fn forget_outputs(outputs: &mut [Output])
-    ensures { outputs.new ≡ map forgotten outputs.old }
-{
-    for output in outputs.iter_mut() {
-        output.forget();
     }
 }

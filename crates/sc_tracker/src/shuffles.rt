@@ -1,17 +1,17 @@
 //! The outputs of the shuffles that there is room for.
 #![tactic(auto)]
 
-ghost use Rattle.std.specs.Prelude.{◌≡◌, IfOk, length, map, nat_lt, replicate};
+ghost use Rattle.std.specs.Prelude.{◌≡◌, IfOk, length, nat_lt, replicate};
 ghost use Rattle.std.specs.List.{list_any};
 ghost use Rattle.sc_ids.specs.Changes.{change_at};
 ghost use Rattle.sc_tracker.specs.Lists.{has_room_at, output_at, place_for, with_one_forgotten, with_output};
 ghost use Rattle.sc_tracker.specs.Outputs.{are_here, forgotten, never, output_in, placed};
 ghost use Rattle.sc_tracker.specs.TrackerData.{is_of, output_under, outputs_under, place_of, shuffle_data};
 ghost use Rattle.sc_tracker.specs.TrackerFacts.{AreApart};
-ghost use Rattle.sc_tracker.specs.Tracking.{with_forgotten, with_placed};
+ghost use Rattle.sc_tracker.specs.Tracking.{with_placed};
 
 use crate::links::Place;
-use crate::outputs::{Output, forget_in, forget_outputs, place_in};
+use crate::outputs::{Output, forget_in, place_in};
 use sc_ids::{BlockId, Epoch, Loc, ShuffleId};
 use std::alloc::{AllocError, Global};
 use std::marker::Model;
@@ -114,14 +114,6 @@ impl ShuffleOutputs {
         place_in(&mut self.outputs, map, loc, epoch);
     }
 
-    /// Forgets all outputs.
-    fn forget(&mut self)
-        ensures { self.new ≡ with_forgotten self.old }
-    {
-        forget_outputs(self.outputs.as_mut_slice());
-        self.registered = 0;
-    }
-
     /// Forgets one output.
     fn forget_one(&mut self, map: u32)
         ensures { self.new ≡ with_one_forgotten map self.old }
@@ -159,21 +151,6 @@ pub(crate) fn has_room(shuffles: &[ShuffleOutputs], shuffle: ShuffleId) -> bool
     ensures { result ≡ list_any (is_of shuffle) shuffles.now }
 {
     shuffles.iter().any(|outputs| outputs.is_of(shuffle))
-}
-
-/// Forgets all outputs.
-pub(crate) fn forget_all(shuffles: &mut Vec<ShuffleOutputs>)
-    ensures { shuffles.new.items ≡ map with_forgotten shuffles.old.items }
-{
-    forget_each(shuffles.as_mut_slice());
-}
-
-fn forget_each(shuffles: &mut [ShuffleOutputs])
-    ensures { shuffles.new ≡ map with_forgotten shuffles.old }
-{
-    for outputs in shuffles.iter_mut() {
-        outputs.forget();
-    }
 }
 
 /// The place of a shuffle among others, or their number where it isn't there. Only where the guess

@@ -5,16 +5,14 @@ ghost use Rattle.std.specs.Prelude.{◌≡◌, ◌≤◌, ◌+◌, [], IfOk, OnE
 ghost use Rattle.sc_tracker.specs.Outputs.{location_in};
 ghost use Rattle.sc_tracker.specs.TrackerData.{has_all, output_of, registered_on, tracker_data, trust_of};
 ghost use Rattle.sc_tracker.specs.TrackerFacts.{IsSoundTracker};
-ghost use Rattle.sc_tracker.specs.Tracking.{after_executor_lost, after_gone, emptied, is_bogus, registered, sized};
+ghost use Rattle.sc_tracker.specs.Tracking.{after_executor_lost, after_gone, is_bogus, registered, sized, unregistered};
 ghost use Rattle.sc_tracker.specs.Trust.{are_lost, is_live, is_newer, untold};
 
 use crate::hints::Hints;
 use crate::listed::{forget_on, forget_on_in, register_at};
 use crate::lists::Lists;
 use crate::outputs::{Location, Output};
-use crate::shuffles::{
-    ShuffleOutputs, copies, forget_all, has_all, has_room, output_at, place_for,
-};
+use crate::shuffles::{ShuffleOutputs, copies, has_all, has_room, output_at, place_for};
 use crate::trust::{Trust, is_bogus, is_live, is_newer, note_lost, note_seen, trust_at};
 use sc_base::Steps;
 use sc_ids::{BlockId, Epoch, ExecId, Generation, Loc, ShuffleId};
@@ -90,6 +88,23 @@ impl Tracker {
             alloc: self.alloc,
             shuffles,
             hints,
+            lists,
+            trust,
+            epoch: self.epoch,
+        })
+    }
+
+    /// A tracker that heard the same of the executors and has nothing registered, for a job that is
+    /// run again over new stores.
+    pub fn without_outputs(&self) -> Result<Tracker, AllocError>
+        ensures { IfOk result (λ t. t ≡ unregistered self.now) }
+    {
+        let trust = self.trust.as_slice().to_vec(self.alloc)?;
+        let lists = Lists::new(self.alloc, self.trust.len() as u32)?;
+        Ok(Tracker {
+            alloc: self.alloc,
+            shuffles: Vec::new(self.alloc),
+            hints: Hints::new(self.alloc),
             lists,
             trust,
             epoch: self.epoch,
@@ -177,15 +192,6 @@ impl Tracker {
             note_seen(&mut self.trust, exec, found, self.epoch);
             self.epoch += 1;
         }
-    }
-
-    /// Forgets all outputs, as where their stores are given up with the run that used them. What
-    /// was heard of the executors stays, and so does the epoch.
-    pub fn forget_all(&mut self)
-        ensures { self.new ≡ emptied self.old }
-    {
-        forget_all(&mut self.shuffles);
-        self.lists.clear();
     }
 
     /// How often outputs of an executor were forgotten.

@@ -9,18 +9,27 @@ use Rattle.sc_store.specs.Storing.{IsWipe}
 use Rattle.sc_desk.specs.Orders.{IsDueAmong}
 use Rattle.sc_desk.proofs.OrderLemmas.{due_room, is_wipe, numbered, wipes_are}
 
--- a wipe of a plan wipes
+wiping : (kind : OrderKind) → is_wipe kind ≡ true → IsWipe kind
+wiping kinds.Drop e = tt
+wiping kinds.Lose e = tt
+wiping kinds.Evict e = true≢false (sym e)
+
+-- a wipe of an executor that has a number in a plan
+pub record IsWipeOf (exec number : ℕ) (order : Order) : Type 0 where
+  pub exec_is : order.exec ≡ exec
+  pub number_is : order.number ≡ number
+  pub wipes : IsWipe order.kind
+
+pub wipe_of : (plan : List PlanLine) (exec number : ℕ) (order : Order)
+    → nth_order exec number (wipes_of plan exec) ≡ Some order → IsWipeOf exec number order
+wipe_of plan exec number order is =
+    let n = numbered exec true (wipes_of plan exec) number order (wipes_are plan exec) is in
+    record { exec_is = n.exec_is; number_is = n.number_is; wipes = wiping order.kind n.sort }
+
+-- so one that is due wipes
 pub is_wiping : (plan : List PlanLine) (told : ℕ) (order : Order)
     → IsDueAmong (wipes_of plan order.exec) told order → IsWipe order.kind
-is_wiping plan told order (below, is) =
-    by order.kind
-    (numbered order.exec true (wipes_of plan order.exec) order.number order
-    (wipes_are plan order.exec) is).sort
-  where
-    by : (kind : OrderKind) → is_wipe kind ≡ true → IsWipe kind
-    by kinds.Drop e = tt
-    by kinds.Lose e = tt
-    by kinds.Evict e = true≢false (sym e)
+is_wiping plan told order (below, is) = (wipe_of plan order.exec order.number order is).wipes
 
 -- one that is due is there
 pub is_known : (dues : List Due) (told number : ℕ) → number ≤ due_count dues told

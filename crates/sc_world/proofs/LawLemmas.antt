@@ -1,15 +1,10 @@
 -- The laws of worlds.
-use Rattle.std.proofs.Common.{◌≡◌, ℕ, zero, suc, All, Bool, true, false, [], Contains, None, IfSome, replicate, refl, ap, sym, subst, ◌∙◌, true≢false}
+use Rattle.std.proofs.Common.{◌≡◌, ℕ, zero, suc, All, [], Contains, None, IfSome, replicate, ap, sym, subst, ◌∙◌}
 use Rattle.std.proofs.lemmas.List.{length-replicate}
 use Rattle.std.proofs.lemmas.List.Elements.{All-contains, All-nil}
 use Rattle.sc_base.specs.Lists.{at_or}
-use Rattle.sc_dag.specs.DagData.{stage_at}
-use Rattle.sc_dag.specs.Outputs.{is_complete}
-use Rattle.sc_core.specs.CoreData.{CoreData, is_running_job, result_stage}
-use Rattle.sc_core.specs.Openings.{committers_for}
 use Rattle.sc_core.specs.Posts.{is_save}
-use Rattle.sc_core.specs.Sound.{IsSoundCore}
-use Rattle.sc_core.specs.declared.answers.JobState.TheVariants as jobs
+use Rattle.sc_core.proofs.IsSaveLemmas.{opened_saving}
 use Rattle.sc_jobs.specs.JobData.{saves}
 use Rattle.sc_task.specs.Attempts.{AttemptData}
 use Rattle.sc_desk.specs.DeskData.{core_of}
@@ -25,22 +20,6 @@ none_held P zero zero = tt
 none_held P zero (suc e) = tt
 none_held P (suc n) zero = tt
 none_held P (suc n) (suc e) = none_held P n e
-
--- there is a place where a job begins that saves, since it isn't complete yet
-opened_saving : (saving : Bool) (c : CoreData) → IsSoundCore c → c.job ≡ jobs.Running
-    → is_save (committers_for saving c.dag) ≡ saving
-opened_saving false c sound runs = refl
-opened_saving true c sound runs =
-    by (stage_at c.dag (result_stage c.dag)).tasks refl
-    (sound.job.goes_on (ap is_running_job runs)).result.0
-  where
-    by : (tasks : ℕ) → (stage_at c.dag (result_stage c.dag)).tasks ≡ tasks
-        → is_complete c.dag (result_stage c.dag) ≡ false
-        → is_save (committers_for true c.dag) ≡ true
-    by zero e lacks =
-        let whole : is_complete c.dag (result_stage c.dag) ≡ true = rw e refl in
-        absurd (true≢false (sym whole ∙ lacks))
-    by (suc n) e lacks = rw e refl
 
 pub worlds_begin : WorldsBegin
 worlds_begin work last desk stores core desk_sound opening empty ready =

@@ -25,9 +25,10 @@ mod CodeGo
 mod CodeAmong
 mod CodeSteps
 mod CodeRuns
+mod EntryLemmas
 mod SideTurnLemmas
 mod CodeTurns
-mod CodeOrders
+pub mod CodeOrders
 mod CodeKeeps
 mod CodeRests
 mod CodeSaves

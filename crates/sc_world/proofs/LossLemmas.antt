@@ -15,7 +15,8 @@ use Rattle.sc_core.specs.Tells.{released}
 use Rattle.sc_core.specs.declared.answers.Abort.TheVariants.{NoExecutor}
 use Rattle.sc_core.specs.declared.answers.Answer.{Answer}
 use Rattle.sc_core.specs.declared.answers.JobState.TheVariants as jobs
-use Rattle.sc_core.proofs.LeftLemmas.{Left, left_same, left_then, released_left}
+use Rattle.sc_core.proofs.LeftLemmas.{Left}
+use Rattle.sc_core.proofs.LoseLemmas.{all_left}
 use Rattle.sc_core.proofs.LossLemmas.{Loses, lost_loses}
 use Rattle.sc_lineage.specs.ScriptData.{WorkData}
 use Rattle.sc_net.specs.Reports.{ReportData}
@@ -33,12 +34,6 @@ use Rattle.sc_world.proofs.TieLemmas.{lost_tied}
 use Rattle.sc_world.proofs.TrackLemmas.{Frees, frees_itself, frees_then, released_frees}
 
 -- ---- grants that are freed
-
-all_left : (these : List AttemptId) (c : CoreData) → Left c (all_released these c)
-all_left [] c = left_same c
-all_left (a ∷ these) c =
-    left_then c (released c a endings.Failed) (all_released these (released c a endings.Failed))
-    (released_left c a endings.Failed) (all_left these (released c a endings.Failed))
 
 all_frees : (these : List AttemptId) (c : CoreData) → Frees c (all_released these c)
 all_frees [] c = frees_itself c

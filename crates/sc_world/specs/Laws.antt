@@ -1,11 +1,13 @@
 -- Laws of worlds: what holds of them after every list of steps.
-use Rattle.std.specs.Prelude.{ℕ, ◌≡◌, ◌≢◌, ◌≤◌, List, [], Option, Some, None, slice_get}
+use Rattle.std.specs.Prelude.{ℕ, ◌≡◌, ◌≢◌, ◌≤◌, List, [], ◌++◌, All, Option, Some, None, slice_get}
+use Rattle.sc_ids.specs.declared.attempts.Mark.TheVariants.{Driver}
 use Rattle.sc_ids.specs.declared.blocks.BlockId.{BlockId}
 use Rattle.sc_ids.specs.declared.blocks.Loc.{Loc}
 use Rattle.sc_lineage.specs.ScriptData.{WorkData}
 use Rattle.sc_core.specs.CoreData.{CoreData}
 use Rattle.sc_core.specs.Openings.{IsOpening}
 use Rattle.sc_core.specs.Sound.{IsSoundCore}
+use Rattle.sc_core.specs.declared.entries.Entry.{Entry}
 use Rattle.sc_jobs.specs.JobData.{saves}
 use Rattle.sc_store.specs.StoreData.{StoreData, output_in}
 use Rattle.sc_net.specs.Reports.{IsTrueReport, report_data}
@@ -18,7 +20,7 @@ use Rattle.sc_desk.specs.DeskData.{DeskData, core_of}
 use Rattle.sc_desk.specs.Dues.{IsInTime}
 use Rattle.sc_desk.specs.Posts.{IsKnown}
 use Rattle.sc_desk.specs.Sound.{IsSoundDesk}
-use Rattle.sc_world.specs.Runs.{AreReady, IsWorld, idle_world}
+use Rattle.sc_world.specs.Runs.{AreReady, IsWorld, Reaches, idle_world}
 use Rattle.sc_world.specs.Steps.{Goes}
 use Rattle.sc_world.specs.WorldData.{WorldData, core_in, held_at}
 use Rattle.sc_world.specs.declared.steps.Applied.{Applied}
@@ -70,3 +72,15 @@ ReportsAreKnown =
     (work : WorkData) (w : WorldData) (exec : ℕ) (t : TaskData) (finding : Finding)
     → IsWorld work w → held_at w exec ≡ Some (reported t finding) → IsTrueReport work t finding
     → IsKnown w.desk (report_data t finding) × IsInTime work (core_in w).told finding
+
+-- all that was entered at a desk since another one is the driver's
+abbrev pub DriverEnters : DeskData → DeskData → Type 0
+DriverEnters before after =
+    (more : List Entry) × (after.journal.entries ≡ before.journal.entries ++ more)
+    × All (λ e. e.by ≡ Driver) more
+
+-- all that steps enter is the driver's
+abbrev pub DriverEntersAll : Type 0
+DriverEntersAll =
+    (work : WorkData) (w after : WorldData) → Reaches work w after
+    → DriverEnters w.desk after.desk

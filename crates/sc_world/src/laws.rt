@@ -1,7 +1,7 @@
 //! Laws, as functions that do nothing.
 #![tactic(auto)]
 
-ghost use Rattle.sc_world.specs.Laws.{FetchesFind, MissesAreKnown, ReportsAreKnown, StepsKeepSound, WorldsBegin, WorldsLeaveReady};
+ghost use Rattle.sc_world.specs.Laws.{DriverEntersAll, FetchesFind, MissesAreKnown, ReportsAreKnown, StepsKeepSound, WorldsBegin, WorldsLeaveReady};
 ghost use Rattle.sc_world.specs.Tracks.{ReportsMoveTrackers};
 
 /// What a told report does to the tracker. A call does nothing.
@@ -19,4 +19,10 @@ pub fn worlds_stay_sound()
     ensures fetches { FetchesFind }
     ensures misses { MissesAreKnown }
     ensures reports { ReportsAreKnown }
+{}
+
+/// Whatever the steps of a world enter at its desk is entered by the driver, so the history of a job
+/// that only a world ran has no entry of an executor. A call does nothing.
+pub fn entries_are_the_drivers()
+    ensures { DriverEntersAll }
 {}

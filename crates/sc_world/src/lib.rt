@@ -31,7 +31,7 @@ mod steps;
 mod turns;
 mod worlds;
 
-pub use laws::{reports_move_trackers, worlds_stay_sound};
+pub use laws::{entries_are_the_drivers, reports_move_trackers, worlds_stay_sound};
 pub use places::AttemptState;
 pub use steps::{Applied, Kept, Step};
 pub use worlds::{NoRoom, World};

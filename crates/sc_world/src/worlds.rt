@@ -120,6 +120,14 @@ impl<W: Naming> World<W> {
         let _ = &self.held;
     }
 
+    /// The desk and the stores as they are. What executors have out is let go.
+    pub fn into_parts(self) -> (Desk<W>, Vec<Store<W>>)
+        ensures desk { result.0 ≡ self.desk }
+        ensures stores { result.1.items ≡ self.stores }
+    {
+        (self.desk, self.stores)
+    }
+
     /// How the job went, with what goes on to the next one, and the stores, which are ready for it.
     /// It takes no memory.
     pub fn close(self) -> (Closed<W>, Vec<Store<W>>)

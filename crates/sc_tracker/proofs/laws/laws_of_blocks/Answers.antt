@@ -1,4 +1,4 @@
-use Rattle.sc_tracker.proofs.BlockLemmas.{empties_all, forgets_on_one, lookups_sound, registers_one, sizes_for_all}
+use Rattle.sc_tracker.proofs.BlockLemmas.{forgets_on_one, lookups_sound, registers_one, sizes_for_all, unregisters_all}
 use Rattle.sc_tracker.proofs.laws.laws_of_blocks.Goals as goal
 
 pub returns-clause-sound : goal.returns-clause-sound
@@ -13,5 +13,5 @@ returns-clause-registered c = registers_one
 pub returns-clause-forgotten : goal.returns-clause-forgotten
 returns-clause-forgotten c = forgets_on_one
 
-pub returns-clause-emptied : goal.returns-clause-emptied
-returns-clause-emptied c = empties_all
+pub returns-clause-unregistered : goal.returns-clause-unregistered
+returns-clause-unregistered c = unregisters_all
