@@ -31,7 +31,7 @@ use Rattle.sc_core.specs.CoreData.{CoreData, result_stage}
 use Rattle.sc_core.specs.Laws.{OpeningsAreSound}
 use Rattle.sc_core.specs.Losses.{is_due_after}
 use Rattle.sc_core.specs.Openings.{plan_behind, told_before, tracker_behind}
-use Rattle.sc_core.specs.Sound.{AreTwo, IsShelvedWell, IsSoundCore, IsSoundJob, IsSoundShelf, RunsWell, is_shelved, AreOnLive, HasLive, IsLive, LeavesWell}
+use Rattle.sc_core.specs.Sound.{AreTwo, IsShelvedWell, IsSoundJob, IsSoundShelf, RunsWell, is_shelved, AreOnLive, HasLive, IsLive, LeavesWell}
 use Rattle.sc_core.proofs.StageCallLemmas.{submitted_calm}
 use Rattle.sc_core.proofs.MoveLemmas.{Calm}
 use Rattle.sc_core.proofs.StateLemmas.{runs_in}

@@ -107,7 +107,7 @@ begun_core saves plan last dag =
     core_data (told_before last) (now_before last) 0 jobs.Running None [] [] 0
     (committers_for saves dag) dag (plan_behind last plan)
 
--- A job begins behind another one or none, with this tracker in place of the one that is carried on.
+-- A job begins behind another one or none, with this tracker in place of what is carried on.
 pub record BeginsBehind (graph : List StageData) (limits : Limits) (saves : Bool)
     (plan : List PlanLine) (last : Option CoreData) (t : TrackerData) (c : CoreData) : Type 0 where
   pub stages : BeginsWith graph limits (option_map (λ l. l.dag) last) t c.dag

@@ -63,9 +63,9 @@ impl Core {
         Ok(Core { state })
     }
 
-    /// The core of a job that is run again, behind another one of the run whose outputs are gone with
-    /// their stores: nothing is registered, and all else is carried on. Some executor wasn't told
-    /// lost.
+    /// The core of a job that is run again, behind another one of the run whose outputs are gone
+    /// with their stores: nothing is registered, and all else is carried on. Some executor wasn't
+    /// told lost.
     pub fn open_again(
         alloc: Global,
         graph: &StageGraph,

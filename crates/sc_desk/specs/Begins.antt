@@ -55,8 +55,8 @@ pub record BeginsAgain (work : WorkData) (d : DeskData) (last : Option CoreData)
   pub results : after.results ≡ replicate (result_count (core_of after).dag) None
   pub shelf : after.shelf ≡ []
 
--- what a job is opened behind: the job before as it was left, or where it begins again the same with
--- nothing registered
+-- what a job is opened behind: the job before as it was left, or where it begins again the same
+-- with nothing registered
 abbrev pub left_for : Bool → Option CoreData → Option CoreData
 left_for false last = last
 left_for true last = option_map unregistered_core last
@@ -100,8 +100,8 @@ AgainIsBegun =
     → orders ≡ passed.ordered → BeginsAgain work d last orders after
     → Begins work passed (option_map unregistered_core last) goal after
 
--- what a job leaves serves the work with nothing registered as well: it fits, and the same executors
--- are live
+-- what a job leaves serves the work with nothing registered as well: it fits, and the same
+-- executors are live
 abbrev pub ServesUnregistered : Type 0
 ServesUnregistered =
     (work : WorkData) (last : Option CoreData)

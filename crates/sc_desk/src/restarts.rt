@@ -30,9 +30,9 @@ pub struct Again<W: Naming> {
 
 impl<W: Naming> Desk<W> {
     /// Gives the job up and begins it again, behind the core of the job before or none, where
-    /// somebody is live, and behind these orders. The stages are those that were planned; nothing is
-    /// registered any more, since the stores are new. How the job went is handed out in any case.
-    /// Where memory is wanting, what goes on is handed back.
+    /// somebody is live, and behind these orders. The stages are those that were planned; nothing
+    /// is registered any more, since the stores are new. How the job went is handed out in any
+    /// case. Where memory is wanting, what goes on is handed back.
     pub fn again(self, alloc: Global, last: Option<&Core>, ordered: Orders) -> Again<W>
         requires many { length ordered ≡ W.work.limits.executors }
         requires fits { FitsLast W.work (option_map (λ l. l.now) last) }

@@ -15,7 +15,7 @@ use Rattle.sc_dag.specs.Submission.{IsSubmitted, this_stage}
 use Rattle.sc_dag.proofs.Looking.{submissions_agree}
 use Rattle.sc_dag.proofs.Opening.{openings_are_sound}
 use Rattle.sc_core.specs.CoreData.{CoreData, core_data, result_stage}
-use Rattle.sc_core.specs.Openings.{IsOpening, begun_core, committers_for, now_before, plan_behind, told_before, tracker_behind}
+use Rattle.sc_core.specs.Openings.{IsOpening, begun_core, committers_for, now_before, told_before, tracker_behind}
 use Rattle.sc_core.specs.Sound.{LeavesWell}
 use Rattle.sc_core.specs.declared.answers.JobState.TheVariants as jobs
 use Rattle.sc_history.specs.Openings.{OpeningsAgree}

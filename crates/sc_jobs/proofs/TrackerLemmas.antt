@@ -11,7 +11,7 @@ use Rattle.sc_ids.specs.declared.blocks.Target.TheVariants as targets
 use Rattle.sc_lineage.specs.ScriptData.{WorkData}
 use Rattle.sc_ids.specs.Changes.{change_at}
 use Rattle.sc_ids.proofs.ChangeLemmas.{length_change_at}
-use Rattle.sc_tracker.specs.Outputs.{forgotten, forgotten_on, never, placed}
+use Rattle.sc_tracker.specs.Outputs.{forgotten_on, never, placed}
 use Rattle.sc_tracker.specs.Trust.{is_live, is_newer, lost_at, seen_at}
 use Rattle.sc_tracker.specs.Tracking.{has_room, sized, with_forgotten_on, with_placed}
 use Rattle.sc_tracker.specs.TrackerData.{ShuffleData, TrackerData, is_of, outputs_of, outputs_under, place_of, shuffle_data, tracker_data}
