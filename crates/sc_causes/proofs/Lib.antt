@@ -1,4 +1,4 @@
 mod ReadLemmas
 mod RaiseLemmas
 mod LossLemmas
-mod InputLemmas
+pub mod InputLemmas
