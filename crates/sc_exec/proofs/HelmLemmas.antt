@@ -1,14 +1,12 @@
 -- What a call leaves of a desk with its files: that of the same job.
-use Rattle.std.proofs.Common.{◌≡◌, ◌∙◌, ℕ, true, List, [], Option, Some, None, IfSome, refl, ap, sym, subst, arith, rules, true≢false, Bool, false}
+use Rattle.std.proofs.Common.{◌≡◌, ◌∙◌, ℕ, true, List, [], Option, Some, None, IfSome, refl, ap, sym, subst, arith, rules, Bool, false}
 use Rattle.sc_base.specs.Outside.{FilesState, IsLaterFiles}
 use Rattle.sc_base.specs.Trees.{Path}
 use Rattle.sc_base.proofs.ChangeLemmas.{changes-compose, changes-none}
-use Rattle.sc_lineage.specs.Actions.{ActionData}
 use Rattle.sc_lineage.specs.Saves.{dir_of_action}
-use Rattle.sc_lineage.specs.ScriptData.{WorkData}
+use Rattle.sc_lineage.specs.ScriptData.{ActionData, WorkData}
 use Rattle.sc_ids.specs.declared.attempts.AttemptId.{AttemptId}
 use Rattle.sc_ids.specs.declared.attempts.Mark.{Mark}
-use Rattle.sc_ids.specs.declared.failures.Fault.{Fault}
 use Rattle.sc_plan.specs.declared.orders.Order.{Order}
 use Rattle.sc_files.specs.Calls.{counts_of}
 use Rattle.sc_output.specs.Calls.{IsOpen}
@@ -22,17 +20,15 @@ use Rattle.sc_staging.specs.StagingData.{StagingData}
 use Rattle.sc_core.specs.CoreData.{job_runs}
 use Rattle.sc_core.specs.Saving.{is_granted, saver_phase}
 use Rattle.sc_core.specs.declared.answers.Answer.{Answer}
-use Rattle.sc_core.specs.declared.entries.Entry.{Entry}
 use Rattle.sc_core.specs.declared.events.Event.{Event}
 use Rattle.sc_core.specs.declared.events.SideEvent.TheVariants.{Ask}
 use Rattle.sc_jobs.specs.JobData.{JobData, goal_action, is_saving, saves}
-use Rattle.sc_jobs.specs.declared.goals.Goal.{Goal}
 use Rattle.sc_net.specs.Reports.{ReportData}
 use Rattle.sc_desk.specs.Asides.{Leaves, Notes}
 use Rattle.sc_desk.specs.DeskData.{DeskData, core_of}
 use Rattle.sc_desk.specs.Dues.{IsOrdered, IsOrderedIf}
 use Rattle.sc_desk.specs.Entries.{Enters}
-use Rattle.sc_desk.specs.Files.{AreCounted, CountsGoOn, FilesStand, HasReplay, deed_in, dir_of_job, fault_in, faults_of, part_texts}
+use Rattle.sc_desk.specs.Files.{AreCounted, CountsGoOn, FilesStand, HasReplay, deed_in, fault_in, faults_of, part_texts}
 use Rattle.sc_desk.specs.Posts.{Posts}
 use Rattle.sc_desk.specs.Saving.{MovesPart, StagesPart}
 use Rattle.sc_desk.specs.Sound.{IsSoundDesk}

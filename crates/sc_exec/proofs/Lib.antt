@@ -7,4 +7,5 @@ pub mod PartLemmas
 pub mod ReadingLemmas
 pub mod TurnLemmas
 pub mod VerdictLemmas
+pub mod WorkerLemmas
 pub mod WorksCross

@@ -1,5 +1,5 @@
 -- What a call at a desk leaves in the log beside it.
-use Rattle.std.proofs.Common.{ℕ, ◌≡◌, ◌∙◌, List, [], ◌∷◌, ◌++◌, ap, subst, sym, Bool, true, false, Some, true≢false}
+use Rattle.std.proofs.Common.{ℕ, ◌≡◌, ◌∙◌, List, [], ◌∷◌, ◌++◌, refl, ap, subst, sym, Bool, true, false, Some, true≢false}
 use Rattle.sc_ids.specs.declared.attempts.AttemptId.{AttemptId}
 use Rattle.sc_ids.specs.declared.attempts.Mark.TheVariants.{Exec}
 use Rattle.sc_lineage.specs.ScriptData.{WorkData}
@@ -42,7 +42,7 @@ relogged log mid then said event answer is same logged =
           ∙ ap (λ (e : Event). log.entries.items ++ entry (Exec log.exec) e answer ∷ []) is;
     }
 
-pub stages_logged : (d : DeskData) (log mid : ExecLog) (a : AttemptId) (text : List ℕ)
+pub log_stage : (d : DeskData) (log mid : ExecLog) (a : AttemptId) (text : List ℕ)
     (before behind : StagingData) (noted : Noted) (after : DeskData) (then : ExecLog)
     (entries : List Entry) → StagesPart d (Exec log.exec) a text before behind noted after
     → (answer : SideAnswer) → noted.answer ≡ answer → IsLoggedLast mid entries answer then
@@ -50,7 +50,7 @@ pub stages_logged : (d : DeskData) (log mid : ExecLog) (a : AttemptId) (text : L
     → mid.entries.items ≡ log.entries.items
     → StagesBoth (helm_data d (Some before.dir) before.files) log a text answer
     (helm_data after (Some behind.dir) behind.files) then
-stages_logged d log mid a text before behind noted after then entries stages answer same
+log_stage d log mid a text before behind noted after then entries stages answer same
     (said, last, logged) is exec items =
     record {
       dir = before.dir;
@@ -69,7 +69,7 @@ stages_logged d log mid a text before behind noted after then entries stages ans
           (last d.journal.entries _ (is ∙ stages.notes.enters.entries)) (exec, items) logged;
     }
 
-pub moves_logged : (d : DeskData) (log mid : ExecLog) (a : AttemptId)
+pub log_move : (d : DeskData) (log mid : ExecLog) (a : AttemptId)
     (before behind : StagingData) (noted : Noted) (after : DeskData) (then : ExecLog)
     (entries : List Entry) → MovesPart d (Exec log.exec) a before behind noted after
     → (answer : SideAnswer) → noted.answer ≡ answer → IsLoggedLast mid entries answer then
@@ -77,7 +77,7 @@ pub moves_logged : (d : DeskData) (log mid : ExecLog) (a : AttemptId)
     → mid.entries.items ≡ log.entries.items
     → MovesBoth (helm_data d (Some before.dir) before.files) log a answer
     (helm_data after (Some behind.dir) behind.files) then
-moves_logged d log mid a before behind noted after then entries moves answer same
+log_move d log mid a before behind noted after then entries moves answer same
     (said, last, logged) is exec items =
     record {
       dir = before.dir;
@@ -99,7 +99,7 @@ moves_logged d log mid a before behind noted after then entries moves answer sam
 same_log : (log mid then : ExecLog) → IsSameLog log mid → IsSameLog mid then → IsSameLog log then
 same_log log mid then x y = (y.0 ∙ x.0, y.1 ∙ x.1)
 
-pub posts_logged : {W : _} (work : WorkData) (d : DeskData) (log mid : ExecLog)
+pub log_post : {W : _} (work : WorkData) (d : DeskData) (log mid : ExecLog)
     (report : ReportData) (attempt : AttemptId) (outcome : Outcome) (p : Posted W)
     (delivery : Delivery W) (after : DeskData) (then : ExecLog)
     → Posts work d (Exec log.exec) report p after
@@ -107,7 +107,7 @@ pub posts_logged : {W : _} (work : WorkData) (d : DeskData) (log mid : ExecLog)
     → attempt ≡ attempt_of report → outcome ≡ outcome_of report.finding
     → mid.exec ≡ log.exec → mid.entries.items ≡ log.entries.items
     → PostsBoth work d log report delivery after then
-posts_logged {W = W} work d log mid report attempt outcome p delivery after then posts delivered
+log_post {W = W} work d log mid report attempt outcome p delivery after then posts delivered
     attempt_is outcome_is exec items =
     by p delivery posts delivered
   where
@@ -159,11 +159,11 @@ leave_answer_is d after exec noted notes = of notes.enters.step
         let same : noted.answer ≡ said = cc in
         same ∙ by (job_runs (core_of d)) said leaves
 
-pub leaves_logged : (d after : DeskData) (log then : ExecLog) (left : Bool) (answer : SideAnswer)
+pub log_leave : (d after : DeskData) (log then : ExecLog) (left : Bool) (answer : SideAnswer)
     → left ≡ true → Leaves d log.exec left after → answer ≡ leave_answer (core_of d)
     → IsLogged log (events.Side (Leave log.exec)) (says.Side answer) then
     → LeavesBoth d log true after then
-leaves_logged d after log then true answer is (stayed, (noted, notes)) told logged = (
+log_leave d after log then true answer is (stayed, (noted, notes)) told logged = (
   stayed,
   noted,
   notes,
@@ -175,4 +175,4 @@ leaves_logged d after log then true answer is (stayed, (noted, notes)) told logg
         (told ∙ sym (leave_answer_is d after log.exec noted notes));
   },
 )
-leaves_logged d after log then false answer is leaves told logged = absurd (true≢false (sym is))
+log_leave d after log then false answer is leaves told logged = absurd (true≢false (sym is))

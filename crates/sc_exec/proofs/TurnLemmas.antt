@@ -1,5 +1,6 @@
 -- What a log tells once it has one entry more.
-use Rattle.std.proofs.Common.{ℕ, ◌≡◌, ◌∙◌, ◌==◌, ◌&&◌, ◌||◌, All, Bool, true, false, List, [], ◌∷◌, ◌++◌, Option, Some, None, refl, ap, sym, subst, arith, nat_tests}
+use Rattle.std.proofs.Common.{ℕ, ◌≡◌, ◌∙◌, ◌==◌, ◌&&◌, ◌||◌, All, Bool, true, false, List, [], ◌∷◌, ◌++◌, Option, Some, None, Result, Ok, Err, IfOk, OnErr, OnOk, refl, ap, sym, subst, arith}
+use Rattle.std.proofs.lemmas.Bool.Decides.{nat_tests}
 use Rattle.std.proofs.lemmas.List.Elements.{All-weaker}
 use Rattle.sc_ids.specs.declared.attempts.AttemptId.{AttemptId}
 use Rattle.sc_ids.specs.declared.attempts.Mark.TheVariants.{Exec}
@@ -25,7 +26,7 @@ use Rattle.sc_desk.specs.declared.takes.Taken.{Taken}
 use Rattle.sc_desk.specs.declared.takes.Taken.TheVariants as takes
 use Rattle.sc_logs.specs.Folds.{asked, asks_as, given, has_asked_as, has_left, is_leave, last_take, owed_after, owing}
 use Rattle.sc_exec.specs.Lefts.{IsAtWork, WasTold}
-use Rattle.sc_exec.specs.Logging.{IsLogged, IsSameLog, TakesBoth}
+use Rattle.sc_exec.specs.Logging.{IsLogged, IsSameLog, LosesBoth, ReleasesBoth, TakesBoth}
 use Rattle.sc_exec.specs.Turns.{IsTold, LiesOrLay}
 use Rattle.sc_logs.specs.declared.logs.ExecLog.{ExecLog}
 use Rattle.sc_logs.proofs.FoldLemmas.{asks_more, last_take_more, left_more, owed_more}
@@ -112,3 +113,29 @@ works_same log then owed same w =
       asks = ap (λ (exec : ℕ). has_asked_as exec then.entries.items) same.0
           ∙ ap (has_asked_as log.exec) same.1 ∙ w.asks;
     }
+
+-- ---- calls that may be refused
+
+-- what came of telling a loss leaves an executor at work
+pub loses_on : {T E : Type 0} (d after : DeskData) (log then : ExecLog) (exec : ℕ)
+    (came : Result T E) → IsAtWork [] log → OnOk came (LosesBoth d log exec after then)
+    → OnErr came (IsSameLog log then) → IsAtWork [] then
+loses_on d after log then exec (Ok x) w (receipt, loses, logged) same =
+    works_on log then (events.TellLost exec) receipt.answer [] logged refl refl w
+loses_on d after log then exec (Err e) w lost same = works_same log then [] same w
+
+-- and what came of telling a report
+pub releases_on : {T E : Type 0} (d after : DeskData) (log then : ExecLog) (key : ℕ)
+    (came : Result T E) → IsAtWork [] log → OnOk came (ReleasesBoth d log key after then)
+    → OnErr came (IsSameLog log then) → IsAtWork [] then
+releases_on d after log then key (Ok x) w (receipt, releases, logged) same =
+    works_on log then (events.Release key) receipt.answer [] logged refl refl w
+releases_on d after log then key (Err e) w released same = works_same log then [] same w
+
+-- and of asking for a task
+pub told_if : {W : _} {E : Type 0} (d after : DeskData) (log then : ExecLog) (job : JobData)
+    (came : Result (Taken W) E) → d.job ≡ job → IsSoundCore (core_of d) → IsAtWork [] log
+    → IfOk came (λ t. TakesBoth d log t after then) → IfOk came (λ t. IsTold job t then)
+told_if d after log then job (Ok t) same sound w takes =
+    told_so d after log then job t same sound w takes
+told_if d after log then job (Err e) same sound w takes = takes

@@ -168,7 +168,7 @@ fn finish<W: Naming, J: Opening, F: Files, R: Wait>(
 }
 
 /// An attempt of a save has its part written at the desk.
-#[tactic(auto, using(crate::proofs::OwedLemmas::stages_owed, crate::proofs::PartLemmas::part_text))]
+#[tactic(auto, using(crate::proofs::OwedLemmas::stages_owed))]
 fn stage<W: Naming, J: Opening, F: Files, R: Wait>(
     rt: &R,
     alloc: Global,
@@ -203,7 +203,6 @@ fn stage<W: Naming, J: Opening, F: Files, R: Wait>(
 }
 
 /// An attempt of a save asks at the desk whether it may commit.
-#[tactic(auto, using(crate::proofs::OwedLemmas::asks_owed))]
 fn ask<W: Naming, J: Opening, F: Files, R: Wait>(
     rt: &R,
     driver: &Driver<W, J, F>,

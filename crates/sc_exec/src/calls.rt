@@ -34,6 +34,7 @@ pub enum Delivery<W: Naming> {
 
 impl<W: Naming, J: Opening, F: Files> Helm<W, J, F> {
     /// An executor asks for a task, and logs what it was answered. A refused call changes nothing.
+    #[tactic(auto, using(crate::proofs::HelmLemmas::job_same))]
     pub fn take(&mut self, log: &mut ExecLog) -> Result<Taken<W>, AllocError>
         requires room { HasRoom log.old }
         ensures taken { IfOk result
@@ -57,7 +58,7 @@ impl<W: Naming, J: Opening, F: Files> Helm<W, J, F> {
 
     /// An executor posts a report, and logs what it was answered. One that is handed back isn't
     /// logged. A refused call changes nothing and hands the report back.
-    #[tactic(auto, using(crate::proofs::LogLemmas::posts_logged))]
+    #[tactic(auto, using(crate::proofs::LogLemmas::log_post, crate::proofs::HelmLemmas::job_same))]
     pub fn post(
         &mut self,
         log: &mut ExecLog,
@@ -78,10 +79,8 @@ impl<W: Naming, J: Opening, F: Files> Helm<W, J, F> {
         let by = Mark::Exec(log.exec);
         let attempt = report.attempt();
         let outcome = report.outcome();
-        match self.desk.post(by, report) {
-            Ok(posted) => Ok(delivered(log, Event::Post { attempt, outcome }, posted)),
-            Err(failed) => Err(failed),
-        }
+        let posted = self.desk.post(by, report)?;
+        Ok(delivered(log, Event::Post { attempt, outcome }, posted))
     }
 }
 

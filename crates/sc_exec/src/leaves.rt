@@ -18,7 +18,7 @@ use sc_work::Naming;
 impl<W: Naming, J: Opening, F: Files> Helm<W, J, F> {
     /// An executor of the work that can't go on leaves the job, and logs what it was answered. It
     /// takes no memory. False comes exactly where it left before, and then nothing changes.
-    #[tactic(auto, using(crate::proofs::LogLemmas::leaves_logged))]
+    #[tactic(auto, using(crate::proofs::LogLemmas::log_leave, crate::proofs::HelmLemmas::job_same))]
     pub fn leave(&mut self, log: &mut ExecLog) -> bool
         requires known { log.old.exec < W.work.limits.executors }
         requires room { HasRoom log.old }
@@ -40,7 +40,7 @@ impl<W: Naming, J: Opening, F: Files> Helm<W, J, F> {
 
     /// The order of the fault plan that comes next, if one is due while the job runs. It counts as
     /// handed out from now on.
-    #[tactic(auto, using(crate::proofs::LogLemmas::ordered_opened))]
+    #[tactic(auto, using(crate::proofs::HelmLemmas::job_ordered))]
     pub fn due_order(&mut self) -> Option<Order>
         ensures ordered { IsOrdered W.work self.old.desk result self.new.desk }
         ensures files { KeepsFiles self.old self.new }

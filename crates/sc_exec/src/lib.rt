@@ -12,10 +12,10 @@
 //! has each call as a relation from both to both.
 //!
 //! [`work_job`] has a thread for each [`Worker`]. They share a [`Driver`], which is the locked helm
-//! with its bell, and the stores, each behind a lock of its own. Turn by turn an executor tells what
-//! is due, gets an order or a task and does it ([`work_loop`]); what it reads and leaves lies in
-//! stores, and only what it reports, or the part of a save, goes to the desk. At the end its log
-//! tells why it takes no more tasks ([`Left`]), and [`judge`] says by all of them how the job went.
+//! with its bell, and the stores, each behind a lock of its own. Turn by turn an executor tells
+//! what is due, gets an order or a task and does it ([`work_loop`]); what it reads and leaves lies
+//! in stores, and only what it reports, or the part of a save, goes to the desk. At the end its log
+//! tells why it takes no more tasks ([`Left`]), and [`judge`] says by all how the job went.
 //!
 //! `proofs/Crossing.antt` shows that threads may share a driver, and stores behind locks, for any
 //! work: down to rows and values, whose types know nothing of threads. Below lie `sc_desk`,

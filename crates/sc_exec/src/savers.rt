@@ -23,6 +23,7 @@ use std::alloc::{AllocError, Global};
 impl<W: Naming, J: Opening, F: Files> Helm<W, J, F> {
     /// An attempt of an executor asks whether it may commit, and what it was answered is logged. A
     /// refused call changes nothing.
+    #[tactic(auto, using(crate::proofs::HelmLemmas::job_same))]
     pub fn ask(&mut self, log: &mut ExecLog, attempt: AttemptId) -> Result<SideAnswer, AllocError>
         requires room { HasRoom log.old }
         ensures asked { IfOk result

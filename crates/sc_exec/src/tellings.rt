@@ -22,6 +22,7 @@ use sc_work::Naming;
 impl<W: Naming, J: Opening, F: Files> Helm<W, J, F> {
     /// An executor has the report under a key told, and logs what it was answered. A fault says
     /// that there is no such report. A refused call changes nothing.
+    #[tactic(auto, using(crate::proofs::HelmLemmas::job_same))]
     pub fn release(&mut self, log: &mut ExecLog, key: u32) -> Result<(), OrMemory<NotEnabled>>
         requires room { HasRoom log.old }
         ensures released { OnOk result
@@ -46,6 +47,7 @@ impl<W: Naming, J: Opening, F: Files> Helm<W, J, F> {
 
     /// An executor has another one told lost, or itself, and logs what it was answered. A fault
     /// says that it may not be told so. A refused call changes nothing.
+    #[tactic(auto, using(crate::proofs::HelmLemmas::job_same))]
     pub fn tell_lost(&mut self, log: &mut ExecLog, exec: ExecId) -> Result<(), OrMemory<NotEnabled>>
         requires room { HasRoom log.old }
         ensures lost { OnOk result

@@ -83,7 +83,6 @@ impl<W: Naming, J: Opening, F: Files> Helm<W, J, F> {
     }
 
     /// Tells a loss, where it may be told.
-    #[tactic(auto, using(crate::proofs::TurnLemmas::works_on, crate::proofs::TurnLemmas::works_same))]
     fn lose(&mut self, log: &mut ExecLog, exec: ExecId) -> Result<(), AllocError>
         requires room { HasRoom log.old }
         requires works { IsAtWork [] log.old }
@@ -98,7 +97,6 @@ impl<W: Naming, J: Opening, F: Files> Helm<W, J, F> {
     }
 
     /// Tells a report that was to be told later, where there is one of this key.
-    #[tactic(auto, using(crate::proofs::TurnLemmas::works_on, crate::proofs::TurnLemmas::works_same))]
     fn hand_on(&mut self, log: &mut ExecLog, key: u32) -> Result<(), AllocError>
         requires room { HasRoom log.old }
         requires works { IsAtWork [] log.old }
@@ -113,7 +111,7 @@ impl<W: Naming, J: Opening, F: Files> Helm<W, J, F> {
     }
 
     /// An executor asks for a task.
-    #[tactic(auto, using(crate::proofs::TurnLemmas::told_so, crate::proofs::TurnLemmas::works_same))]
+    #[tactic(auto, using(crate::proofs::TurnLemmas::works_same))]
     fn request(&mut self, log: &mut ExecLog) -> Result<Taken<W>, AllocError>
         requires room { HasRoom log.old }
         requires works { IsAtWork [] log.old }

@@ -3,6 +3,12 @@ use denote.Param.Send.{param_sync, arg_sync, shr_slice_sync, shr_sync}
 use Rattle.std.proofs.sync.Mutex.TheSendSync as mutex
 use Rattle.sc_exec.proofs.Crossing.{driver_sync, five_sync, global_sync}
 use Rattle.sc_exec.proofs.JobsCross.{store_send}
+use Rattle.std.proofs.Common.{All, List, arith, subst, sym}
+use Rattle.sc_exec.specs.Workers.{AreInPlace, HasCause}
+use Rattle.sc_exec.specs.Working.{IsFresh}
+use Rattle.sc_exec.specs.declared.workers.Worker.{Worker}
+use Rattle.sc_exec.proofs.WorkerLemmas.{worked_at, worked_causes, worked_places}
+use Rattle.sc_exec.proofs.threads.work_job_of.Goals.{then-many-gt0, else-many-gt0}
 use Rattle.sc_exec.proofs.threads.work_job_of.Goals as goal
 
 pub for_each_mut-requires-sync-F : goal.for_each_mut-requires-sync-F
@@ -14,3 +20,34 @@ for_each_mut-requires-sync-F g c κs within =
     c.type_bounds.send-J c.type_bounds.send-F))
     (shr_slice_sync _ _ _ (mutex.the_sync _ (store_send _ g.W.Naming c.type_bounds.send-W)))
     (shr_sync _ _ _ c.type_bounds.sync-G)))
+
+pub for_each_mut-requires-clause-accepts : goal.for_each_mut-requires-clause-accepts
+for_each_mut-requires-clause-accepts g c κs within = λ i p lt at.
+    subst (λ (w : Worker). IsFresh g.W.Naming.work.limits.executors w) (sym at)
+    (c.requires.fresh i p.now lt)
+
+pub returns-clause-worked : goal.returns-clause-worked
+returns-clause-worked g c =
+    elim c.if-many-gt0.branch [
+      | then-many-gt0 w ↦ subst (λ (ws : List Worker). All HasCause ws) (sym w.workers-is)
+          (worked_causes c.args.workers.now w.for_each_mut.new.s w.for_each_mut.auto.s
+          (λ i d lt. let at = (w.for_each_mut.ensures i d lt).1 in
+          worked_at _ _ at.argument.now at.after_call.now at.argument_is at.left at.call))
+      | else-many-gt0 w ↦ λ k d lt.
+          absurd (omega (arith, lt, c.if-many-gt0.auto.workers, w.if-many-gt0.false))
+    ]
+
+pub returns-clause-places : goal.returns-clause-places
+returns-clause-places g c =
+    elim c.if-many-gt0.branch [
+      | then-many-gt0 w ↦ subst
+          (λ (ws : List Worker). AreInPlace g.W.Naming.work.limits.executors ws)
+          (sym w.workers-is)
+          (worked_places c.args.workers.now w.for_each_mut.new.s w.for_each_mut.auto.s
+          (λ i d lt. let at = (w.for_each_mut.ensures i d lt).1 in
+          worked_at _ _ at.argument.now at.after_call.now at.argument_is at.left at.call)
+          g.W.Naming.work.limits.executors c.requires.places)
+      | else-many-gt0 w ↦ subst
+          (λ (ws : List Worker). AreInPlace g.W.Naming.work.limits.executors ws)
+          (sym w.workers-is) c.requires.places
+    ]
