@@ -1,5 +1,5 @@
 -- The laws of worlds.
-use Rattle.std.proofs.Common.{◌≡◌, ℕ, zero, suc, All, [], Contains, None, IfSome, replicate, ap, sym, subst, ◌∙◌}
+use Rattle.std.proofs.Common.{ℕ, zero, suc, All, [], Contains, None, IfSome, replicate, ap, sym, subst, ◌∙◌}
 use Rattle.std.proofs.lemmas.List.{length-replicate}
 use Rattle.std.proofs.lemmas.List.Elements.{All-contains, All-nil}
 use Rattle.sc_base.specs.Lists.{at_or}

@@ -21,8 +21,8 @@ pub fn worlds_stay_sound()
     ensures reports { ReportsAreKnown }
 {}
 
-/// Whatever the steps of a world enter at its desk is entered by the driver, so the history of a job
-/// that only a world ran has no entry of an executor. A call does nothing.
+/// Whatever the steps of a world enter at its desk is entered by the driver, so the history of a
+/// job that only a world ran has no entry of an executor. A call does nothing.
 pub fn entries_are_the_drivers()
     ensures { DriverEntersAll }
 {}
