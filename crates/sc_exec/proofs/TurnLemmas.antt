@@ -1,5 +1,5 @@
 -- What a log tells once it has one entry more.
-use Rattle.std.proofs.Common.{ℕ, ◌≡◌, ◌∙◌, ◌==◌, ◌&&◌, ◌||◌, All, Bool, true, false, List, [], ◌∷◌, ◌++◌, Option, Some, None, Result, Ok, Err, IfOk, OnErr, OnOk, refl, ap, sym, subst, arith}
+use Rattle.std.proofs.Common.{ℕ, ◌≡◌, ◌∙◌, ◌==◌, ◌&&◌, ◌||◌, All, Bool, true, false, List, [], ◌∷◌, Some, None, Result, Ok, Err, IfOk, OnErr, OnOk, refl, ap, sym, subst, arith}
 use Rattle.std.proofs.lemmas.Bool.Decides.{nat_tests}
 use Rattle.std.proofs.lemmas.List.Elements.{All-weaker}
 use Rattle.sc_ids.specs.declared.attempts.AttemptId.{AttemptId}
@@ -24,7 +24,7 @@ use Rattle.sc_desk.specs.DeskData.{DeskData, core_of}
 use Rattle.sc_desk.specs.Takes.{IsTaken}
 use Rattle.sc_desk.specs.declared.takes.Taken.{Taken}
 use Rattle.sc_desk.specs.declared.takes.Taken.TheVariants as takes
-use Rattle.sc_logs.specs.Folds.{asked, asks_as, given, has_asked_as, has_left, is_leave, last_take, owed_after, owing}
+use Rattle.sc_logs.specs.Folds.{asks_as, given, has_asked_as, has_left, is_leave, last_take, owed_after, owing}
 use Rattle.sc_exec.specs.Lefts.{IsAtWork, WasTold}
 use Rattle.sc_exec.specs.Logging.{IsLogged, IsSameLog, LosesBoth, ReleasesBoth, TakesBoth}
 use Rattle.sc_exec.specs.Turns.{IsTold, LiesOrLay}

@@ -1,28 +1,24 @@
 -- How a job went, by the logs of its executors and why each takes no more tasks.
-use Rattle.std.proofs.Common.{◌≡◌, ◌∙◌, ◌⊎◌, inl, inr, ◌↔◌, ℕ, zero, suc, ◌<◌, ◌==◌, ◌||◌, All, Bool, true, false, IsTrue, List, [], ◌∷◌, Contains, None, length, map, refl, ap, sym, subst, arith, true≢false}
+use Rattle.std.proofs.Common.{◌≡◌, ◌∙◌, ◌⊎◌, inl, inr, ◌↔◌, ℕ, zero, suc, ◌<◌, ◌==◌, ◌||◌, All, Bool, true, false, IsTrue, List, [], ◌∷◌, Contains, length, refl, ap, sym, subst, arith, true≢false}
 use Rattle.std.specs.List.{list_any, slice_index_or}
 use Rattle.std.proofs.lemmas.Bool.Decides.{nat_tests}
 use Rattle.std.proofs.lemmas.List.Elements.{All-cons, All-head, All-map, All-tail}
-use Rattle.sc_ids.specs.declared.attempts.Mark.TheVariants.{Exec}
 use Rattle.sc_lineage.specs.ScriptData.{WorkData}
-use Rattle.sc_core.specs.CoreData.{CoreData, job_runs}
+use Rattle.sc_core.specs.CoreData.{job_runs}
 use Rattle.sc_core.specs.declared.entries.Entry.{Entry}
-use Rattle.sc_core.specs.declared.events.Event.{Event}
-use Rattle.sc_core.specs.declared.events.Event.TheVariants.{Side}
-use Rattle.sc_core.specs.declared.events.SideEvent.TheVariants.{Leave}
 use Rattle.sc_dag.proofs.Tests.{clash}
 use Rattle.sc_desk.specs.DeskData.{DeskData, core_of}
 use Rattle.sc_desk.specs.Files.{HasReplay}
 use Rattle.sc_desk.specs.Leaving.{IsOwnLeave, leaves}
 use Rattle.sc_desk.specs.Sound.{IsSoundDesk}
-use Rattle.sc_exec.specs.Lefts.{IsAtWork, IsCause, WasTold}
+use Rattle.sc_exec.specs.Lefts.{IsCause}
 use Rattle.sc_exec.specs.Verdicts.{AreLogged, IsGivenUp, gives_up, is_no_memory, wants_memory}
 use Rattle.sc_exec.specs.Workers.{AreInPlace, HasCause, lefts_of, logs_of}
 use Rattle.sc_exec.specs.declared.lefts.Left.{Left}
 use Rattle.sc_exec.specs.declared.lefts.Left.TheVariants as lefts
 use Rattle.sc_exec.specs.declared.workers.Worker.{Worker}
 use Rattle.sc_logs.specs.Endings.{HaveLogs, IsWorkedOut, LeavesItself, WorkedJobsHaveEnded}
-use Rattle.sc_logs.specs.Logs.{IsLogIn, is_by, is_drivers, is_known}
+use Rattle.sc_logs.specs.Logs.{IsLogIn, is_by, is_known}
 use Rattle.sc_logs.specs.declared.logs.ExecLog.{ExecLog}
 
 -- ---- logs

@@ -1,9 +1,8 @@
 -- Why an executor takes no more tasks, as its log tells.
-use Rattle.std.specs.Prelude.{◌≡◌, ◌<◌, true, false, List, [], Option, Some, None}
+use Rattle.std.specs.Prelude.{◌≡◌, ◌<◌, true, false, List, [], Some, None}
 use Rattle.sc_ids.specs.declared.attempts.AttemptId.{AttemptId}
 use Rattle.sc_core.specs.declared.answers.Answer.{Answer}
 use Rattle.sc_core.specs.declared.answers.Answer.TheVariants as says
-use Rattle.sc_core.specs.declared.entries.Entry.{Entry}
 use Rattle.sc_logs.specs.Folds.{has_asked_as, has_left, last_take, owed_after}
 use Rattle.sc_exec.specs.declared.lefts.Left.{Left}
 use Rattle.sc_exec.specs.declared.lefts.Left.TheVariants as lefts
