@@ -1,7 +1,7 @@
 #!/usr/bin/env python3
 """Runs random scripts under random fault plans, and compares with the plain meaning.
 
-    tools/fuzz.py PROGRAM [--seed SEED] [--count COUNT] [--keep FOLDER] [--show]
+    tools/fuzz.py PROGRAM [--seed SEED] [--count COUNT] [--mutate] [--keep FOLDER] [--show]
 
 PROGRAM is a built one, such as crates/spark_run/out/spark_run. A case is made of each of the seeds
 SEED, SEED + 1 and so on: a script with inputs, a plan, and words that set executors and limits, the
@@ -20,6 +20,12 @@ it means. Must hold:
 - words, a script, a plan or an input that was spoiled: exactly its refusal, and nothing printed;
 - no other status, no signal, and no run of more than LIMIT seconds.
 
+With --mutate the script, the plan or an input is spoiled: its bytes are flipped, cut, doubled or
+spliced. tools/fuzzing/reader.py then says by the document which fault of which line comes, or what
+the script has become, which must print what it means. No such run may take more than a second of
+the processor. One whose text would be too large to compare has to end with a status of a run, and
+one that would leave its folder isn't run.
+
 Prints a paragraph for each case that differs, with its seed, and at the end how many cases ended
 with which status. Ends with 1 where one differs. With --keep the files of such a case are left in
 FOLDER/SEED, and with --show each case is printed, whatever comes.
@@ -28,6 +34,7 @@ import argparse
 import collections
 import pathlib
 import re
+import resource
 import shlex
 import subprocess
 import sys
@@ -35,12 +42,15 @@ import tempfile
 from dataclasses import dataclass, field
 
 from fuzzing.cases import Case, random_case
+from fuzzing.mutations import Unjudged, mutated_case
 
 # The directories that stand, with the bytes of their files.
 Folders = dict[str, dict[str, bytes]]
 
 LIMIT = 60
+MOST_SECONDS = 1
 NO_END = 124
+RAN = (0, 6, 7, 8, 9, 10)
 SHOWN = 600
 ABORTS = {
     6: re.compile(r"task limit: stage (\d+) attempt (\d+) partition (\d+)\n"),
@@ -51,12 +61,13 @@ ABORTS = {
 
 @dataclass(frozen=True)
 class Ran:
-    """How a run ended, and what it printed."""
+    """How a run ended, what it printed, and how many seconds of the processor it took."""
 
     status: int
     out: str
     err: str
     saved: Folders = field(default_factory=dict)
+    seconds: float = 0
 
 
 def put_files(case: Case, folder: pathlib.Path) -> None:
@@ -78,8 +89,15 @@ def folders_in(top: pathlib.Path) -> Folders:
     return found
 
 
+def seconds_of_runs() -> float:
+    """How many seconds of the processor all runs took that have ended."""
+    used = resource.getrusage(resource.RUSAGE_CHILDREN)
+    return used.ru_utime + used.ru_stime
+
+
 def run(program: pathlib.Path, case: Case) -> Ran:
     """Runs a case in a folder of its own."""
+    before = seconds_of_runs()
     with tempfile.TemporaryDirectory() as scratch:
         put_files(case, pathlib.Path(scratch))
         command = [str(program), "run", *case.words]
@@ -96,7 +114,7 @@ def run(program: pathlib.Path, case: Case) -> Ran:
             return Ran(NO_END, "", f"no end within {LIMIT} seconds")
         saved = folders_in(pathlib.Path(scratch))
     out, err = (text.decode(errors="replace") for text in (ran.stdout, ran.stderr))
-    return Ran(ran.returncode, out, err, saved)
+    return Ran(ran.returncode, out, err, saved, seconds_of_runs() - before)
 
 
 def saved_by(case: Case, done: int) -> Folders:
@@ -157,6 +175,8 @@ def wrong(case: Case, ran: Ran) -> str:
     if case.refusal is not None:
         is_told = (ran.status, ran.err, ran.out) == (*case.refusal, "")
         return wrong_folders(case, ran, []) if is_told else f"the refusal isn't {case.refusal}"
+    if case.is_large:
+        return "" if ran.status in RAN else "no script that has no fault ends so"
     texts, outcomes = texts_of(case), case.script.outcomes
     last = outcomes[len(texts)] if len(texts) < len(outcomes) else None
     doom = case.doom() if outcomes and not outcomes[0].is_taken else None
@@ -190,33 +210,53 @@ def shown(case: Case) -> str:
     return "\n".join(parts)
 
 
-def main() -> int:
+def words_of_main() -> argparse.Namespace:
     parser = argparse.ArgumentParser(
         description=__doc__, formatter_class=argparse.RawDescriptionHelpFormatter
     )
     parser.add_argument("program", type=pathlib.Path)
     parser.add_argument("--seed", type=int, default=0)
     parser.add_argument("--count", type=int, default=100)
+    parser.add_argument("--mutate", action="store_true")
     parser.add_argument("--keep", type=pathlib.Path)
     parser.add_argument("--show", action="store_true")
-    words = parser.parse_args()
-    counts: collections.Counter[int] = collections.Counter()
+    return parser.parse_args()
+
+
+def tell(seed: int, case: Case, ran: Ran, found: str) -> None:
+    """Prints a case and how it ended."""
+    print(f"seed {seed}: status {ran.status}: {found or 'as it should be'}\n{shown(case)}")
+    print(f"-- standard output\n{ran.out[:SHOWN]}\n-- standard error\n{ran.err[:SHOWN]}")
+
+
+def main() -> int:
+    words = words_of_main()
+    by_status: collections.Counter[int] = collections.Counter()
+    by_fault: collections.Counter[str] = collections.Counter()
     differ = 0
     for seed in range(words.seed, words.seed + words.count):
-        case = random_case(seed)
+        try:
+            case = mutated_case(seed) if words.mutate else random_case(seed)
+        except Unjudged:
+            continue
         ran = run(words.program.resolve(), case)
-        counts[ran.status] += 1
         found = wrong(case, ran)
+        if words.mutate and ran.seconds > MOST_SECONDS:
+            found = found or f"it took {ran.seconds:.1f} seconds"
+        by_status[ran.status] += 1
+        if ran.status in (3, 4):
+            by_fault[re.sub(": line [0-9]+:", "", ran.err.strip())] += 1
         if found or words.show:
-            print(f"seed {seed}: status {ran.status}: {found or 'as it should be'}\n{shown(case)}")
-            print(f"-- standard output\n{ran.out[:SHOWN]}\n-- standard error\n{ran.err[:SHOWN]}")
+            tell(seed, case, ran, found)
         if found:
             differ += 1
             if words.keep:
                 put_files(case, words.keep / str(seed))
-    by_status = ", ".join(f"{status}: {counts[status]}" for status in sorted(counts))
-    print(f"seeds {words.seed} to {words.seed + words.count - 1}, by status {by_status}")
-    print(f"{words.count} cases, {differ} differ")
+    counted = ", ".join(f"{status}: {by_status[status]}" for status in sorted(by_status))
+    print(f"seeds {words.seed} to {words.seed + words.count - 1}, by status {counted}")
+    if words.mutate:
+        print(", ".join(f"{fault}: {by_fault[fault]}" for fault in sorted(by_fault)))
+    print(f"{by_status.total()} cases, {differ} differ")
     return 1 if differ else 0
 
 

@@ -43,7 +43,8 @@ BAD_WORDS = (("--executors", "65"), ("--executors=0",), ("--cache", "0"), ("--ta
 
 @dataclass
 class Case:
-    """What a run gets, and the status and error of its refusal, if it has a fault."""
+    """What a run gets, and the status and error of its refusal, if it has a fault. What the actions
+    of a large one give isn't known."""
 
     script: Script
     limits: dict[str, int]
@@ -51,6 +52,7 @@ class Case:
     words: list[str] = field(default_factory=list)
     files: dict[str, bytes] = field(default_factory=dict)
     refusal: tuple[int, str] | None = None
+    is_large: bool = False
 
     def fails_at(self, stage: int, partition: int) -> int:
         """How many attempts at a partition fail by the plan."""
