@@ -10,6 +10,8 @@
 #include <stdint.h>
 #include <stdio.h>
 #include <stdlib.h>
+#include <sys/syscall.h>
+#include <unistd.h>
 
 extern void *__libc_malloc(size_t);
 extern void *__libc_realloc(void *, size_t);
@@ -42,6 +44,13 @@ __attribute__((destructor)) static void stop(void) {
     fprintf(file, "%lu\n", count);
     fclose(file);
   }
+}
+
+/* The end of a program that calls no destructors. */
+void _exit(int status) {
+  stop();
+  syscall(SYS_exit_group, status);
+  __builtin_unreachable();
 }
 
 /* Whether a call from here is the one to refuse. */
