@@ -8,8 +8,9 @@ import re
 from collections.abc import Callable
 
 from fuzzing.cases import Case, random_case
+from fuzzing.grammar import ACTIONS, DEFINITIONS, HEADS, Fault
 from fuzzing.meaning import Outcome, Streams, outcome_of, streams_of
-from fuzzing.reader import ACTIONS, DEFINITIONS, HEADS, Fault, Read, plan_of, script_of
+from fuzzing.reader import Read, plan_of, script_of
 from fuzzing.values import TooLarge
 
 ODD_BYTES = b'()="\\# \t\r\n\0\x1b\x7f\x80\xc3\xed\xff-+*/%<_09xa,'

@@ -11,7 +11,8 @@ import time
 from collections.abc import Iterator
 
 import check_cases
-from fuzzing.reader import Fault, plan_of, script_of
+from fuzzing.grammar import Fault
+from fuzzing.reader import plan_of, script_of
 from hostile.runs import NOBODY, Ended, Place, differs
 
 TOP = pathlib.Path(__file__).resolve().parents[2]

@@ -18,6 +18,7 @@ count c
 TEXT = b"(b,2)\n(a,1)\n2\n"
 FULL = b"write failed\n"
 KIB = 1_024
+NEAR, FAR = 32 * KIB, 400 * KIB
 LONG_ROWS = " ".join(str(number) for number in range(10_000, 10_064))
 LONG_TEXT = LONG_ROWS.replace(" ", "\n").encode() + b"\n"
 
@@ -151,12 +152,18 @@ def is_killed(ended: Ended, way: signal.Handlers) -> bool:
     return way == signal.SIG_DFL and ended.status == -signal.SIGXFSZ
 
 
-def least_memory(place: Place) -> int:
-    """The least number of megabytes in which a run without words comes to its end."""
-    for size in range(2, 2_000):
-        if place.run(memory=size * KIB).status == 2:
-            return size
-    raise RuntimeError("no memory is enough")
+def sizes(place: Place) -> Iterator[int]:
+    """Kibibytes of memory: from the least in which a run without words comes to its end, close
+    together where a small run needs them, and then up to much more."""
+    least = next((it for it in range(2 * KIB, 99 * KIB, KIB) if is_enough(place, it)), None)
+    if least is None:
+        raise RuntimeError("no memory is enough")
+    yield from range(least, least + NEAR, NEAR // (4 * place.rounds))
+    yield from range(least + NEAR, least + FAR, 50 * KIB)
+
+
+def is_enough(place: Place, memory: int) -> bool:
+    return place.run(memory=memory).status == 2
 
 
 def is_want(ended: Ended) -> bool:
@@ -169,25 +176,23 @@ def little_memory_is_told(place: Place) -> Iterator[str]:
     word_count(place)
     place.put("in.txt", "b a\nb\n" * 50_000)
     text = b"(b,100000)\n(a,50000)\n2\n"
-    least = least_memory(place)
-    for size in [*range(least, least + 12), *range(least + 12, least + 400, 400 // place.rounds)]:
+    for size in sizes(place):
         for executors in ("1", "4"):
-            words = "run", "job.spark", "--executors", executors
-            ended = place.run(*words, memory=size * KIB)
+            ended = place.run("run", "job.spark", "--executors", executors, memory=size)
             if not (is_want(ended) and ended.out in (b"", text[:-2])):
-                yield from differs(f"{size} MB, {executors} executors", ended, 0, text)
+                yield from differs(f"{size} KiB, {executors} executors", ended, 0, text)
 
 
 def little_memory_in_a_save_is_told(place: Place) -> Iterator[str]:
     """What stands then is what a save may leave."""
     place.put("in.txt", "7\n" * 200_000)
     place.put("saving.spark", 'l = text "in.txt" 8\nm = map l (concat x "!")\nsave m "out"\n')
-    parts, least = [b"7!\n" * 25_000] * 8, least_memory(place)
-    for size in [*range(least, least + 12), *range(least + 12, least + 400, 400 // place.rounds)]:
-        ended = place.run("run", "saving.spark", "--executors", "4", memory=size * KIB)
+    parts = [b"7!\n" * 25_000] * 8
+    for size in sizes(place):
+        ended = place.run("run", "saving.spark", "--executors", "4", memory=size)
         if is_want(ended) and not ended.out:
             yield from wrong_end(place.folder / "out", parts)
         else:
-            yield from differs(f"{size} MB", ended, 0)
+            yield from differs(f"{size} KiB", ended, 0)
             yield from wrong_parts(place.folder / "out", parts)
         shutil.rmtree(place.folder / "out", ignore_errors=True)

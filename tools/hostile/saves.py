@@ -14,6 +14,7 @@ from hostile.runs import NOBODY, Ended, Place, Running, differs
 STAGED = re.compile(r"([sc])-(\d+)-(\d+)-(\d+)-(\d+)")
 PART = re.compile(r"part-(\d{5})")
 MANY = 48
+HEEDED = signal.SIGTERM, signal.SIGINT, signal.SIGHUP
 
 
 def parts_of(count: int) -> list[bytes]:
@@ -106,15 +107,21 @@ def await_moment(running: Running, out: pathlib.Path, length: float) -> None:
         pass
 
 
+def heed() -> None:
+    """Lets signals end the process, also where whoever started this ignores them."""
+    for number in HEEDED:
+        signal.signal(number, signal.SIG_DFL)
+
+
 def a_signal_leaves_no_success_over_missing_parts(place: Place) -> Iterator[str]:
     """Whenever it comes. What stands is whole, or something that a save which ends early leaves,
     and the next run refuses it where a directory is there."""
     place.put("saving.spark", saving(MANY))
     words = "run", "saving.spark", "--executors", "4"
     length = seconds_of(place, *words)
-    for number in (signal.SIGTERM, signal.SIGKILL, signal.SIGINT):
+    for number in (*HEEDED, signal.SIGKILL):
         for _ in range(place.rounds):
-            running = place.start(*words)
+            running = place.start(*words, before=heed)
             await_moment(running, place.folder / "out", length)
             running.signal(number)
             ended = place.ended(running)
