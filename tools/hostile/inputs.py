@@ -1,11 +1,10 @@
 """Files that are none, or that change while they are read, and scripts that break a limit."""
-import contextlib
 import os
 import pathlib
 import random
 import re
 import signal
-import socket
+import stat
 import threading
 import time
 from collections.abc import Iterator
@@ -37,8 +36,7 @@ def odd_files(place: Place) -> Iterator[tuple[str, str]]:
     """Names where no file can be read, each with what is told of it."""
     folder = place.folder
     (folder / "folder").mkdir()
-    with contextlib.closing(socket.socket(socket.AF_UNIX)) as bound:
-        bound.bind(str(folder / "socket"))
+    os.mknod(folder / "socket", stat.S_IFSOCK | 0o666)
     (folder / "loop").symlink_to("loop")
     (folder / "to_nothing").symlink_to("nothing")
     place.put("file", LINES)
