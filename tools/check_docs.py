@@ -13,7 +13,8 @@ Prints one line a place, 'FILE:LINE: what is wrong', and ends with 1 where it fo
 - a crate of 300 lines of code or more without a README.md, and such a page that doesn't begin with
   the crate's name, has more than 40 lines or one past 100 columns;
 - a link in a document to a file or a heading that isn't there;
-- a heading of level 2 in docs/GUIDE.md that its table of contents lacks, or has in another order;
+- a heading of level 2 in docs/GUIDE.md or docs/COOKBOOK.md that the table of contents there lacks,
+  or has in another order;
 - a block of code whose first line names a file (```rust crates/..) and whose lines don't stand in
   that file, one behind the other; a line '// ..' in the block stands for any number of lines;
 - a group or a crate of crates.txt that ARCHITECTURE.md or README.md lacks;
@@ -63,7 +64,7 @@ LINK = re.compile(r"\]\(([^)\s]+)\)")
 HEADING = re.compile(r"#+ (.*)")
 QUOTE = re.compile(r"```\w+ (crates/\S+)")
 LEFT_OUT = "// .."
-CONTENTS_PAGE = "docs/GUIDE.md"
+CONTENTS_PAGES = ("docs/GUIDE.md", "docs/COOKBOOK.md")
 CODE_LINES = 300
 PAGE_LINES = 40
 COLUMNS = 100
@@ -270,17 +271,18 @@ def link_faults(files: Files) -> Iterator[Fault]:
 
 
 def contents_faults(files: Files) -> Iterator[Fault]:
-    lines = [line for _, line in prose(files.get(CONTENTS_PAGE, ""))]
-    wanted = [f"- [{it[3:]}](#{anchor(it[3:])})" for it in lines if it.startswith("## ")]
-    listed = [it for it in lines if it.startswith("- [") and "](#" in it]
-    for want in wanted:
-        if want not in listed:
-            yield CONTENTS_PAGE, 1, f"the table of contents lacks {want}"
-    if sorted(wanted) == sorted(listed) and wanted != listed:
-        yield CONTENTS_PAGE, 1, "the table of contents has another order"
-    for it in listed:
-        if it not in wanted:
-            yield CONTENTS_PAGE, 1, f"the table of contents has a line too many, {it}"
+    for page in CONTENTS_PAGES:
+        lines = [line for _, line in prose(files.get(page, ""))]
+        wanted = [f"- [{it[3:]}](#{anchor(it[3:])})" for it in lines if it.startswith("## ")]
+        listed = [it for it in lines if it.startswith("- [") and "](#" in it]
+        for want in wanted:
+            if want not in listed:
+                yield page, 1, f"the table of contents lacks {want}"
+        if sorted(wanted) == sorted(listed) and wanted != listed:
+            yield page, 1, "the table of contents has another order"
+        for it in listed:
+            if it not in wanted:
+                yield page, 1, f"the table of contents has a line too many, {it}"
 
 
 def runs_of(block: list[str]) -> Iterator[list[str]]:

@@ -1,6 +1,6 @@
 #!/usr/bin/env bash
 # Runs each example and compares what it does with what its folder says, and then the examples of
-# the guide, the cases of cases/, and the checks of tools/check_hostile.py.
+# the guide and the cookbook, the cases of cases/, and the checks of tools/check_hostile.py.
 #
 #   tools/check_examples.sh
 #

@@ -1,6 +1,6 @@
 #!/usr/bin/env python3
-"""Runs the examples of README.md, docs/GUIDE.md and docs/FORMATS.md, and compares what they print
-with what the pages say.
+"""Runs the examples of README.md, docs/GUIDE.md, docs/COOKBOOK.md and docs/FORMATS.md, and compares
+what they print with what the pages say.
 
     tools/check_guide.py [PAGE..]
 
@@ -34,7 +34,7 @@ FAULT_ROW = re.compile(r"\| (`.*`) \| line (\d+), `(\w+)`")
 CAT = re.compile(r"\$ cat (\S+)$")
 CELL = re.compile(r"`([^`]*)`")
 VARIABLE = re.compile(r"\bx\b(?=[ )]|$)")
-PAGES = ("README.md", "docs/GUIDE.md", "docs/FORMATS.md")
+PAGES = ("README.md", "docs/GUIDE.md", "docs/COOKBOOK.md", "docs/FORMATS.md")
 LIMIT = 60
 
 
