@@ -44,10 +44,11 @@ driver_sync W J F g o f s t u =
 pub global_sync : IsSync global.the_row
 global_sync = search (crosses, sendable) depth 60 fits 20000
 
--- five values that a closure captures
-pub five_sync : (n : List ℕ) (A B C D E : RattleType) → IsSync A → IsSync B → IsSync C → IsSync D
-    → IsSync E → IsSync (TupleAt n (A ∷ B ∷ C ∷ D ∷ E ∷ []))
-five_sync n A B C D E a b c d e =
-    recorded_sync (field_at n (A ∷ B ∷ C ∷ D ∷ E ∷ [])).row _ _
-    (type_at n (A ∷ B ∷ C ∷ D ∷ E ∷ [])).to_one
-    (struct_sync (shape (type_at n (A ∷ B ∷ C ∷ D ∷ E ∷ []))) (a, (b, (c, (d, (e, tt))))))
+-- six values that a closure captures
+pub six_sync : (n : List ℕ) (A B C D E F : RattleType) → IsSync A → IsSync B → IsSync C
+    → IsSync D → IsSync E → IsSync F → IsSync (TupleAt n (A ∷ B ∷ C ∷ D ∷ E ∷ F ∷ []))
+six_sync n A B C D E F a b c d e f =
+    recorded_sync (field_at n (A ∷ B ∷ C ∷ D ∷ E ∷ F ∷ [])).row _ _
+    (type_at n (A ∷ B ∷ C ∷ D ∷ E ∷ F ∷ [])).to_one
+    (struct_sync (shape (type_at n (A ∷ B ∷ C ∷ D ∷ E ∷ F ∷ [])))
+    (a, (b, (c, (d, (e, (f, tt)))))))

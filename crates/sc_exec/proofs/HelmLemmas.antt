@@ -21,7 +21,7 @@ use Rattle.sc_core.specs.CoreData.{job_runs}
 use Rattle.sc_core.specs.Saving.{is_granted, saver_phase}
 use Rattle.sc_core.specs.declared.answers.Answer.{Answer}
 use Rattle.sc_core.specs.declared.events.Event.{Event}
-use Rattle.sc_core.specs.declared.events.SideEvent.TheVariants.{Ask}
+use Rattle.sc_core.specs.declared.events.SideEvent.TheVariants.{Ask, Tick}
 use Rattle.sc_jobs.specs.JobData.{JobData, goal_action, is_saving, saves}
 use Rattle.sc_net.specs.Reports.{ReportData}
 use Rattle.sc_desk.specs.Asides.{Leaves, Notes}
@@ -125,6 +125,13 @@ pub job_asks : (work : WorkData) (o : OpeningData) (d after : DeskData) (dir : O
     → Notes d by (Ask a) noted after → IsJobOf work o (helm_data d dir files)
     → IsJobOf work o (helm_data after dir files)
 job_asks work o d after dir files by a noted notes is =
+    entered work o d after dir files by _ _ notes.enters refl refl is
+
+pub job_ticks : (work : WorkData) (o : OpeningData) (d after : DeskData) (dir : Option Path)
+    (files : FilesState) (by : Mark) (now : ℕ) (noted : Noted)
+    → Notes d by (Tick now) noted after → IsJobOf work o (helm_data d dir files)
+    → IsJobOf work o (helm_data after dir files)
+job_ticks work o d after dir files by now noted notes is =
     entered work o d after dir files by _ _ notes.enters refl refl is
 
 pub job_leaves : (work : WorkData) (o : OpeningData) (d after : DeskData) (dir : Option Path)

@@ -1,6 +1,7 @@
 -- What a call at a desk leaves in the log beside it.
-use Rattle.std.proofs.Common.{ℕ, ◌≡◌, ◌∙◌, List, [], ◌∷◌, ◌++◌, refl, ap, subst, sym, Bool, true, false, Some, true≢false}
+use Rattle.std.proofs.Common.{ℕ, ◌≡◌, ◌<◌, ◌∙◌, List, [], ◌∷◌, ◌++◌, refl, ap, subst, sym, Bool, true, false, Some, true≢false}
 use Rattle.sc_ids.specs.declared.attempts.AttemptId.{AttemptId}
+use Rattle.sc_ids.specs.declared.attempts.Mark.{Mark}
 use Rattle.sc_ids.specs.declared.attempts.Mark.TheVariants.{Exec}
 use Rattle.sc_lineage.specs.ScriptData.{WorkData}
 use Rattle.sc_staging.specs.StagingData.{StagingData}
@@ -15,6 +16,8 @@ use Rattle.sc_core.specs.declared.events.Event.{Event}
 use Rattle.sc_core.specs.declared.events.Event.TheVariants as events
 use Rattle.sc_core.specs.declared.events.Outcome.{Outcome}
 use Rattle.sc_net.specs.Reports.{ReportData, outcome_of}
+use Rattle.sc_net.specs.declared.findings.Finding.{Finding}
+use Rattle.sc_net.specs.declared.findings.Finding.TheVariants as findings
 use Rattle.sc_core.specs.declared.events.SideEvent.TheVariants.{Leave}
 use Rattle.sc_desk.specs.Asides.{Leaves, Notes}
 use Rattle.sc_desk.specs.DeskData.{DeskData, core_of}
@@ -25,9 +28,10 @@ use Rattle.sc_desk.specs.declared.posts.Posted.{Posted}
 use Rattle.sc_desk.specs.declared.posts.Posted.TheVariants as posteds
 use Rattle.sc_desk.specs.declared.receipts.Noted.{Noted}
 use Rattle.sc_exec.specs.Helms.{helm_data}
-use Rattle.sc_exec.specs.Logging.{IsDelivered, IsLogged, IsLoggedLast, IsSameLog, LeavesBoth, MovesBoth, PostsBoth, StagesBoth, leave_answer, leave_answer_if}
+use Rattle.sc_exec.specs.Logging.{IsDelivered, IsEarlyFor, IsLogged, IsLoggedLast, IsPossible, IsSameLog, LeavesBoth, MovesBoth, PostsBoth, StagesBoth, TellsEarly, leave_answer, leave_answer_if}
 use Rattle.sc_exec.specs.declared.calls.Delivery.{Delivery}
 use Rattle.sc_exec.specs.declared.calls.Delivery.TheVariants as deliveries
+use Rattle.sc_exec.specs.declared.calls.TooEarly.{TooEarly}
 use Rattle.sc_logs.specs.declared.logs.ExecLog.{ExecLog}
 
 -- an entry of a log with the same entries, under another name of its event
@@ -99,6 +103,39 @@ log_move d log mid a before behind noted after then entries moves answer same
 same_log : (log mid then : ExecLog) → IsSameLog log mid → IsSameLog mid then → IsSameLog log then
 same_log log mid then x y = (y.0 ∙ x.0, y.1 ∙ x.1)
 
+-- why a report is refused as early, by what it tells
+early_for : (work : WorkData) (told : ℕ) (finding : Finding) (due : ℕ) (early : TooEarly)
+    → IsEarly work told finding due → TellsEarly finding due early
+    → IsEarlyFor work told finding early
+early_for work told (findings.Gone exec wanted found) due early (due_is, less)
+    (exec_is, found_is, same) =
+    record {
+      is_early = (
+        same ∙ due_is,
+        subst (λ (n : ℕ). n < found) (sym same) less,
+      );
+      tells = (exec_is, found_is, refl);
+      before = subst (λ (n : ℕ). n < early.found) (sym same)
+          (subst (λ (n : ℕ). due < n) (sym found_is) less);
+    }
+early_for work told (findings.Map loc) due early bad tells = absurd bad
+early_for work told (findings.Result given) due early bad tells = absurd bad
+early_for work told findings.Planned due early bad tells = absurd bad
+early_for work told (findings.Raised raise) due early bad tells = absurd bad
+early_for work told (findings.Metadata last) due early bad tells = absurd bad
+early_for work told (findings.Device fault) due early bad tells = absurd bad
+early_for work told findings.Denied due early bad tells = absurd bad
+
+-- only an early report is handed back so
+pub possible : {W : _} (work : WorkData) (d : DeskData) (by : Mark) (report : ReportData)
+    (p : Posted W) (after : DeskData) → Posts work d by report p after → IsPossible work p
+possible work d by report (posteds.Receipt receipt) after posts = tt
+possible work d by report (posteds.Stranger back) after posts = tt
+possible work d by report (posteds.Early back due) after (known, early, back_is, stays) = (
+  (core_of d).told,
+  subst (λ (r : ReportData). IsEarly work (core_of d).told r.finding due) (sym back_is) early,
+)
+
 pub log_post : {W : _} (work : WorkData) (d : DeskData) (log mid : ExecLog)
     (report : ReportData) (attempt : AttemptId) (outcome : Outcome) (p : Posted W)
     (delivery : Delivery W) (after : DeskData) (then : ExecLog)
@@ -125,17 +162,19 @@ log_post {W = W} work d log mid report attempt outcome p delivery after then pos
       h,
       relogged log mid then _ _ receipt.answer event_is (exec, items) l,
     )
-    by (posteds.Stranger back) (deliveries.Stranger given) (unknown, back_is, stays)
-        (same, logged) = (
+    by (posteds.Stranger back) (deliveries.Stranger given refused) (unknown, back_is, stays)
+        (same, attempt, logged) = (
           unknown,
+          attempt ∙ ap attempt_of back_is,
           same ∙ back_is,
           stays,
           same_log log mid then (exec, items) logged,
         )
-    by (posteds.Early back wipes) (deliveries.Early given due) (known, early, back_is, stays)
-        (same, due_is, logged) = (
+    by (posteds.Early back due) (deliveries.Early given early) (known, is_early, back_is, stays)
+        (same, tells, logged) = (
           known,
-          subst (λ (n : ℕ). IsEarly work (core_of d).told report.finding n) (sym due_is) early,
+          early_for work (core_of d).told report.finding due early is_early
+              (subst (λ (r : ReportData). TellsEarly r.finding due early) back_is tells),
           same ∙ back_is,
           stays,
           same_log log mid then (exec, items) logged,

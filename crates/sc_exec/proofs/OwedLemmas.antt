@@ -98,9 +98,9 @@ pub leaves_cause : (d after : DeskData) (log then : ExecLog) (gone : Bool) (left
 leaves_cause d after log then gone (lefts.Busy held) (told, owes) leaves =
     let still = told_still d after log then gone leaves in
     (still.0 ∙ told, still.1 ∙ owes)
-leaves_cause d after log then gone (lefts.Early found due) less leaves = less
-leaves_cause d after log then gone lefts.Stranger reason leaves = tt
-leaves_cause d after log then gone (lefts.Absent loc) reason leaves = tt
+leaves_cause d after log then gone (lefts.Early early) less leaves = less
+leaves_cause d after log then gone (lefts.Stranger stranger) reason leaves = tt
+leaves_cause d after log then gone (lefts.Absent absence) reason leaves = tt
 leaves_cause d after log then gone lefts.NoMemory reason leaves = tt
 leaves_cause d after log then gone lefts.JobEnded reason leaves = absurd reason
 leaves_cause d after log then gone (lefts.Stopped exec) reason leaves = absurd reason

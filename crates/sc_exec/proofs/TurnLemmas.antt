@@ -16,6 +16,7 @@ use Rattle.sc_core.specs.declared.answers.Answer.TheVariants as says
 use Rattle.sc_core.specs.declared.entries.Entry.{Entry}
 use Rattle.sc_core.specs.declared.events.Event.{Event}
 use Rattle.sc_core.specs.declared.events.Event.TheVariants as events
+use Rattle.sc_core.specs.declared.events.SideEvent.TheVariants.{Tick}
 use Rattle.sc_jobs.specs.JobData.{JobData}
 use Rattle.sc_net.specs.Tasks.{TaskData}
 use Rattle.sc_causes.specs.Inputs.{IsThereOrLost}
@@ -26,7 +27,7 @@ use Rattle.sc_desk.specs.declared.takes.Taken.{Taken}
 use Rattle.sc_desk.specs.declared.takes.Taken.TheVariants as takes
 use Rattle.sc_logs.specs.Folds.{asks_as, given, has_asked_as, has_left, is_leave, last_take, owed_after, owing}
 use Rattle.sc_exec.specs.Lefts.{IsAtWork, WasTold}
-use Rattle.sc_exec.specs.Logging.{IsLogged, IsSameLog, LosesBoth, ReleasesBoth, TakesBoth}
+use Rattle.sc_exec.specs.Logging.{IsLogged, IsSameLog, LosesBoth, ReleasesBoth, TakesBoth, TicksBoth}
 use Rattle.sc_exec.specs.Turns.{IsTold, LiesOrLay}
 use Rattle.sc_logs.specs.declared.logs.ExecLog.{ExecLog}
 use Rattle.sc_logs.proofs.FoldLemmas.{asks_more, last_take_more, left_more, owed_more}
@@ -131,6 +132,14 @@ pub releases_on : {T E : Type 0} (d after : DeskData) (log then : ExecLog) (key 
 releases_on d after log then key (Ok x) w (receipt, releases, logged) same =
     works_on log then (events.Release key) receipt.answer [] logged refl refl w
 releases_on d after log then key (Err e) w released same = works_same log then [] same w
+
+-- and of having the time entered
+pub ticks_on : {T E : Type 0} (d after : DeskData) (log then : ExecLog) (now : ℕ)
+    (came : Result T E) → IsAtWork [] log → OnOk came (TicksBoth d log now after then)
+    → OnErr came (IsSameLog log then) → IsAtWork [] then
+ticks_on d after log then now (Ok x) w (noted, notes, logged) same =
+    works_on log then (events.Side (Tick now)) (says.Side noted.answer) [] logged refl refl w
+ticks_on d after log then now (Err e) w ticked same = works_same log then [] same w
 
 -- and of asking for a task
 pub told_if : {W : _} {E : Type 0} (d after : DeskData) (log then : ExecLog) (job : JobData)

@@ -4,7 +4,7 @@ use Rattle.std.specs.List.{list_any, slice_index_or}
 use Rattle.std.proofs.lemmas.Bool.Decides.{nat_tests}
 use Rattle.std.proofs.lemmas.List.Elements.{All-cons, All-head, All-map, All-tail}
 use Rattle.sc_lineage.specs.ScriptData.{WorkData}
-use Rattle.sc_core.specs.CoreData.{job_runs}
+use Rattle.sc_core.specs.CoreData.{CoreData, job_runs}
 use Rattle.sc_core.specs.declared.entries.Entry.{Entry}
 use Rattle.sc_dag.proofs.Tests.{clash}
 use Rattle.sc_desk.specs.DeskData.{DeskData, core_of}
@@ -12,7 +12,7 @@ use Rattle.sc_desk.specs.Files.{HasReplay}
 use Rattle.sc_desk.specs.Leaving.{IsOwnLeave, leaves}
 use Rattle.sc_desk.specs.Sound.{IsSoundDesk}
 use Rattle.sc_exec.specs.Lefts.{IsCause}
-use Rattle.sc_exec.specs.Verdicts.{AreLogged, IsGivenUp, gives_up, is_no_memory, wants_memory}
+use Rattle.sc_exec.specs.Verdicts.{AreLogged, IsGivenUp, RunsOn, gives_up, is_no_memory, wants_memory}
 use Rattle.sc_exec.specs.Workers.{AreInPlace, HasCause, lefts_of, logs_of}
 use Rattle.sc_exec.specs.declared.lefts.Left.{Left}
 use Rattle.sc_exec.specs.declared.lefts.Left.TheVariants as lefts
@@ -86,9 +86,9 @@ worked_out w cause = by w.left cause
     by lefts.Lost (told, works) memory stays =
         record { last = inr (inr told); asks = works.asks; stays = works.stays }
     by (lefts.Busy held) why memory stays = absurd (true≢false stays)
-    by lefts.Stranger why memory stays = absurd (true≢false stays)
-    by (lefts.Early found due) why memory stays = absurd (true≢false stays)
-    by (lefts.Absent loc) why memory stays = absurd (true≢false stays)
+    by (lefts.Stranger stranger) why memory stays = absurd (true≢false stays)
+    by (lefts.Early early) why memory stays = absurd (true≢false stays)
+    by (lefts.Absent absence) why memory stays = absurd (true≢false stays)
     by lefts.NoMemory why memory stays = absurd (true≢false memory)
 
 -- one of some executors met what can't be
@@ -132,9 +132,10 @@ pub runs_on : (work : WorkData) (d : DeskData) (workers : List Worker) → Worke
     → IsSoundDesk work d → HasReplay d → All IsOwnLeave d.journal.entries
     → All HasCause workers → AreInPlace work.limits.executors workers
     → AreLogged d.journal.entries workers → wants_memory workers ≡ false
-    → job_runs (core_of d) ≡ true → IsGivenUp d.journal.entries workers
+    → job_runs (core_of d) ≡ true
+    → IsGivenUp d.journal.entries workers × RunsOn (core_of d) d.journal.entries workers
 runs_on work d workers law sound replay own causes places logged memory runs =
-    by (all_or_one workers causes memory)
+    (by (all_or_one workers causes memory), λ h. (memory, runs))
   where
     by : All IsWorkedOut (logs_of workers) ⊎ GivesUp workers
         → IsGivenUp d.journal.entries workers
@@ -144,3 +145,9 @@ runs_on work d workers law sound replay own causes places logged memory runs =
         sound.opened.left_first replay (leaves_itself d.journal.entries own) logged
         (have_logs work d workers sound places) all))
     by (inr one) = inr one
+
+-- a job whose logs don't agree is one to be given up
+pub unlogged : (c : CoreData) (entries : List Entry) (workers : List Worker)
+    → (AreLogged entries workers → ⊥)
+    → IsGivenUp entries workers × RunsOn c entries workers
+unlogged c entries workers not_logged = (inl not_logged, λ h. absurd (not_logged h))

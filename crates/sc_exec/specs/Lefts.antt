@@ -20,15 +20,15 @@ pub record IsAtWork (owed : List AttemptId) (log : ExecLog) : Type 0 where
   pub asks : has_asked_as log.exec log.entries.items ≡ true
 
 -- The cause of each end. There was no more to do for it, and it stayed to the end; or it had a task
--- out, though none of its attempts was owed a report; or what it met was a stranger, early or
--- absent, or memory ran out.
+-- out, though none of its attempts was owed a report; or it met a stranger, an early report or an
+-- absence, which only the call makes that meets it; or memory ran out.
 abbrev pub IsCause : Left → ExecLog → Type 0
 IsCause lefts.JobEnded log = WasTold says.Ended log × IsAtWork [] log
 IsCause (lefts.Stopped exec) log = WasTold (says.Stopped exec) log × IsAtWork [] log
 IsCause lefts.Lost log = WasTold says.Lost log × IsAtWork [] log
 IsCause (lefts.Busy held) log =
     WasTold (says.Busy held) log × (owed_after [] log.entries.items ≡ [])
-IsCause (lefts.Early found due) log = due < found
-IsCause lefts.Stranger log = Unit {0}
-IsCause (lefts.Absent loc) log = Unit {0}
+IsCause (lefts.Early early) log = early.due < early.found
+IsCause (lefts.Stranger stranger) log = Unit {0}
+IsCause (lefts.Absent absence) log = Unit {0}
 IsCause lefts.NoMemory log = Unit {0}

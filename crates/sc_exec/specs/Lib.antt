@@ -1,8 +1,10 @@
+pub mod Fetching
 pub mod Helms
 pub mod Lefts
 pub mod Logging
 pub mod Openings
 pub mod Performing
+pub mod Places
 pub mod Turns
 pub mod Verdicts
 pub mod Workers

@@ -14,8 +14,10 @@ use Rattle.sc_core.specs.declared.answers.SideAnswer.TheVariants as sides
 use Rattle.sc_core.specs.declared.entries.Entry.{Entry}
 use Rattle.sc_core.specs.declared.events.Event.{Event}
 use Rattle.sc_core.specs.declared.events.Event.TheVariants as events
-use Rattle.sc_core.specs.declared.events.SideEvent.TheVariants.{Ask, Leave, Move, Stage}
+use Rattle.sc_core.specs.declared.events.SideEvent.TheVariants.{Ask, Leave, Move, Stage, Tick}
 use Rattle.sc_net.specs.Reports.{ReportData, outcome_of}
+use Rattle.sc_net.specs.declared.findings.Finding.{Finding}
+use Rattle.sc_net.specs.declared.findings.Finding.TheVariants as findings
 use Rattle.sc_desk.specs.Asides.{Notes}
 use Rattle.sc_desk.specs.DeskData.{DeskData, core_of}
 use Rattle.sc_desk.specs.Dues.{IsEarly}
@@ -32,6 +34,7 @@ use Rattle.sc_desk.specs.declared.takes.Taken.{Taken}
 use Rattle.sc_exec.specs.Helms.{HelmData}
 use Rattle.sc_exec.specs.declared.calls.Delivery.{Delivery}
 use Rattle.sc_exec.specs.declared.calls.Delivery.TheVariants as deliveries
+use Rattle.sc_exec.specs.declared.calls.TooEarly.{TooEarly}
 use Rattle.sc_logs.specs.declared.logs.ExecLog.{ExecLog}
 
 -- ---- logs
@@ -60,14 +63,41 @@ abbrev pub IsLoggedLast : ExecLog → List Entry → SideAnswer → ExecLog → 
 IsLoggedLast log entries answer then =
     (event : Event) × IsLastEvent entries event × IsLogged log event (says.Side answer) then
 
+-- ---- reports that are refused as early
+
+-- a finding speaks of a generation that no wipe had brought, where so many wipes were due
+abbrev pub IsTooEarly : WorkData → Finding → ℕ → Type 0
+IsTooEarly work finding due = (told : ℕ) × IsEarly work told finding due
+
+-- what is posted is handed back as early only where it is
+abbrev pub IsPossible : {W : _} → WorkData → Posted W → Type 0
+IsPossible work (posteds.Receipt receipt) = Unit {0}
+IsPossible work (posteds.Stranger report) = Unit {0}
+IsPossible work (posteds.Early report due) = IsTooEarly work report.finding due
+
+-- it tells what was found at which executor, and how many wipes were due
+abbrev pub TellsEarly : Finding → ℕ → TooEarly → Type 0
+TellsEarly (findings.Gone exec wanted found) due early =
+    (early.exec ≡ exec) × (early.found ≡ found) × (early.due ≡ due)
+TellsEarly finding due early = ⊥
+
+-- a report is refused for such a finding
+pub record IsEarlyFor (work : WorkData) (told : ℕ) (finding : Finding) (early : TooEarly)
+    : Type 0 where
+  pub is_early : IsEarly work told finding early.due
+  pub tells : TellsEarly finding early.due early
+  pub before : early.due < early.found
+
+-- ---- what is logged of a report
+
 -- what becomes of a report that was posted in an event: one that is received is logged
 abbrev pub IsDelivered : {W : _} → ExecLog → Event → Posted W → Delivery W → ExecLog → Type 0
 IsDelivered log event (posteds.Receipt receipt) deliveries.Received then =
     IsLogged log event receipt.answer then
-IsDelivered log event (posteds.Stranger report) (deliveries.Stranger back) then =
-    (back ≡ report) × IsSameLog log then
-IsDelivered log event (posteds.Early report wipes) (deliveries.Early back due) then =
-    (back ≡ report) × (due ≡ wipes) × IsSameLog log then
+IsDelivered log event (posteds.Stranger report) (deliveries.Stranger back refused) then =
+    (back ≡ report) × (refused.attempt ≡ attempt_of report) × IsSameLog log then
+IsDelivered log event (posteds.Early report due) (deliveries.Early back early) then =
+    (back ≡ report) × TellsEarly report.finding due early × IsSameLog log then
 IsDelivered log event posted delivery then = ⊥
 
 -- ---- calls: each makes one entry, which the log has too
@@ -84,10 +114,11 @@ abbrev pub PostsBoth : {W : _} → WorkData → DeskData → ExecLog → ReportD
 PostsBoth work d log report deliveries.Received after then =
     (receipt : Receipt) × Receives work d (Exec log.exec) report receipt after
     × IsLogged log (events.Post (attempt_of report) (outcome_of report.finding)) receipt.answer then
-PostsBoth work d log report (deliveries.Stranger back) after then =
-    (IsKnown d report → ⊥) × (back ≡ report) × (after ≡ d) × IsSameLog log then
-PostsBoth work d log report (deliveries.Early back due) after then =
-    IsKnown d report × IsEarly work (core_of d).told report.finding due × (back ≡ report)
+PostsBoth work d log report (deliveries.Stranger back refused) after then =
+    (IsKnown d report → ⊥) × (refused.attempt ≡ attempt_of report) × (back ≡ report)
+    × (after ≡ d) × IsSameLog log then
+PostsBoth work d log report (deliveries.Early back early) after then =
+    IsKnown d report × IsEarlyFor work (core_of d).told report.finding early × (back ≡ report)
     × (after ≡ d) × IsSameLog log then
 
 -- it has a report told that was to be told later
@@ -101,6 +132,12 @@ abbrev pub LosesBoth : DeskData → ExecLog → ℕ → DeskData → ExecLog →
 LosesBoth d log exec after then =
     (receipt : Receipt) × TellsLost d (Exec log.exec) exec receipt after
     × IsLogged log (events.TellLost exec) receipt.answer then
+
+-- it has the time entered
+abbrev pub TicksBoth : DeskData → ExecLog → ℕ → DeskData → ExecLog → Type 0
+TicksBoth d log now after then =
+    (noted : Noted) × Notes d (Exec log.exec) (Tick now) noted after
+    × IsLogged log (events.Side (Tick now)) (says.Side noted.answer) then
 
 -- its attempt asks whether it may commit
 abbrev pub AsksBoth : DeskData → ExecLog → AttemptId → SideAnswer → DeskData → ExecLog → Type 0

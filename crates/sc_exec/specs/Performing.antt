@@ -14,12 +14,13 @@ use Rattle.sc_exec.specs.declared.performing.Got.TheVariants as got
 use Rattle.sc_exec.specs.declared.performing.Prepared.{Prepared}
 use Rattle.sc_exec.specs.declared.performing.Prepared.TheVariants as prepared
 
--- what keeps an executor from going on with a task that it has: what it meets, and nothing that it
--- was told at a Take
+-- What keeps an executor from going on with a task that it has: what it meets, and nothing that it
+-- was told at a Take. A stranger, an early report and an absence are made by the call alone that
+-- meets them (`Logging.antt`, `Fetching.antt`, `Places.antt`).
 abbrev pub IsHindrance : Left → Type 0
-IsHindrance lefts.Stranger = Unit {0}
-IsHindrance (lefts.Early found due) = due < found
-IsHindrance (lefts.Absent loc) = Unit {0}
+IsHindrance (lefts.Stranger stranger) = Unit {0}
+IsHindrance (lefts.Early early) = early.due < early.found
+IsHindrance (lefts.Absent absence) = Unit {0}
 IsHindrance lefts.NoMemory = Unit {0}
 IsHindrance left = ⊥
 

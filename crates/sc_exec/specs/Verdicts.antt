@@ -19,9 +19,9 @@ is_no_memory left = false
 -- an executor met what can't be, so that its job has to be given up
 abbrev pub gives_up : Left → Bool
 gives_up (lefts.Busy held) = true
-gives_up lefts.Stranger = true
-gives_up (lefts.Early found due) = true
-gives_up (lefts.Absent loc) = true
+gives_up (lefts.Stranger stranger) = true
+gives_up (lefts.Early early) = true
+gives_up (lefts.Absent absence) = true
 gives_up left = false
 
 -- of one executor or more memory ran out
@@ -38,11 +38,17 @@ IsGivenUp entries workers =
     (AreLogged entries workers → ⊥)
     ⊎ ((left : Left) × Contains (lefts_of workers) left × (gives_up left ≡ true))
 
--- How a job went. Where the logs agree with its entries, memory ran out, or it has ended; else it
--- is given up.
+-- where the logs agree with a job's entries, memory sufficed and it runs on
+abbrev pub RunsOn : CoreData → List Entry → List Worker → Type 0
+RunsOn core entries workers =
+    AreLogged entries workers → (wants_memory workers ≡ false) × (job_runs core ≡ true)
+
+-- How a job went, exactly: where the logs agree with its entries, memory ran out, or else it has
+-- ended; and where neither is so it is given up, for one of its reasons.
 abbrev pub IsVerdict : CoreData → List Entry → List Worker → Verdict → Type 0
 IsVerdict core entries workers verdicts.Ended =
     AreLogged entries workers × (wants_memory workers ≡ false) × (job_runs core ≡ false)
 IsVerdict core entries workers verdicts.NoMemory =
     AreLogged entries workers × (wants_memory workers ≡ true)
-IsVerdict core entries workers verdicts.GivenUp = IsGivenUp entries workers
+IsVerdict core entries workers verdicts.GivenUp =
+    IsGivenUp entries workers × RunsOn core entries workers

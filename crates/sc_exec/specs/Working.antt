@@ -1,14 +1,11 @@
 -- What an executor leaves that works turn by turn.
 use Rattle.std.specs.Prelude.{ℕ, ◌≡◌, ◌<◌, List, [], ◌∷◌}
 use Rattle.sc_ids.specs.declared.attempts.AttemptId.{AttemptId}
-use Rattle.sc_lineage.specs.ScriptData.{WorkData}
 use Rattle.sc_core.specs.declared.answers.Answer.TheVariants as says
 use Rattle.sc_core.specs.declared.answers.SideAnswer.{SideAnswer}
 use Rattle.sc_core.specs.declared.answers.SideAnswer.TheVariants.{Over}
 use Rattle.sc_logs.specs.Folds.{owed_after}
 use Rattle.sc_logs.specs.declared.logs.ExecLog.{ExecLog}
-use Rattle.sc_net.specs.declared.findings.Finding.{Finding}
-use Rattle.sc_desk.specs.Dues.{IsEarly}
 use Rattle.sc_exec.specs.Lefts.{IsAtWork, IsCause, WasTold}
 use Rattle.sc_exec.specs.Logging.{HasRoom}
 use Rattle.sc_exec.specs.Performing.{IsHindrance}
@@ -26,10 +23,6 @@ use Rattle.sc_exec.specs.declared.workers.Worker.{Worker}
 abbrev pub owed_by : AttemptId → SideAnswer → List AttemptId
 owed_by a Over = []
 owed_by a said = a ∷ []
-
--- a finding speaks of a generation that no wipe had brought, where so many wipes were due
-abbrev pub IsTooEarly : WorkData → Finding → ℕ → Type 0
-IsTooEarly work finding due = (told : ℕ) × IsEarly work told finding due
 
 -- ---- turns
 

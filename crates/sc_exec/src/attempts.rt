@@ -9,19 +9,19 @@ ghost use Rattle.sc_exec.specs.Lefts.{IsAtWork};
 ghost use Rattle.sc_exec.specs.Logging.{HasRoom};
 ghost use Rattle.sc_exec.specs.Performing.{IsHindrance};
 ghost use Rattle.sc_exec.specs.Turns.{LiesOrLay};
-ghost use Rattle.sc_exec.specs.Working.{IsTooEarly, owed_by};
+ghost use Rattle.sc_exec.specs.Working.{owed_by};
 
 use crate::calls::Delivery;
 use crate::driver::Driver;
 use crate::gates::Gate;
-use crate::lefts::Left;
+use crate::lefts::{Left, Stranger};
 use crate::openings::Opening;
 use crate::performing::{Prepared, prepare};
 use sc_core::SideAnswer;
 use sc_files::Files;
 use sc_ids::AttemptId;
 use sc_logs::ExecLog;
-use sc_net::{Finding, Report, Task};
+use sc_net::{Report, Task};
 use sc_store::Store;
 use sc_task::{Computed, Staged};
 use sc_work::Naming;
@@ -74,20 +74,9 @@ fn post<W: Naming, J: Opening, F: Files, R: Wait>(
     driver.bell.notify_all();
     match posted {
         Ok(Delivery::Received) => Ok(()),
-        Ok(Delivery::Stranger(_)) => Err(Left::Stranger),
-        Ok(Delivery::Early { report, due }) => Err(early(&report, due)),
+        Ok(Delivery::Stranger { refused, .. }) => Err(Left::Stranger(Stranger::Report(refused))),
+        Ok(Delivery::Early { early, .. }) => Err(Left::Early(early)),
         Err(_) => Err(Left::NoMemory),
-    }
-}
-
-/// Why an executor leaves whose report speaks of a generation that can't be there yet.
-fn early<W: Naming>(report: &Report<W>, due: u64) -> Left
-    requires early { IsTooEarly W.work report.now.finding due }
-    ensures { IsHindrance result }
-{
-    match report.finding() {
-        Finding::Gone { found, .. } => Left::Early { found: *found, due },
-        _ => unreachable!(),
     }
 }
 

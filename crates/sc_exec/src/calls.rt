@@ -3,18 +3,66 @@
 
 ghost use Rattle.std.specs.Prelude.{◌≡◌, ◌<◌, ◌+◌, IfErr, IfOk, OnErr, vec_capacity, vec_len};
 ghost use Rattle.sc_exec.specs.Helms.{KeepsFiles};
-ghost use Rattle.sc_exec.specs.Logging.{HasRoom, IsDelivered, IsSameLog, PostsBoth, TakesBoth};
+ghost use Rattle.sc_exec.specs.Logging.{HasRoom, IsDelivered, IsPossible, IsSameLog, IsTooEarly, PostsBoth, TakesBoth, TellsEarly};
 
 use crate::helms::Helm;
 use crate::openings::Opening;
 use sc_core::{Entry, Event};
 use sc_desk::{Logged, Posted, Taken};
 use sc_files::Files;
-use sc_ids::Mark;
+use sc_ids::{AttemptId, ExecId, Generation, Mark};
 use sc_logs::ExecLog;
-use sc_net::Report;
+use sc_net::{Finding, Report};
 use sc_work::Naming;
 use std::alloc::{AllocError, AllocFailed};
+
+/// The desk refused a report as not of the task that was given to its attempt. Only who posted it
+/// makes one ([`Helm::post`]).
+#[derive(Clone, Copy, Debug, PartialEq, Eq)]
+pub struct Refused {
+    attempt: AttemptId,
+}
+
+impl Refused {
+    /// Whose report it was.
+    pub fn attempt(&self) -> AttemptId
+        ensures { result ≡ self.now.attempt }
+    {
+        self.attempt
+    }
+}
+
+/// The desk refused a report as speaking of a generation that no wipe has brought yet. Only who
+/// posted it makes one ([`Helm::post`]).
+#[derive(Clone, Copy, Debug, PartialEq, Eq)]
+pub struct TooEarly {
+    exec: ExecId,
+    found: Generation,
+    due: u64,
+}
+
+impl TooEarly {
+    /// The executor whose store was found so.
+    pub fn exec(&self) -> ExecId
+        ensures { result ≡ self.now.exec }
+    {
+        self.exec
+    }
+
+    /// The generation of that store which was found.
+    pub fn found(&self) -> Generation
+        ensures { result ≡ self.now.found }
+    {
+        self.found
+    }
+
+    /// How many wipes of that store were due.
+    pub fn due(&self) -> u64
+        ensures { result ≡ self.now.due }
+    {
+        self.due
+    }
+}
 
 /// What becomes of a report that an executor posts.
 #[derive(Drop)]
@@ -22,13 +70,18 @@ pub enum Delivery<W: Naming> {
     /// It is received.
     Received,
     /// It is not of the task that was given to its attempt, and is handed back.
-    Stranger(Report<W>),
+    Stranger {
+        /// The report.
+        report: Report<W>,
+        /// That it was refused.
+        refused: Refused,
+    },
     /// It speaks of a generation that no wipe has brought yet, and is handed back.
     Early {
         /// The report.
         report: Report<W>,
-        /// How many wipes are due.
-        due: u64,
+        /// That it was refused, and why.
+        early: TooEarly,
     },
 }
 
@@ -58,7 +111,7 @@ impl<W: Naming, J: Opening, F: Files> Helm<W, J, F> {
 
     /// An executor posts a report, and logs what it was answered. One that is handed back isn't
     /// logged. A refused call changes nothing and hands the report back.
-    #[tactic(auto, using(crate::proofs::LogLemmas::log_post, crate::proofs::HelmLemmas::job_same))]
+    #[tactic(auto, using(crate::proofs::LogLemmas::log_post, crate::proofs::LogLemmas::possible, crate::proofs::HelmLemmas::job_same))]
     pub fn post(
         &mut self,
         log: &mut ExecLog,
@@ -87,6 +140,7 @@ impl<W: Naming, J: Opening, F: Files> Helm<W, J, F> {
 /// What becomes of a report that was posted in an event: one that is received is logged.
 fn delivered<W: Naming>(log: &mut ExecLog, event: Event, posted: Posted<W>) -> Delivery<W>
     requires room { vec_len log.old.entries + 1 < vec_capacity log.old.entries }
+    requires possible { IsPossible W.work posted }
     ensures delivered { IsDelivered log.old event posted result log.new }
     ensures room { HasRoom log.new }
 {
@@ -99,7 +153,30 @@ fn delivered<W: Naming>(log: &mut ExecLog, event: Event, posted: Posted<W>) -> D
             });
             Delivery::Received
         }
-        Posted::Stranger(report) => Delivery::Stranger(report),
-        Posted::Early { report, due } => Delivery::Early { report, due },
+        Posted::Stranger(report) => Delivery::Stranger {
+            refused: Refused {
+                attempt: report.attempt(),
+            },
+            report,
+        },
+        Posted::Early { report, due } => Delivery::Early {
+            early: too_early(&report, due),
+            report,
+        },
+    }
+}
+
+/// Why a report is refused that speaks of a generation which can't be there yet.
+fn too_early<W: Naming>(report: &Report<W>, due: u64) -> TooEarly
+    requires early { IsTooEarly W.work report.now.finding due }
+    ensures { TellsEarly report.now.finding due result }
+{
+    match report.finding() {
+        Finding::Gone { exec, found, .. } => TooEarly {
+            exec: *exec,
+            found: *found,
+            due,
+        },
+        _ => unreachable!(),
     }
 }

@@ -1,9 +1,13 @@
 //! Why executors take no more tasks.
 #![tactic(auto)]
 
-use sc_ids::{AttemptId, ExecId, Generation, Loc};
+use crate::calls::{Refused, TooEarly};
+use crate::fetching::Absence;
+use crate::places::Misplaced;
+use sc_ids::{AttemptId, ExecId};
 
-/// Why an executor takes no more tasks.
+/// Why an executor takes no more tasks. What it says of something that can't be, only the call that
+/// met it makes.
 #[derive(Clone, Copy, Debug, PartialEq, Eq)]
 pub enum Left {
     /// The job has ended.
@@ -20,21 +24,34 @@ pub enum Left {
         /// Its attempt.
         held: AttemptId,
     },
-    /// The desk refused what it reported as not of the task that was given, or a store isn't that
-    /// of the executor at its place.
-    Stranger,
+    /// It met something that isn't of its job.
+    Stranger(Stranger),
     /// The desk refused what it reported as not possible yet.
-    Early {
-        /// The generation of a store that it found.
-        found: Generation,
-        /// How many wipes of that store were due.
-        due: u64,
-    },
+    Early(TooEarly),
     /// A block that it was sent to isn't there.
-    Absent {
-        /// Where it should lie.
-        loc: Loc,
-    },
+    Absent(Absence),
     /// Memory ran out.
     NoMemory,
+}
+
+impl From<Misplaced> for Left {
+    ghost use Rattle.std.specs.Prelude.{◌≡◌};
+    ghost use Rattle.sc_exec.specs.declared.lefts.Left.TheVariants as lefts;
+    ghost use Rattle.sc_exec.specs.declared.lefts.Stranger.TheVariants as strangers;
+
+    ghost from_gives = { λ misplaced left. left ≡ lefts.Stranger (strangers.Store misplaced) };
+
+    fn from(misplaced: Misplaced) -> Self {
+        Left::Stranger(Stranger::Store(misplaced))
+    }
+}
+
+/// What an executor met that isn't of its job. Works are told apart by types, so what is of another
+/// one is never met.
+#[derive(Clone, Copy, Debug, PartialEq, Eq)]
+pub enum Stranger {
+    /// The desk refused what it reported as not of the task that was given.
+    Report(Refused),
+    /// A store isn't that of the executor at its place.
+    Store(Misplaced),
 }

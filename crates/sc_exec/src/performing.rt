@@ -3,16 +3,18 @@
 
 ghost use Rattle.std.specs.Prelude.{◌≡◌, ◌≢◌, All, IfErr, IfOk, false, true};
 ghost use Rattle.sc_net.specs.Tasks.{is_map_task};
-ghost use Rattle.sc_task.specs.Nexts.{FetchesFrom, next_of};
+ghost use Rattle.sc_task.specs.Nexts.{next_of};
 ghost use Rattle.sc_task.specs.declared.next.Next.{Next};
 ghost use Rattle.sc_exec.specs.Performing.{Gets, IsGathered, IsHindrance, IsPrepared};
 ghost use Rattle.sc_exec.specs.Turns.{LiesOrLay};
 
+use crate::fetching::fetch_from;
 use crate::lefts::Left;
+use crate::places::{check_place, store_at};
 use sc_ids::{ExecId, Target};
 use sc_net::{Report, Task};
 use sc_store::Store;
-use sc_task::{Assigned, Computed, Did, Next, Read, Took, assign};
+use sc_task::{Assigned, Computed, Did, Next, Read, assign};
 use sc_work::Naming;
 use std::alloc::Global;
 use std::sync::{Mutex, Wait};
@@ -87,7 +89,7 @@ fn gather<W: Naming, R: Wait>(
 }
 
 /// Goes for the next block of an attempt, which lies on some executor, or had no location.
-#[tactic(auto, using(crate::proofs::ReadingLemmas::lay_somewhere))]
+#[tactic(auto, using(crate::proofs::ReadingLemmas::lay_somewhere, crate::proofs::ReadingLemmas::unread_hinders))]
 fn get_next<W: Naming, R: Wait>(
     rt: &R,
     stores: &[Mutex<Store<W>>],
@@ -105,23 +107,6 @@ fn get_next<W: Naming, R: Wait>(
         }
         Next::Missing { .. } => Ok(Got::Report(state.missing())),
         Next::Complete => unreachable!(),
-    }
-}
-
-/// Goes for the next block of an attempt at a store, which is to be that of an executor.
-fn fetch_from<W: Naming>(store: &Store<W>, exec: ExecId, state: Assigned<W>) -> Result<Got<W>, Left>
-    requires there { FetchesFrom exec (next_of state.task state.got) }
-    ensures gets { IfOk result (Gets state) }
-    ensures hinders { IfErr result IsHindrance }
-{
-    if store.exec() != exec {
-        return Err(Left::Stranger);
-    }
-    match state.read(store) {
-        Ok(Took::Next(next)) => Ok(Got::Next(next)),
-        Ok(Took::Gone(report)) => Ok(Got::Report(report)),
-        Ok(Took::Absent { loc, .. }) => Err(Left::Absent { loc }),
-        Err(_) => Err(Left::NoMemory),
     }
 }
 
@@ -158,9 +143,7 @@ fn take_cached<W: Naming, R: Wait>(
     ensures hinders { IfErr result IsHindrance }
 {
     let store = own.lock(rt);
-    if store.exec() != exec {
-        return Err(Left::Stranger);
-    }
+    check_place(&store, exec)?;
     match read.cached(alloc, &store) {
         Ok(read) => Ok(read),
         Err(_) => Err(Left::NoMemory),
@@ -179,9 +162,7 @@ fn leave_made<W: Naming, R: Wait>(
     ensures hinders { IfErr result IsHindrance }
 {
     let mut store = own.lock(rt);
-    if store.exec() != exec {
-        return Err(Left::Stranger);
-    }
+    check_place(&store, exec)?;
     let Ok(computed) = computed.keep(&mut store) else {
         return Err(Left::NoMemory);
     };
@@ -224,18 +205,5 @@ fn is_map<W: Naming>(task: &Task<W>) -> bool
     match task.job().stage(task.attempt().stage) {
         Some(stage) => matches!(stage.target(), Target::Map(_)),
         None => false,
-    }
-}
-
-/// The store at the place of an executor.
-pub(crate) fn store_at<W: Naming>(
-    stores: &[Mutex<Store<W>>],
-    exec: ExecId,
-) -> Result<&Mutex<Store<W>>, Left>
-    ensures hinders { IfErr result IsHindrance }
-{
-    match stores.get(exec as usize) {
-        Some(store) => Ok(store),
-        None => Err(Left::Stranger),
     }
 }

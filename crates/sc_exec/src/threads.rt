@@ -14,6 +14,7 @@ use crate::helms::Helm;
 use crate::openings::Opening;
 use crate::work::work_loop;
 use crate::workers::Worker;
+use sc_clock::Clock;
 use sc_desk::Desk;
 use sc_files::Files;
 use sc_staging::Output;
@@ -22,19 +23,27 @@ use sc_work::Naming;
 use std::alloc::Global;
 use std::marker::Brand;
 use std::sync::{Condvar, Mutex, Wait};
-use std::thread;
 use std::thread::Threads;
+use std::{thread, time};
 
 /// The executors of a job work, each on a thread of its own where one can be had, until each takes
-/// no more tasks. The desk and the files come back.
+/// no more tasks. The desk and the files come back. Where slow tasks get copies the clock is read
+/// before an executor asks for a task, under the lock of the desk; no clause rests on its times.
 #[tactic(auto, using(crate::proofs::HelmLemmas::job_opened))]
-pub fn work_job<W: Naming + Send + Sync, F: Files + Send, G: Gate + Sync, R: Threads + Wait + Sync>(
+pub fn work_job<
+    W: Naming + Send + Sync,
+    F: Files + Send,
+    G: Gate + Sync,
+    C: Clock + Send,
+    R: Threads + Wait + time::Clock + Sync,
+>(
     rt: &R,
     alloc: Global,
     desk: Desk<W>,
     output: Output<F>,
     stores: &[Mutex<Store<W>>],
     gate: &G,
+    clock: &Mutex<C>,
     workers: &mut [Worker],
 ) -> (Desk<W>, Output<F>)
     requires begun { desk.journal.entries ≡ [] }
@@ -47,7 +56,7 @@ pub fn work_job<W: Naming + Send + Sync, F: Files + Send, G: Gate + Sync, R: Thr
     ensures worked { All HasCause workers.new }
     ensures places { AreInPlace W.work.limits.executors workers.new }
 {
-    work_job_of::<W, Brand, F, G, R>(rt, alloc, desk, output, stores, gate, workers)
+    work_job_of::<W, Brand, F, G, C, R>(rt, alloc, desk, output, stores, gate, clock, workers)
 }
 
 /// The same of a job that began as `J` says.
@@ -56,7 +65,8 @@ fn work_job_of<
     J: Opening + Send + Sync,
     F: Files + Send,
     G: Gate + Sync,
-    R: Threads + Wait + Sync,
+    C: Clock + Send,
+    R: Threads + Wait + time::Clock + Sync,
 >(
     rt: &R,
     alloc: Global,
@@ -64,6 +74,7 @@ fn work_job_of<
     output: Output<F>,
     stores: &[Mutex<Store<W>>],
     gate: &G,
+    clock: &Mutex<C>,
     workers: &mut [Worker],
 ) -> (Desk<W>, Output<F>)
     requires job { IsJobOf W.work J.opening
@@ -88,7 +99,7 @@ fn work_job_of<
             &|_, worker|
                 requires { IsFresh W.work.limits.executors worker.now }
                 ensures { HasWorked worker.entry.now worker.exit.now }
-            { employ(rt, alloc, &driver, stores, gate, worker) },
+            { employ(rt, alloc, &driver, stores, gate, clock, worker) },
         );
     }
     let Driver { helm, bell: _ } = driver;
@@ -96,16 +107,17 @@ fn work_job_of<
 }
 
 /// An executor works, and it is written down why it takes no more tasks.
-fn employ<W: Naming, J: Opening, F: Files, G: Gate, R: Wait>(
+fn employ<W: Naming, J: Opening, F: Files, G: Gate, C: Clock, R: Wait + time::Clock>(
     rt: &R,
     alloc: Global,
     driver: &Driver<W, J, F>,
     stores: &[Mutex<Store<W>>],
     gate: &G,
+    clock: &Mutex<C>,
     worker: &mut Worker,
 )
     requires fresh { IsFresh W.work.limits.executors worker.old }
     ensures { HasWorked worker.old worker.new }
 {
-    worker.left = work_loop(rt, alloc, driver, stores, gate, &mut worker.log);
+    worker.left = work_loop(rt, alloc, driver, stores, gate, clock, &mut worker.log);
 }

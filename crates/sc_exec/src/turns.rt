@@ -9,6 +9,7 @@ ghost use Rattle.sc_exec.specs.Turns.{IsAsked, IsForKnown, IsTold};
 use crate::helms::Helm;
 use crate::openings::Opening;
 use sc_base::OrMemory;
+use sc_clock::Clock;
 use sc_desk::Taken;
 use sc_files::Files;
 use sc_ids::ExecId;
@@ -16,6 +17,7 @@ use sc_logs::ExecLog;
 use sc_plan::Order;
 use sc_work::Naming;
 use std::alloc::AllocError;
+use std::sync::{Mutex, Wait};
 
 /// What an executor is to do next.
 #[derive(Drop)]
@@ -28,9 +30,15 @@ pub(crate) enum Asked<W: Naming> {
 
 impl<W: Naming, J: Opening, F: Files> Helm<W, J, F> {
     /// The turn of an executor begins. The losses that are due are told, and then the reports. The
-    /// executor gets the order of the fault plan that comes next, if one is due; else it asks for a
-    /// task. All that was entered is logged. A refused call may have told some of what was due.
-    pub(crate) fn begin_turn(&mut self, log: &mut ExecLog) -> Result<Asked<W>, AllocError>
+    /// executor gets the order of the fault plan that comes next, if one is due; else it has the
+    /// time entered, where slow tasks get copies, and asks for a task. All that was entered is
+    /// logged. A refused call may have told some of what was due.
+    pub(crate) fn begin_turn<C: Clock, R: Wait>(
+        &mut self,
+        rt: &R,
+        clock: &Mutex<C>,
+        log: &mut ExecLog,
+    ) -> Result<Asked<W>, AllocError>
         requires room { HasRoom log.old }
         requires works { IsAtWork [] log.old }
         ensures asked { IfOk result (λ asked. IsAsked J.opening.job asked log.new) }
@@ -44,7 +52,10 @@ impl<W: Naming, J: Opening, F: Files> Helm<W, J, F> {
         self.desk.is_sound();
         match self.due_order() {
             Some(order) => Ok(Asked::Order(order)),
-            None => Ok(Asked::Taken(self.request(log)?)),
+            None => {
+                self.read_clock(rt, clock, log)?;
+                Ok(Asked::Taken(self.request(log)?))
+            }
         }
     }
 

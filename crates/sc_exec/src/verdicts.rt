@@ -30,6 +30,7 @@ pub enum Verdict {
 /// How a job went whose executors all take no more tasks. A job is given up only where its entries
 /// aren't an interleaving of what the executors wrote down, or one of them met what can't be. It
 /// takes no memory.
+#[tactic(auto, using(crate::proofs::VerdictLemmas::unlogged))]
 pub fn judge<W: Naming>(desk: &Desk<W>, workers: &[Worker]) -> Verdict
     requires worked { All HasCause workers.now }
     requires places { AreInPlace W.work.limits.executors workers.now }
@@ -109,7 +110,7 @@ fn is_no_memory(left: Left) -> bool
     match left {
         Left::NoMemory => true,
         Left::JobEnded | Left::Stopped { .. } | Left::Lost | Left::Busy { .. } => false,
-        Left::Stranger | Left::Early { .. } | Left::Absent { .. } => false,
+        Left::Stranger(_) | Left::Early(_) | Left::Absent(_) => false,
     }
 }
 

@@ -11,10 +11,12 @@ ghost use Rattle.sc_exec.specs.Working.{IsReasonToLeave, IsTurn};
 use crate::attempts::perform;
 use crate::driver::Driver;
 use crate::gates::Gate;
+use crate::helms::Helm;
 use crate::lefts::Left;
 use crate::openings::Opening;
-use crate::performing::store_at;
+use crate::places::{check_place, store_at};
 use crate::turns::Asked;
+use sc_clock::Clock;
 use sc_desk::Taken;
 use sc_files::Files;
 use sc_logs::ExecLog;
@@ -22,7 +24,13 @@ use sc_plan::{Order, OrderKind};
 use sc_store::Store;
 use sc_work::Naming;
 use std::alloc::{AllocError, Global};
-use std::sync::{Mutex, Wait};
+use std::sync::{Mutex, MutexGuard, Wait};
+use std::time;
+use std::time::Duration;
+
+/// How long an executor at most waits for the bell where slow tasks get copies, in milliseconds,
+/// as Spark's `spark.speculation.interval`: time alone makes a task slow.
+const INTERVAL: u64 = 100;
 
 /// How a turn ends.
 #[derive(Clone, Copy, Debug, PartialEq, Eq)]
@@ -36,12 +44,13 @@ pub(crate) enum Turn {
 /// An executor works turn by turn until there is no more for it, and logs what it enters. It says
 /// why it takes no more tasks.
 #[tactic(auto, using(crate::proofs::OwedLemmas::fresh_works))]
-pub fn work_loop<W: Naming, J: Opening, F: Files, G: Gate, R: Wait>(
+pub fn work_loop<W: Naming, J: Opening, F: Files, G: Gate, C: Clock, R: Wait + time::Clock>(
     rt: &R,
     alloc: Global,
     driver: &Driver<W, J, F>,
     stores: &[Mutex<Store<W>>],
     gate: &G,
+    clock: &Mutex<C>,
     log: &mut ExecLog,
 ) -> Left
     requires fresh { log.old.entries.items ≡ [] }
@@ -51,7 +60,7 @@ pub fn work_loop<W: Naming, J: Opening, F: Files, G: Gate, R: Wait>(
     ensures cause { IsCause result log.new }
 {
     for _ in rt.forever() {
-        match take_turn(rt, alloc, driver, stores, gate, log) {
+        match take_turn(rt, alloc, driver, stores, gate, clock, log) {
             Turn::Again => {}
             Turn::Over(left) => return left,
         }
@@ -61,12 +70,13 @@ pub fn work_loop<W: Naming, J: Opening, F: Files, G: Gate, R: Wait>(
 
 /// An executor takes a turn: what is due is told, and then it carries out an order that is due, or
 /// asks for a task and does it. Where there is none for it now, it has waited for the bell.
-fn take_turn<W: Naming, J: Opening, F: Files, G: Gate, R: Wait>(
+fn take_turn<W: Naming, J: Opening, F: Files, G: Gate, C: Clock, R: Wait + time::Clock>(
     rt: &R,
     alloc: Global,
     driver: &Driver<W, J, F>,
     stores: &[Mutex<Store<W>>],
     gate: &G,
+    clock: &Mutex<C>,
     log: &mut ExecLog,
 ) -> Turn
     requires works { IsAtWork [] log.old }
@@ -75,7 +85,7 @@ fn take_turn<W: Naming, J: Opening, F: Files, G: Gate, R: Wait>(
     ensures turn { IsTurn result log.new }
     ensures exec { log.new.exec ≡ log.old.exec }
 {
-    match begin(rt, driver, log) {
+    match begin(rt, driver, clock, log) {
         Ok(Asked::Order(order)) => {
             let went = obey(rt, stores, order);
             end_turn(rt, driver, log, went)
@@ -86,10 +96,12 @@ fn take_turn<W: Naming, J: Opening, F: Files, G: Gate, R: Wait>(
 }
 
 /// An executor begins a turn at the desk. The others hear of what it entered there, and where there
-/// is nothing for it now it waits for the bell, under the lock that it was told so.
-fn begin<W: Naming, J: Opening, F: Files, R: Wait>(
+/// is nothing for it now it waits for the bell, under the lock that it was told so; and not for
+/// long, where what is slow gets a copy.
+fn begin<W: Naming, J: Opening, F: Files, C: Clock, R: Wait + time::Clock>(
     rt: &R,
     driver: &Driver<W, J, F>,
+    clock: &Mutex<C>,
     log: &mut ExecLog,
 ) -> Result<Asked<W>, AllocError>
     requires works { IsAtWork [] log.old }
@@ -100,13 +112,15 @@ fn begin<W: Naming, J: Opening, F: Files, R: Wait>(
 {
     let entered = log.entries.len();
     let mut helm = driver.helm.lock(rt);
-    let asked = helm.begin_turn(log);
+    let speculates = helm.speculates();
+    let asked = helm.begin_turn(rt, clock, log);
     if waits(&asked) {
-        // a Take that is answered so is nothing to wake the others for
-        if log.entries.len() > entered + 1 {
+        // a Take that is answered so, and a Tick, are nothing to wake the others for
+        let quiet = if speculates { 2 } else { 1 };
+        if log.entries.len() > entered + quiet {
             driver.bell.notify_all();
         }
-        let _helm = driver.bell.wait(rt, helm);
+        wait(rt, driver, helm, speculates);
     } else {
         drop(helm);
         driver.bell.notify_all();
@@ -117,6 +131,22 @@ fn begin<W: Naming, J: Opening, F: Files, R: Wait>(
 /// Whether there is nothing for an executor now.
 fn waits<W: Naming>(asked: &Result<Asked<W>, AllocError>) -> bool {
     matches!(asked, Ok(Asked::Taken(Taken::Wait { .. })))
+}
+
+/// Waits for the bell, and where what is slow gets a copy at most for so long.
+fn wait<W: Naming, J: Opening, F: Files, R: Wait + time::Clock>(
+    rt: &R,
+    driver: &Driver<W, J, F>,
+    helm: MutexGuard<'_, Helm<W, J, F>>,
+    speculates: bool,
+) {
+    if speculates {
+        let _ = driver
+            .bell
+            .wait_timeout(rt, helm, Duration::from_millis(INTERVAL));
+    } else {
+        let _helm = driver.bell.wait(rt, helm);
+    }
 }
 
 /// An executor does what it was told.
@@ -192,9 +222,7 @@ fn obey<W: Naming, R: Wait>(rt: &R, stores: &[Mutex<Store<W>>], order: Order) ->
     ensures hinders { IfErr result IsHindrance }
 {
     let mut store = store_at(stores, order.exec)?.lock(rt);
-    if store.exec() != order.exec {
-        return Err(Left::Stranger);
-    }
+    check_place(&store, order.exec)?;
     match order.kind {
         OrderKind::Drop | OrderKind::Lose => {
             let _ = store.wipe(order);
