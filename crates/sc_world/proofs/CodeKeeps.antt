@@ -9,6 +9,7 @@ use Rattle.sc_ids.proofs.ChangeLemmas.{length_change_at}
 use Rattle.sc_lineage.specs.ScriptData.{WorkData}
 use Rattle.sc_core.specs.CoreData.{job_runs}
 use Rattle.sc_core.specs.declared.answers.Answer.{Answer}
+use Rattle.sc_core.specs.declared.events.SideEvent.TheVariants.{Tick}
 use Rattle.sc_plan.specs.Orders.{wipes_of}
 use Rattle.sc_plan.specs.declared.orders.Order.{Order}
 use Rattle.sc_jobs.specs.JobData.{saves}
@@ -20,6 +21,7 @@ use Rattle.sc_net.specs.Tasks.{TaskData}
 use Rattle.sc_net.specs.declared.findings.Finding.{Finding}
 use Rattle.sc_net.specs.declared.findings.Finding.TheVariants as findings
 use Rattle.sc_task.specs.Attempts.{AttemptData, assigned, computed, granted, reported, staged, stored}
+use Rattle.sc_desk.specs.Asides.{Notes}
 use Rattle.sc_desk.specs.DeskData.{DeskData, core_of}
 use Rattle.sc_desk.specs.Dues.{IsEarly, IsInTime, IsOrdered, wipes_due}
 use Rattle.sc_desk.specs.Orders.{IsDueAmong}
@@ -29,6 +31,7 @@ use Rattle.sc_desk.specs.Takes.{TakesLogged}
 use Rattle.sc_desk.specs.Tellings.{Releases, TellsLost}
 use Rattle.sc_desk.specs.declared.posts.Posted.{Posted}
 use Rattle.sc_desk.specs.declared.posts.Posted.TheVariants as posted
+use Rattle.sc_desk.specs.declared.receipts.Noted.{Noted}
 use Rattle.sc_desk.specs.declared.receipts.Receipt.{Receipt}
 use Rattle.sc_desk.specs.declared.takes.Taken.{Taken}
 use Rattle.sc_world.specs.Places.{ComputesAmong, EvictsAmong, IsReceived, PutsAmong, ReadStands, ReadsAmong, WipesAmong, held_with}
@@ -190,6 +193,14 @@ releases_keep work w key desk receipt is r sound =
     steps_keep_world work w (world_data desk w.stores w.held) (steps.Release key)
     (applied.Told receipt.answer) is
     (record { desk = desk; receipt = receipt; releases = r; told = refl; is = refl }) sound
+
+pub ticks_keep : (work : WorkData) (w : WorldData) (now : ℕ) (desk : DeskData) (noted : Noted)
+    → IsWorld work w → Notes w.desk Driver (Tick now) noted desk → IsSoundDesk work desk
+    → IsWorld work (world_data desk w.stores w.held)
+ticks_keep work w now desk noted is n sound =
+    steps_keep_world work w (world_data desk w.stores w.held) (steps.Tick now)
+    (applied.Noted noted.answer) is
+    (record { desk = desk; noted = noted; notes = n; told = refl; is = refl }) sound
 
 pub loses_keep : (work : WorkData) (w : WorldData) (exec : ℕ) (desk : DeskData)
     (receipt : Receipt) → IsWorld work w → TellsLost w.desk Driver exec receipt desk

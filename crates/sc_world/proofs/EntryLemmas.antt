@@ -86,6 +86,8 @@ does_enter work w after (steps.Release key) (applied.Told answer) r =
     one w after r.desk _ _ r.releases.enters (desk_is after _ r.is)
 does_enter work w after (steps.TellLost exec) (applied.Told answer) r =
     one w after r.desk _ _ r.tells.enters (desk_is after _ r.is)
+does_enter work w after (steps.Tick now) (applied.Noted answer) r =
+    one w after r.desk _ _ r.notes.enters (desk_is after _ r.is)
 does_enter work w after (steps.Wipe order) (applied.Wipe answer) r =
     same w after (desk_is after _ r.is)
 does_enter work w after (steps.Evict exec) applied.Done r = same w after (desk_is after _ r.is)

@@ -9,6 +9,7 @@ use Rattle.sc_core.specs.declared.answers.Answer.TheVariants as says
 use Rattle.sc_core.specs.declared.answers.SideAnswer.{SideAnswer}
 use Rattle.sc_core.specs.declared.events.Event.TheVariants.{Post, Release, Side, Take, TellLost}
 use Rattle.sc_core.specs.declared.events.SideEvent.{SideEvent}
+use Rattle.sc_core.specs.declared.events.SideEvent.TheVariants.{Tick}
 use Rattle.sc_core.proofs.LawLemmas.{steps_keep_sound}
 use Rattle.sc_net.specs.Reports.{outcome_of, report_data}
 use Rattle.sc_net.specs.Tasks.{IsTaskOf, TaskData, task_data}
@@ -23,13 +24,14 @@ use Rattle.sc_desk.proofs.TaskLemmas.{givable}
 use Rattle.sc_world.specs.Laws.{StepsKeepSound}
 use Rattle.sc_world.specs.Runs.{IsOfTask, IsWorld}
 use Rattle.sc_world.specs.Sound.{IsSoundWorld, Says}
-use Rattle.sc_world.specs.Steps.{AsksOne, Computes, Does, EvictsOne, GoesAside, HandsOrder, LosesOne, Moves, Posts, Puts, Reads, ReleasesOne, Stages, Takes, WipesOne, after_side, given_to}
+use Rattle.sc_world.specs.Steps.{AsksOne, Computes, Does, EvictsOne, GoesAside, HandsOrder, LosesOne, Moves, Posts, Puts, Reads, ReleasesOne, Stages, Takes, TicksOne, WipesOne, after_side, given_to}
 use Rattle.sc_world.specs.WorldData.{WorldData, core_in, held_at, with_desk}
 use Rattle.sc_world.specs.declared.steps.Applied.{Applied}
 use Rattle.sc_world.specs.declared.steps.Applied.TheVariants as applied
 use Rattle.sc_world.specs.declared.steps.Kept.{Kept}
 use Rattle.sc_world.specs.declared.steps.Step.{Step}
 use Rattle.sc_world.specs.declared.steps.Step.TheVariants as steps
+use Rattle.sc_world.proofs.TickLemmas.{ticks_sound}
 use Rattle.sc_world.proofs.AsideCases.{ComesOrOver}
 use Rattle.sc_world.proofs.HeldLemmas.{held_each}
 use Rattle.sc_world.proofs.LossLemmas.{loses_sound}
@@ -286,6 +288,20 @@ moves_keep work w exec answer after h p desk_after =
     (moves_leaves work w exec answer after p)
     (moves_sound work w exec answer after h.sound h.core p) desk_after
 
+-- ---- the time is entered
+
+ticks_keep : (work : WorkData) (w : WorldData) (now : ℕ) (answer : SideAnswer)
+    (after : WorldData) → IsWorld work w → TicksOne w now answer after
+    → IsSoundDesk work after.desk → IsWorld work after
+ticks_keep work w now answer after h p desk_after =
+    subst (IsWorld work) (sym p.is) (record {
+      core = steps_keep_sound (core_in w) (core_of p.desk) (Side (Tick now))
+          (says.Side p.noted.answer) h.core p.notes.enters.step;
+      desk = subst (λ (x : WorldData). IsSoundDesk work x.desk) p.is desk_after;
+      tasks = h.tasks;
+      sound = subst (IsSoundWorld work) p.is (ticks_sound work w now answer after h.sound p);
+    })
+
 -- ---- any step
 
 does_keep : (work : WorkData) (w after : WorldData) (step : Step) (answer : Applied)
@@ -310,6 +326,8 @@ does_keep work w after (steps.Release key) (applied.Told answer) h p d =
     releases_keep work w key answer after h p d
 does_keep work w after (steps.TellLost exec) (applied.Told answer) h p d =
     loses_keep work w exec answer after h p d
+does_keep work w after (steps.Tick now) (applied.Noted answer) h p d =
+    ticks_keep work w now answer after h p d
 does_keep work w after (steps.Wipe order) (applied.Wipe answer) h p d =
     wipes_keep work w order answer after h p
 does_keep work w after (steps.Evict exec) applied.Done h p d = evicts_keep work w exec after h p

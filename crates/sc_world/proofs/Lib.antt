@@ -18,6 +18,7 @@ mod ComeLemmas
 mod AsideCases
 mod SaverLemmas
 mod SideLemmas
+mod TickLemmas
 mod NextLemmas
 mod KeepLemmas
 mod LawLemmas

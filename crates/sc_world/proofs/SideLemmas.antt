@@ -36,7 +36,7 @@ use Rattle.sc_world.proofs.OutLemmas.{AreOut, less_out}
 use Rattle.sc_world.proofs.SaverLemmas.{result_of_task, saver_stage, saver_there}
 
 -- what was answered, and left of the core
-sides_of : (d after : DeskData) (event : SideEvent) (noted : Noted)
+pub sides_of : (d after : DeskData) (event : SideEvent) (noted : Noted)
     → Notes d Driver event noted after → Sides (core_of d) event noted.answer (core_of after)
 sides_of d after event noted n = by n.enters.step
   where

@@ -12,7 +12,7 @@ use Rattle.sc_core.specs.declared.answers.Answer.TheVariants as says
 use Rattle.sc_core.specs.declared.answers.SideAnswer.{SideAnswer}
 use Rattle.sc_core.specs.declared.events.Event.{Event}
 use Rattle.sc_core.specs.declared.events.Event.TheVariants.{Post, Release, Side, Take, TellLost}
-use Rattle.sc_core.specs.declared.events.SideEvent.TheVariants.{Ask}
+use Rattle.sc_core.specs.declared.events.SideEvent.TheVariants.{Ask, Tick}
 use Rattle.sc_staging.specs.Outputs.{output_dir, output_files}
 use Rattle.sc_staging.specs.declared.outputs.Output.{Output}
 use Rattle.sc_desk.specs.DeskData.{DeskData}
@@ -21,7 +21,7 @@ use Rattle.sc_desk.specs.Files.{CountsGoOn, FilesStand, deed_in, deeds_of, fault
 use Rattle.sc_desk.proofs.CountLemmas.{counts_entered, counts_same}
 use Rattle.sc_desk.proofs.FilesLemmas.{files_go_on}
 use Rattle.sc_world.specs.Files.{OutputGoesOn, OutputStands}
-use Rattle.sc_world.specs.Steps.{AsksOne, Computes, Does, EvictsOne, Goes, HandsOrder, LosesOne, Posts, Puts, Reads, ReleasesOne, Takes, WipesOne}
+use Rattle.sc_world.specs.Steps.{AsksOne, Computes, Does, EvictsOne, Goes, HandsOrder, LosesOne, Posts, Puts, Reads, ReleasesOne, Takes, TicksOne, WipesOne}
 use Rattle.sc_world.specs.Turns.{AdvancesPlain, CarriesOutAs, DoesDue}
 use Rattle.sc_world.specs.WorldData.{WorldData}
 use Rattle.sc_world.specs.declared.steps.Applied.{Applied}
@@ -77,6 +77,14 @@ asks_stand work w after exec answer state o r stands =
     entered_stand work w after r.goes.desk (Side (Ask r.task.hand_out.attempt))
     (says.Side r.goes.noted.answer) state o r.goes.notes.enters refl refl
     (ap (λ (x : WorldData). x.desk) r.goes.is) stands
+
+ticks_stand : {F : Type 0} (work : WorkData) (w after : WorldData)
+    (now : ℕ) (answer : SideAnswer) (state : F → FilesState) (o : Output F)
+    → TicksOne w now answer after → OutputStands work w state o
+    → OutputGoesOn work w after state o o
+ticks_stand work w after now answer state o r stands =
+    entered_stand work w after r.desk (Side (Tick now)) (says.Side r.noted.answer) state o
+    r.notes.enters refl refl (ap (λ (x : WorldData). x.desk) r.is) stands
 
 posts_stand : {F : Type 0} (work : WorkData) (w after : WorldData)
     (exec : ℕ) (answer : Answer) (state : F → FilesState) (o : Output F)
@@ -148,6 +156,8 @@ does_stand work w after (steps.Release key) (applied.Told answer) state o is r s
     releases_stand work w after key answer state o r stands
 does_stand work w after (steps.TellLost exec) (applied.Told answer) state o is r stands =
     loses_stand work w after exec answer state o r stands
+does_stand work w after (steps.Tick now) (applied.Noted answer) state o is r stands =
+    ticks_stand work w after now answer state o r stands
 does_stand work w after (steps.Wipe order) (applied.Wipe answer) state o is r stands =
     same_stand work w after state o (ap (λ (x : WorldData). x.desk) r.is) stands
 does_stand work w after (steps.Evict exec) applied.Done state o is r stands =

@@ -13,7 +13,7 @@ use Rattle.sc_core.specs.declared.answers.SideAnswer.TheVariants as sides
 use Rattle.sc_core.specs.declared.events.Event.TheVariants.{Take}
 use Rattle.sc_core.specs.declared.events.FileOutcome.{FileOutcome}
 use Rattle.sc_core.specs.declared.events.SideEvent.{SideEvent}
-use Rattle.sc_core.specs.declared.events.SideEvent.TheVariants.{Ask, Move, Stage}
+use Rattle.sc_core.specs.declared.events.SideEvent.TheVariants.{Ask, Move, Stage, Tick}
 use Rattle.sc_compute.specs.declared.results.TaskResult.TheVariants.{Saved}
 use Rattle.sc_jobs.specs.JobData.{saves}
 use Rattle.sc_desk.specs.Asides.{Notes}
@@ -230,6 +230,16 @@ pub record LosesOne (w : WorldData) (exec : ℕ) (answer : Answer) (after : Worl
   pub told : answer ≡ receipt.answer
   pub is : after ≡ with_desk w desk
 
+-- ---- the time is entered
+
+pub record TicksOne (w : WorldData) (now : ℕ) (answer : SideAnswer) (after : WorldData) : Type 0
+  where
+    pub desk : DeskData
+    pub noted : Noted
+    pub notes : Notes w.desk Driver (Tick now) noted desk
+    pub told : answer ≡ noted.answer
+    pub is : after ≡ with_desk w desk
+
 -- ---- a store is wiped, or lets a cached block go
 
 -- while the job runs, by a wipe of the plan that is due
@@ -280,6 +290,7 @@ Does work w (steps.Move exec) (applied.Noted answer) after = Moves w exec answer
 Does work w (steps.Post exec) (applied.Told answer) after = Posts work w exec answer after
 Does work w (steps.Release key) (applied.Told answer) after = ReleasesOne w key answer after
 Does work w (steps.TellLost exec) (applied.Told answer) after = LosesOne w exec answer after
+Does work w (steps.Tick now) (applied.Noted answer) after = TicksOne w now answer after
 Does work w (steps.Wipe order) (applied.Wipe answer) after = WipesOne work w order answer after
 Does work w (steps.Evict exec) applied.Done after = EvictsOne w exec after
 Does work w steps.NextOrder (applied.Ordered order) after = HandsOrder work w order after

@@ -52,6 +52,7 @@ impl<W: Naming> World<W> {
             Step::Post { exec } => self.apply_post(exec),
             Step::Release { key } => self.apply_release(key),
             Step::TellLost { exec } => self.apply_loss(exec),
+            Step::Tick { now } => self.apply_tick(now),
             Step::Wipe(order) => Ok(self.apply_wipe(order)),
             Step::Evict { exec } => Ok(self.apply_evict(exec)),
             Step::NextOrder => Ok(self.apply_order()),
@@ -77,6 +78,13 @@ impl<W: Naming> World<W> {
             answers.push(self.apply(alloc, output, *step)?)?;
         }
         Ok(answers)
+    }
+
+    fn apply_tick(&mut self, now: u64) -> Result<Applied, AllocError>
+        ensures goes { IfOk result (λ a. Goes W.work self.old (steps.Tick now) a self.new) }
+        ensures refused { OnErr result (self.new ≡ self.old) }
+    {
+        Ok(Applied::Noted(self.tick(now)?))
     }
 
     fn apply_take(&mut self, alloc: Global, exec: ExecId) -> Result<Applied, AllocError>

@@ -28,6 +28,7 @@ mod saving;
 mod serial;
 mod stepping;
 mod steps;
+mod ticks;
 mod turns;
 mod worlds;
 

@@ -59,6 +59,11 @@ pub enum Step {
         /// The executor.
         exec: ExecId,
     },
+    /// The time is entered.
+    Tick {
+        /// The time, in milliseconds.
+        now: u64,
+    },
     /// A store is wiped.
     Wipe(Order),
     /// A store lets its least recently used cached block go.
@@ -84,7 +89,7 @@ pub enum Kept {
 pub enum Applied {
     /// What the scheduler answered.
     Told(Answer),
-    /// What the scheduler answered to what an attempt of a save did.
+    /// What the scheduler answered to what an attempt of a save did, or to the time.
     Noted(SideAnswer),
     /// How much was kept of what was computed.
     Computed(Kept),

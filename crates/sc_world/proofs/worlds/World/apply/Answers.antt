@@ -54,6 +54,12 @@ returns-in-TellLost-clause-files g c =
     c.apply_loss.ensures.goes
     c.apply_loss.ensures.refused c.requires.stand
 
+pub returns-in-Tick-clause-files : goal.returns-in-Tick-clause-files
+returns-in-Tick-clause-files g c =
+    calls_on g.W.Naming.work c.args.self.now c.apply_tick.new.self (steps.Tick c.in-Tick.now)
+    g.F.Files.state c.args.output.now c.apply_tick.result refl c.apply_tick.ensures.goes
+    c.apply_tick.ensures.refused c.requires.stand
+
 pub returns-in-Wipe-clause-files : goal.returns-in-Wipe-clause-files
 returns-in-Wipe-clause-files g c =
     goes_stand g.W.Naming.work c.args.self.now c.apply_wipe.new.self (steps.Wipe c.in-Wipe.order)
