@@ -1,6 +1,6 @@
 #!/usr/bin/env bash
 # Runs each example and compares what it does with what its folder says, and then the examples of
-# the guide and the cookbook, the cases of cases/, and the checks of tools/check_hostile.py.
+# the guide and the cookbook, and the cases of cases/.
 #
 #   tools/check_examples.sh
 #
@@ -107,8 +107,7 @@ done
 if command -v python3 >/dev/null 2>&1; then
   python3 "$top/tools/check_guide.py" || result=1
   python3 "$top/tools/check_cases.py" || result=1
-  python3 "$top/tools/check_hostile.py" || result=1
 else
-  echo "skipped: tools/check_guide.py, tools/check_cases.py, tools/check_hostile.py (no python3)"
+  echo "skipped: tools/check_guide.py, tools/check_cases.py (no python3)"
 fi
 exit $result
