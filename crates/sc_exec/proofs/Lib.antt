@@ -6,6 +6,7 @@ pub mod OwedLemmas
 pub mod PartLemmas
 pub mod ReadingLemmas
 pub mod TurnLemmas
+pub mod Unread
 pub mod VerdictLemmas
 pub mod WorkerLemmas
 pub mod WorksCross

@@ -1,5 +1,5 @@
 -- What an attempt reads next.
-use Rattle.std.proofs.Common.{ℕ, ◌≡◌, ◌≢◌, ◌<◌, ◌∙◌, All, length, Option, Some, None, Result, Ok, Err, IfErr, slice_get, refl, ap, rules}
+use Rattle.std.proofs.Common.{ℕ, ◌≡◌, ◌≢◌, ◌<◌, ◌∙◌, All, length, Option, Some, None, slice_get, refl, ap, rules}
 use Rattle.std.proofs.lemmas.Option.{slice_get_within}
 use Rattle.sc_ids.specs.declared.blocks.BlockId.{BlockId}
 use Rattle.sc_ids.specs.declared.blocks.Loc.{Loc}
@@ -8,14 +8,8 @@ use Rattle.sc_tracker.specs.declared.outputs.Location.TheVariants as locations
 use Rattle.sc_dag.proofs.Items.{all_at}
 use Rattle.sc_net.specs.Tasks.{TaskData, blocks_of_task}
 use Rattle.sc_task.specs.Nexts.{LaySomewhere, next_at, next_of}
-use Rattle.sc_store.specs.StoreData.{StoreData}
-use Rattle.sc_task.specs.declared.next.Next.{Next}
 use Rattle.sc_task.specs.declared.next.Next.TheVariants.{Complete, Missing}
-use Rattle.sc_exec.specs.Fetching.{IsUnread}
-use Rattle.sc_exec.specs.Performing.{IsHindrance}
 use Rattle.sc_exec.specs.Turns.{LiesOrLay}
-use Rattle.sc_exec.specs.declared.lefts.Left.{Left}
-use Rattle.sc_exec.specs.declared.lefts.Left.TheVariants as lefts
 
 -- where something is left to read, fewer blocks were read than the task reads
 pub some_left : (t : TaskData) (got : ℕ) → next_of t got ≢ Complete
@@ -48,16 +42,3 @@ lay_somewhere t got last lay e =
     by (Some b) (Some (locations.Missing None)) at is =
         absurd (all_at LiesOrLay t.hand_out.inputs got (locations.Missing None) lay at)
     by (Some b) (Some (locations.Missing (Some x))) at is = tt
-
--- what keeps a block from being read keeps the executor from going on
-pub unread_hinders : {T : Type 0} (exec : ℕ) (store : StoreData) (next : Next)
-    (r : Result T Left) → IfErr r (IsUnread exec store next) → IfErr r IsHindrance
-unread_hinders exec store next (Ok t) unread = unread
-unread_hinders exec store next (Err (lefts.Stranger stranger)) unread = tt
-unread_hinders exec store next (Err (lefts.Absent absence)) unread = tt
-unread_hinders exec store next (Err lefts.NoMemory) unread = tt
-unread_hinders exec store next (Err (lefts.Early early)) unread = absurd unread
-unread_hinders exec store next (Err lefts.JobEnded) unread = absurd unread
-unread_hinders exec store next (Err (lefts.Stopped first)) unread = absurd unread
-unread_hinders exec store next (Err lefts.Lost) unread = absurd unread
-unread_hinders exec store next (Err (lefts.Busy held)) unread = absurd unread

@@ -111,7 +111,7 @@ impl<W: Naming, J: Opening, F: Files> Helm<W, J, F> {
 
     /// An executor posts a report, and logs what it was answered. One that is handed back isn't
     /// logged. A refused call changes nothing and hands the report back.
-    #[tactic(auto, using(crate::proofs::LogLemmas::log_post, crate::proofs::LogLemmas::possible, crate::proofs::HelmLemmas::job_same))]
+    #[tactic(auto, using(crate::proofs::LogLemmas::log_post, crate::proofs::HelmLemmas::job_same))]
     pub fn post(
         &mut self,
         log: &mut ExecLog,

@@ -89,7 +89,7 @@ fn gather<W: Naming, R: Wait>(
 }
 
 /// Goes for the next block of an attempt, which lies on some executor, or had no location.
-#[tactic(auto, using(crate::proofs::ReadingLemmas::lay_somewhere, crate::proofs::ReadingLemmas::unread_hinders))]
+#[tactic(auto, using(crate::proofs::ReadingLemmas::lay_somewhere, crate::proofs::Unread::hinders))]
 fn get_next<W: Naming, R: Wait>(
     rt: &R,
     stores: &[Mutex<Store<W>>],
