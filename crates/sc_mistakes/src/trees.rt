@@ -1,0 +1,98 @@
+//! Lines of tokens that have no form.
+#![tactic(auto)]
+
+use crate::tables::SIGNS;
+use sc_pieces::{
+    Found, Note, Piece, PieceKind, Place, is_among, is_word, operation_place, word_at,
+};
+use std::alloc::Global;
+
+/// Where a line of tokens has no form, and why.
+pub(crate) fn form_fault(alloc: Global, line: &str, pieces: &[Piece]) -> Found {
+    let start = operation_place(line, pieces);
+    match word_at(line, pieces, 0) {
+        Some(word) if is_word(word) => {}
+        _ => return note_at(alloc, pieces, 0, "a line begins with a name or an action"),
+    }
+    match word_at(line, pieces, start) {
+        Some(word) if is_word(word) => {}
+        None if start >= pieces.len() => {
+            let text = String::from_str(alloc, "an operation is wanted behind the =")?;
+            return Ok(Some(Note::at(end_of(line), text)));
+        }
+        _ => return note_at(alloc, pieces, start, "an operation is wanted here"),
+    }
+    tree_fault(alloc, line, pieces, start.saturating_add(1))
+}
+
+/// Where parentheses, signs and `=` stand wrong among arguments, and why.
+fn tree_fault(alloc: Global, line: &str, pieces: &[Piece], from: usize) -> Found {
+    let mut depth: usize = 0;
+    let mut is_head = false;
+    for (at, piece) in pieces.iter().enumerate() {
+        if at < from {
+            continue;
+        }
+        if is_head && !is_head_token(line, *piece) {
+            return note_at(
+                alloc,
+                pieces,
+                at,
+                "behind ( a head is wanted, as in (len x)",
+            );
+        }
+        if piece.kind == PieceKind::Close && depth == 0 {
+            return note_at(alloc, pieces, at, "this ) closes nothing");
+        }
+        if !is_head && piece.kind == PieceKind::Other {
+            if let Some(why) = misplaced(piece.text(line)) {
+                return note_at(alloc, pieces, at, why);
+            }
+        }
+        is_head = piece.kind == PieceKind::Open;
+        depth = match piece.kind {
+            PieceKind::Open => depth.saturating_add(1),
+            PieceKind::Close => depth.saturating_sub(1),
+            _ => depth,
+        };
+    }
+    if depth == 0 {
+        return Ok(None);
+    }
+    let text = format!(in alloc; "{depth} more ) wanted at the end of the line")?;
+    Ok(Some(Note::at(end_of(line), text)))
+}
+
+/// Why a piece that is no head may not stand among arguments, if it may not.
+fn misplaced(piece: &str) -> Option<&'static str> {
+    if is_among(piece, SIGNS) {
+        return Some("a sign stands right behind a (, before what it takes, as in (+ x 1)");
+    }
+    if piece == "=" {
+        return Some("the = stands behind the name that a line defines, and nowhere else");
+    }
+    None
+}
+
+/// Whether a piece may be a head.
+fn is_head_token(line: &str, piece: Piece) -> bool {
+    let text = piece.text(line);
+    piece.kind == PieceKind::Other && (is_word(text) || is_among(text, SIGNS))
+}
+
+/// A note about a piece.
+fn note_at(alloc: Global, pieces: &[Piece], at: usize, why: &str) -> Found {
+    let text = String::from_str(alloc, why)?;
+    match pieces.get(at) {
+        Some(piece) => Ok(Some(Note::at(piece.place, text))),
+        None => Ok(Some(Note::of_line(text))),
+    }
+}
+
+/// The place behind the last character of a line.
+fn end_of(line: &str) -> Place {
+    Place {
+        from: line.len(),
+        to: line.len().saturating_add(1),
+    }
+}

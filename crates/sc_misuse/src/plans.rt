@@ -1,0 +1,195 @@
+//! Faults of fault plans.
+#![tactic(auto)]
+
+use crate::plan_words::{digits, form_of, number_count, number_in, word_of, word_places};
+use sc_base::OrMemory;
+use sc_pieces::{Found, Note, Place, strange_in, write_near, write_no_text, write_note};
+use sc_plan::{PlanFault, PlanFaultKind};
+use sc_value::{Octets, Texts, is_digits, lines};
+use std::alloc::{AllocError, Global};
+
+/// The kinds of lines.
+const KINDS: &str = "fail late twice drop lose evict";
+
+/// The largest number of a line, and the most bytes of one.
+const NUMBER_LIMIT: u32 = 1_000_000;
+
+const LINE_LIMIT: usize = 4096;
+
+/// What is wrong with the fault plan of a name, where its parser gave a fault.
+pub fn explain_plan(
+    alloc: Global,
+    name: &str,
+    bytes: &Octets,
+    executors: u32,
+    fault: PlanFault,
+) -> Result<String, AllocError> {
+    let mut out = String::new(alloc);
+    if fault.line == 0 && fault.kind == PlanFaultKind::Limit {
+        let len = bytes.len();
+        writeln!(
+            out,
+            "  {name} has {len} bytes, and a fault plan at most 65536"
+        )?;
+        return Ok(out);
+    }
+    match lines(alloc, bytes) {
+        Ok(lines) => explain_line(alloc, &mut out, name, &lines, executors, fault)?,
+        Err(error) => match error {
+            OrMemory::Fault(_) => write_no_text(&mut out, name, bytes.as_slice())?,
+            OrMemory::OutOfMemory => return Err(AllocError),
+        },
+    }
+    Ok(out)
+}
+
+/// Tells of a line.
+fn explain_line(
+    alloc: Global,
+    out: &mut String,
+    name: &str,
+    lines: &Texts,
+    executors: u32,
+    fault: PlanFault,
+) -> Result<(), AllocError> {
+    let place = (fault.line as usize).saturating_sub(1);
+    if place >= lines.len() {
+        return Ok(());
+    }
+    let line = lines.get(place);
+    let words = word_places(alloc, line)?;
+    let words = words.as_slice();
+    let found = match fault.kind {
+        PlanFaultKind::NotText => None,
+        PlanFaultKind::UnknownName => unknown_kind(alloc, line, words)?,
+        PlanFaultKind::Syntax => shape_fault(alloc, line, words)?,
+        PlanFaultKind::Limit => limit_fault(alloc, line, words, executors)?,
+        PlanFaultKind::Twice => twice_fault(alloc, line, words, lines, place)?,
+    };
+    match found {
+        Some(note) => write_note(out, name, line, fault.line, &note),
+        None => {
+            let text = String::from_str(alloc, "a line is KIND NUMBER..")?;
+            write_note(out, name, line, fault.line, &Note::of_line(text))
+        }
+    }
+}
+
+/// A first word that is no kind of line.
+fn unknown_kind(alloc: Global, line: &str, words: &[Place]) -> Found {
+    let Some(place) = words.first() else {
+        return Ok(None);
+    };
+    let word = place.part(line);
+    let found = strange_in(alloc, word, place.from)?;
+    if found.is_some() {
+        return Ok(found);
+    }
+    let mut text = format!(in alloc; "there is no kind of line `{word}`")?;
+    write_near(alloc, &mut text, word, KINDS)?;
+    write!(text, "\n  there are {KINDS}")?;
+    Ok(Some(Note::at(*place, text)))
+}
+
+/// A line that hasn't as many numbers as its kind takes.
+fn shape_fault(alloc: Global, line: &str, words: &[Place]) -> Found {
+    let form = form_of(word_of(line, words, 0));
+    for (at, place) in words.iter().enumerate() {
+        if at > 0 && !is_digits(place.part(line).as_bytes()) {
+            let text = format!(in alloc; "a number is wanted here: digits alone\n  {form}")?;
+            return Ok(Some(Note::at(*place, text)));
+        }
+    }
+    let wanted = number_count(word_of(line, words, 0));
+    let found = words.len().saturating_sub(1);
+    let kind = word_of(line, words, 0);
+    let text = format!(in alloc; "`{kind}` takes {wanted} numbers, and has {found}\n  {form}")?;
+    match words.first() {
+        Some(place) => Ok(Some(Note::at(*place, text))),
+        None => Ok(Some(Note::of_line(text))),
+    }
+}
+
+/// A line that passes a limit.
+fn limit_fault(alloc: Global, line: &str, words: &[Place], executors: u32) -> Found {
+    if line.len() > LINE_LIMIT {
+        let text = format!(in alloc; "a line has at most {LINE_LIMIT} bytes")?;
+        return Ok(Some(Note::of_line(text)));
+    }
+    for (at, place) in words.iter().enumerate() {
+        if at > 0 && number_in(line, *place) > NUMBER_LIMIT {
+            let text = format!(in alloc; "numbers end at {NUMBER_LIMIT}")?;
+            return Ok(Some(Note::at(*place, text)));
+        }
+    }
+    let kind = word_of(line, words, 0);
+    if let ("drop" | "lose" | "evict", Some(exec)) = (kind, words.get(1)) {
+        if number_in(line, *exec) >= executors {
+            let last = executors.saturating_sub(1);
+            let text = format!(in alloc;
+                "there are {executors} executors, from 0 to {last}: --executors N makes more"
+            )?;
+            return Ok(Some(Note::at(*exec, text)));
+        }
+    }
+    told_early(alloc, line, words)
+}
+
+/// A loss that is told before the executor is wiped, or one line too many.
+fn told_early(alloc: Global, line: &str, words: &[Place]) -> Found {
+    if let ("lose", Some(after), Some(told)) = (
+        word_of(line, words, 0),
+        words.get(2),
+        words.get(3),
+    ) {
+        if number_in(line, *told) < number_in(line, *after) {
+            let text = String::from_str(
+                alloc,
+                "an executor is told lost when it is wiped, or later: this number is less",
+            )?;
+            return Ok(Some(Note::at(*told, text)));
+        }
+    }
+    let text = String::from_str(alloc, "a fault plan has at most 256 lines")?;
+    Ok(Some(Note::of_line(text)))
+}
+
+/// The line before that says the same.
+fn twice_fault(alloc: Global, line: &str, words: &[Place], lines: &Texts, end: usize) -> Found {
+    let kind = word_of(line, words, 0);
+    for i in 0..lines.len() {
+        if i < end {
+            let other = lines.get(i);
+            let places = word_places(alloc, other)?;
+            if is_same_line(line, words, other, places.as_slice()) {
+                let number = i.saturating_add(1);
+                let text = format!(in alloc; "line {number} says the same of {kind} already")?;
+                return Ok(match words.first() {
+                    Some(place) => Some(Note::at(*place, text)),
+                    None => Some(Note::of_line(text)),
+                });
+            }
+        }
+    }
+    Ok(None)
+}
+
+/// Whether two lines say the same: of one kind, with the same first numbers.
+fn is_same_line(line: &str, words: &[Place], other: &str, others: &[Place]) -> bool {
+    let kind = word_of(line, words, 0);
+    let keys: usize = match kind {
+        "fail" | "late" | "twice" => 3,
+        "lose" => 1,
+        _ => 2,
+    };
+    if kind != word_of(other, others, 0) {
+        return false;
+    }
+    for at in 0..keys {
+        let place = at.saturating_add(1);
+        if digits(word_of(line, words, place)) != digits(word_of(other, others, place)) {
+            return false;
+        }
+    }
+    true
+}
