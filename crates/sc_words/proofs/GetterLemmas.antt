@@ -1,11 +1,12 @@
 -- What the getters read.
-use Rattle.std.proofs.Common.{◌≡◌, ◌&&◌, ap, ℕ, Bool, true, false, refl, List, [], ◌∷◌, length, Option, Some, None, Result, Ok, Err, nat_lt, lt-ltb, ltb-true}
+use Rattle.std.proofs.Common.{◌≡◌, ◌&&◌, ap, sym, ℕ, Bool, true, false, refl, List, [], ◌∷◌, length, Option, Some, None, Result, Ok, Err, bytes_eq, codes, nat_lt, lt-ltb, ltb-true}
+use Rattle.std.proofs.lemmas.Slice.Eq.{bytes_eq-Decides}
 use Rattle.std.specs.List.{list_all}
-use Rattle.std.specs.Option.{option_map, unwrap_or}
+use Rattle.std.specs.Option.{option_map, option_map_or, unwrap_or}
 use Rattle.std.specs.Prelude.{option_and_then}
 use Rattle.std.specs.Borrow.{Bor}
 use Rattle.std.specs.Char.{digit_value}
-use Rattle.std.specs.Str.Parse.{AllDigits, ParsesUnsigned, digits_value, without_leading_plus}
+use Rattle.std.specs.Str.Parse.{AllDigits, ParsesBool, ParsesUnsigned, digits_value, without_leading_plus}
 use Rattle.clap.specs.ValueTests.{is_numeral}
 use Rattle.clap.specs.Words.{Text}
 use Rattle.clap.specs.Matches.{ReadsOne}
@@ -63,6 +64,25 @@ number_read {E} G (Some t) None only none some =
     let h = some t refl in
     let r : Result ℕ E = Err h.0 in
     parsed t r (only t r h.1)
+
+-- whether a text that a getter reads as a truth value is `true`
+flag_in : (E : Type 0) (text : Text) (r : Option Bool)
+    → ReadsOne {T = Bool} {E = E} ParsesBool text r
+    → unwrap_or r false ≡ bytes_eq (codes "true") text
+flag_in E text (Some true) h = sym ((bytes_eq-Decides (codes "true") text).1 (sym h))
+flag_in E text (Some false) h = rw h refl
+flag_in E text None h = go (bytes_eq (codes "true") text) refl
+  where
+    go : (b : Bool) → bytes_eq (codes "true") text ≡ b → false ≡ bytes_eq (codes "true") text
+    go false e = sym e
+    go true e = absurd (h.1.0 (sym ((bytes_eq-Decides (codes "true") text).0 e)))
+
+-- the flag that a getter reads, by the text that it has
+pub flag_read : (E : Type 0) (o : Option Text) (r : Option Bool) → ((o ≡ None) → (r ≡ None))
+    → ((t : List ℕ) → (o ≡ Some t) → ReadsOne {T = Bool} {E = E} ParsesBool t r)
+    → unwrap_or r false ≡ option_map_or (bytes_eq (codes "true")) o false
+flag_read E None r none some = ap (λ (q : Option Bool). unwrap_or q false) (none refl)
+flag_read E (Some t) r none some = flag_in E t r (some t refl)
 
 -- a text, or the empty one
 pub text_or_empty : (o : Option (Bor Text)) (d : Bor Text) → d.now ≡ []

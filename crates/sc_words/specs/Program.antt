@@ -1,6 +1,7 @@
 -- The command line, as what `clap` reads of it: two subcommands, each with options.
 use Rattle.std.specs.Prelude.{ℕ, true, false, List, [], ◌∷◌, Some, codes, pos}
 use Rattle.clap.specs.Words.{App, Rule, Text, new_app, new_rule}
+use Rattle.clap.specs.declared.builder.action.ArgAction.TheVariants.{SetTrue}
 use Rattle.clap.specs.declared.builder.value_parser.ValueParser.TheVariants as parsers
 
 -- the script's name, which has to be there
@@ -22,6 +23,10 @@ required_number_rule name least most = record (number_rule name least most) { re
 abbrev pub text_rule : Text → Rule
 text_rule name = record (new_rule name) { long = Some name }
 
+-- an option that takes nothing: the text found for it is `true` where it is given, else `false`
+abbrev pub flag_rule : Text → Rule
+flag_rule name = record (new_rule name) { long = Some name; action = Some SetTrue }
+
 -- what `run` takes
 abbrev pub run_rules : List Rule
 run_rules =
@@ -31,6 +36,7 @@ run_rules =
     ∷ number_rule (codes "stage-attempts") 1 16
     ∷ number_rule (codes "cache") 1 4096
     ∷ text_rule (codes "plan")
+    ∷ flag_rule (codes "speculation")
     ∷ []
 
 -- the subcommand `run`

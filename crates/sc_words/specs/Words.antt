@@ -1,5 +1,6 @@
 -- What the words of the command line ask for.
-use Rattle.std.specs.Prelude.{ℕ, ◌≡◌, ◌≢◌, ◌&&◌, List, [], ◌∷◌, Option, Some, None, Result, Ok, Err, codes, nat_le, nat_lt, if◌then◌else◌, option_and_then, option_map, unwrap_or}
+use Rattle.std.specs.Prelude.{ℕ, ◌≡◌, ◌≢◌, ◌&&◌, Bool, true, false, List, [], ◌∷◌, Option, Some, None, Result, Ok, Err, codes, nat_le, nat_lt, if◌then◌else◌, option_and_then, option_map, unwrap_or}
+use Rattle.std.specs.Option.{option_map_or}
 use Rattle.std.specs.Str.{bytes_eq}
 use Rattle.std.specs.Str.Parse.{digits_value, without_leading_plus}
 use Rattle.clap.specs.ValueTests.{is_numeral}
@@ -36,6 +37,10 @@ abbrev pub number_at : Text → ℕ → ℕ → List Row → ℕ → ℕ
 number_at name least most rows other =
     within least most (unwrap_or (option_and_then number_of (one_of name rows)) other) other
 
+-- a flag is given: the text that it has is `true`
+abbrev pub flag_at : Text → List Row → Bool
+flag_at name rows = option_map_or (bytes_eq (codes "true")) (one_of name rows) false
+
 -- the limits that the options set; the others are those of a run that sets none
 abbrev pub limits_at : List Row → Limits
 limits_at rows = record default_limits {
@@ -43,6 +48,7 @@ limits_at rows = record default_limits {
   task_failures = number_at (codes "task-failures") 1 16 rows default_limits.task_failures;
   stage_attempts = number_at (codes "stage-attempts") 1 16 rows default_limits.stage_attempts;
   cache = number_at (codes "cache") 1 4096 rows default_limits.cache;
+  speculation = flag_at (codes "speculation") rows;
 }
 
 -- the command of what `clap` found for `run`
@@ -114,3 +120,15 @@ NamesAreCommands =
     (name : Text) → IsPlainName name
     → command_of (codes "run" ∷ name ∷ [])
     ≡ Some (record { script = name; plan = None; limits = default_limits; workload = None })
+
+-- with the flag behind them they are the same run, but slow tasks may be copied
+abbrev pub FlagAsksForCopies : Type 0
+FlagAsksForCopies =
+    (name : Text) → IsPlainName name
+    → command_of (codes "run" ∷ name ∷ codes "--speculation" ∷ [])
+    ≡ Some (record {
+      script = name;
+      plan = None;
+      limits = record default_limits { speculation = true };
+      workload = None;
+    })

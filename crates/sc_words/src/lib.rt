@@ -12,5 +12,5 @@ mod program;
 mod words;
 
 pub use commands::{Command, Usage, Workload};
-pub use laws::names_are_commands;
+pub use laws::{flag_asks_for_copies, names_are_commands};
 pub use words::read_words;

@@ -4,9 +4,9 @@
 ghost use Rattle.std.specs.Prelude.{◌≡◌, IfOk, None, false};
 ghost use Rattle.clap.specs.Words.{app_of, rule_of};
 ghost use Rattle.clap.specs.declared.Command.TheViews.{out-Command as fields_of};
-ghost use Rattle.sc_words.specs.Program.{gen_app, number_rule, program, required_number_rule, run_app, text_rule};
+ghost use Rattle.sc_words.specs.Program.{flag_rule, gen_app, number_rule, program, required_number_rule, run_app, text_rule};
 
-use clap::{Arg, Command, value_parser};
+use clap::{Arg, ArgAction, Command, value_parser};
 use std::alloc::{AllocError, Global};
 
 /// The command line of the program.
@@ -34,7 +34,8 @@ fn run_command<'a>(alloc: Global) -> Result<Command<'a>, AllocError>
         .arg(number_option(alloc, "task-failures", 1, 16))?
         .arg(number_option(alloc, "stage-attempts", 1, 16))?
         .arg(number_option(alloc, "cache", 1, 4096))?
-        .arg(text_option(alloc, "plan"))
+        .arg(text_option(alloc, "plan"))?
+        .arg(flag_option(alloc, "speculation"))
 }
 
 /// The subcommand `gen`.
@@ -66,4 +67,12 @@ fn text_option<'a>(alloc: Global, name: &'a str) -> Arg<'a>
     ensures any { result.value_parser ≡ None }
 {
     Arg::new(alloc, name).long(name)
+}
+
+/// An option that takes nothing: it is given or not.
+fn flag_option<'a>(alloc: Global, name: &'a str) -> Arg<'a>
+    ensures rule { rule_of result ≡ flag_rule name.entry.now }
+    ensures local { result.global ≡ false }
+{
+    Arg::new(alloc, name).long(name).action(ArgAction::SetTrue)
 }

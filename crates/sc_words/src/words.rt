@@ -5,7 +5,7 @@ ghost use Rattle.std.specs.Prelude.{◌≡◌, IfOk, map, option_map};
 ghost use Rattle.std.specs.String.{string_bytes};
 ghost use Rattle.clap.specs.Words.{found_of, kind_of, rows_of};
 ghost use Rattle.sc_ids.specs.LimitRanges.{AreLimits};
-ghost use Rattle.sc_words.specs.Words.{FindsMatches, ReadsWords, RefusesFor, command_at, gen_at, limits_at, number_at, run_at, within, workload_at};
+ghost use Rattle.sc_words.specs.Words.{FindsMatches, ReadsWords, RefusesFor, command_at, flag_at, gen_at, limits_at, number_at, run_at, within, workload_at};
 
 use crate::commands::{Command, Usage, Workload};
 use crate::program::program;
@@ -130,8 +130,16 @@ fn limits_from(found: &ArgMatches<'_>) -> Limits
         task_failures: number_from(found, "task-failures", 1, 16, limits.task_failures),
         stage_attempts: number_from(found, "stage-attempts", 1, 16, limits.stage_attempts),
         cache: number_from(found, "cache", 1, 4096, limits.cache),
+        speculation: flag_from(found, "speculation"),
         ..limits
     }
+}
+
+/// Whether a flag is given.
+fn flag_from(found: &ArgMatches<'_>, flag: &str) -> bool
+    ensures { result ≡ flag_at flag.now (rows_of (found_of found.now)) }
+{
+    found.get_one::<bool>(flag).unwrap_or(false)
 }
 
 /// The number that an option has, or `other` where it has none from `least` to `most`.

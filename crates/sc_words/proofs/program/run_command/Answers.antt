@@ -18,9 +18,11 @@ returns-clause-app c =
     c.number_option-3.ensures.rule in
     let five = adds_rule _ _ _ _ _ c.in_ok-arg-5.ensures c.number_option-4.ensures.local four
     c.number_option-4.ensures.rule in
-    IfOk-weaker c.arg-6.result _ _
-    (λ m added. adds_rule _ _ _ _ _ added c.text_option.ensures.local five
-    c.text_option.ensures.rule) c.arg-6.ensures
+    let six = adds_rule _ _ _ _ _ c.in_ok-arg-6.ensures c.text_option.ensures.local five
+    c.text_option.ensures.rule in
+    IfOk-weaker c.arg-7.result _ _
+    (λ m added. adds_rule _ _ _ _ _ added c.flag_option.ensures.local six
+    c.flag_option.ensures.rule) c.arg-7.ensures
 
 pub returns-clause-local : goal.returns-clause-local
 returns-clause-local c =
@@ -30,5 +32,6 @@ returns-clause-local c =
     let three = stays_local _ _ _ c.in_ok-arg-3.ensures c.number_option-2.ensures.local two in
     let four = stays_local _ _ _ c.in_ok-arg-4.ensures c.number_option-3.ensures.local three in
     let five = stays_local _ _ _ c.in_ok-arg-5.ensures c.number_option-4.ensures.local four in
-    IfOk-weaker c.arg-6.result _ _
-    (λ m added. stays_local _ _ _ added c.text_option.ensures.local five) c.arg-6.ensures
+    let six = stays_local _ _ _ c.in_ok-arg-6.ensures c.text_option.ensures.local five in
+    IfOk-weaker c.arg-7.result _ _
+    (λ m added. stays_local _ _ _ added c.flag_option.ensures.local six) c.arg-7.ensures
