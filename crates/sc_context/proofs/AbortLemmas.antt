@@ -46,6 +46,7 @@ use Rattle.sc_desk.specs.Sound.{AreEvident, EndedFor, IsEvident}
 use Rattle.sc_context.specs.Aborts.{IsAborted, IsUnplanned, ShowsAbort}
 use Rattle.sc_context.specs.Histories.{HasCome, IsHistory}
 use Rattle.sc_context.specs.Progress.{IsNext, Progress, first_progress}
+use Rattle.sc_context.proofs.BehindLemmas.{fits_behind}
 use Rattle.sc_context.proofs.CalmLemmas.{gives_none_up, not_ignored, opening_calm}
 
 -- ---- evidence of what is told
@@ -110,29 +111,33 @@ module _ (known_causes : AreCauses) (work : WorkData) (sound : IsSoundWork work)
   -- every executor was told lost
   all_lost : h.end.job ≡ jobs.Aborted NoExecutor → are_lost h.end.dag.tracker.trust ≡ true
   all_lost e =
-      no_executors_are_shown is.graph work.limits (saves work goal) work.plan p.last h.opening h.end
-      h.entries.items is.opening is.began is.replays e
+      no_executors_are_shown is.graph work.limits (saves work goal) work.plan is.from h.opening
+      h.end h.entries.items is.opening is.began is.replays e
 
   -- the history shows the abort
   pub shows_abort : (abort : Abort) → h.end.job ≡ jobs.Aborted abort
       → ShowsAbort work h is.replays abort
   shows_abort (TaskLimit stage number partition) e =
-      task_limits_are_shown is.graph work.limits (saves work goal) work.plan p.last h.opening h.end
+      task_limits_are_shown is.graph work.limits (saves work goal) work.plan is.from h.opening h.end
       h.entries.items stage number partition is.opening is.began is.replays e
   shows_abort (StageLimit stage) e =
-      stage_limits_are_shown is.graph work.limits (saves work goal) work.plan p.last h.opening h.end
-      h.entries.items stage is.opening is.began is.replays e
+      stage_limits_are_shown is.graph work.limits (saves work goal) work.plan is.from h.opening
+      h.end h.entries.items stage is.opening is.began is.replays e
   shows_abort NoExecutor e = λ exec within.
       let lost = known_causes.losses work.plan h.end exec core fits.plan (all_lost e)
       (subst (λ n. exec < n) (sym fits.execs) within) in
       (lost, losses_are_shown h.opening h.end h.entries.items exec is.began is.replays lost.lost)
   shows_abort Budget e =
-      budgets_are_shown is.graph work.limits (saves work goal) work.plan p.last h.opening h.end
+      budgets_are_shown is.graph work.limits (saves work goal) work.plan is.from h.opening h.end
       h.entries.items is.opening is.replays e
 
   -- Where the plan has no line.
   module _ (carried : IsCarriedFor work.script.nodes p.carried) (known : IsGoal work goal)
       (before : FitsLast work p.last) (empty : work.plan ≡ []) where
+    -- so does what the job began behind
+    from_fits : FitsLast work is.from
+    from_fits = fits_behind work p.last is.from h.entries.items is.behind before
+
     -- the job is for this action
     serves : (g : Goal) → IsNext work p g → Serves work g p.actions
     serves (goals.Action number) next = next.0
@@ -202,7 +207,7 @@ module _ (known_causes : AreCauses) (work : WorkData) (sound : IsSoundWork work)
         gives_none_up work job empty known_causes.empty.none known_causes.missing h.opening h.end
         h.entries.items stage
         (opening_calm work job empty known_causes.empty.none known_causes.missing is.graph
-        (saves work goal) p.last h.opening is.opening is.began before)
+        (saves work goal) is.from h.opening is.opening is.began from_fits)
         (is.replays, is.evidence) (omega (arith, sound.limits.stage_attempts.above))
         (shows_abort (StageLimit stage) e)
     unplanned_abort NoExecutor e =

@@ -1,5 +1,5 @@
 -- Jobs one behind the other.
-use Rattle.std.proofs.Common.{◌≡◌, ◌∙◌, inl, inr, ◌+◌, ◌-◌, ◌<◌, List, [], ◌∷◌, ◌++◌, Option, Some, None, length, slice_get, refl, ap, sym, subst, arith, append_assoc}
+use Rattle.std.proofs.Common.{◌≡◌, ◌∙◌, inl, inr, ℕ, ◌+◌, ◌-◌, ◌<◌, List, [], ◌∷◌, ◌++◌, Option, Some, None, length, slice_get, refl, ap, sym, subst, arith, append_assoc}
 use Rattle.std.specs.Option.{option_map}
 use Rattle.std.proofs.lemmas.List.{append-nil, length-append}
 use Rattle.sc_base.specs.Outside.{FilesState}
@@ -18,21 +18,21 @@ use Rattle.sc_jobs.specs.declared.goals.Goal.{Goal}
 use Rattle.sc_jobs.specs.declared.goals.Goal.TheVariants as goals
 use Rattle.sc_jobs.proofs.SortLemmas.{first_bounds_can_be_found}
 use Rattle.sc_staging.specs.Laws.{WaysGoOn}
-use Rattle.sc_store.specs.StoreData.{StoreData}
 use Rattle.sc_desk.specs.DeskData.{PassedData}
 use Rattle.sc_desk.specs.Files.{dir_of_job}
 use Rattle.sc_context.specs.Aborts.{IsHalted}
 use Rattle.sc_context.specs.Bounding.{GoesOn}
 use Rattle.sc_context.specs.Contexts.{ContextData, Evaluates, GivesNext, IsEnded, ShowsStop, StandBehind, Stops}
-use Rattle.sc_context.specs.Files.{HasCounted, StopsFiles, faults_told}
+use Rattle.sc_context.specs.Files.{HasCounted, StopsFiles}
 use Rattle.sc_context.specs.Histories.{HasCome, IsCutShort, IsDone, IsHistory, IsUnaborted, last_end}
+use Rattle.sc_context.specs.Goings.{IsLeftOpen}
 use Rattle.sc_context.specs.Outputs.{IsOpenIn, RefusesOutput}
 use Rattle.sc_context.specs.Progress.{IsNext, Progress, behind_job, first_progress, next_node}
 use Rattle.sc_context.specs.declared.stops.JobFault.{JobFault}
 use Rattle.sc_context.specs.declared.stops.JobFault.TheVariants as faults
-use Rattle.sc_context.proofs.CountingLemmas.{counts_behind, ended_counts, left_counts, opened_counts, refused_counts, still_counts}
+use Rattle.sc_context.proofs.CountingLemmas.{counts_behind, ended_counts, given_up_counts, left_counts, opened_counts, refused_counts, still_counts}
 use Rattle.sc_context.proofs.DoneLemmas.{aborted_undone}
-use Rattle.sc_context.proofs.FilesLemmas.{HaveGone, gone_then, left_stops, refused_stops, stops_for, unbegun_stops, unchanged_stops}
+use Rattle.sc_context.proofs.FilesLemmas.{HaveGone, gone_then, given_up_stops, left_stops, refused_stops, stops_for, unbegun_stops, unchanged_stops}
 
 -- one job more is done
 pub come_more : (work : WorkData) (p mid after : Progress) (histories : List JobHistory)
@@ -108,30 +108,30 @@ done_unaborted end done abort aborted = aborted_undone end.job abort aborted don
 
 -- before a job
 pub stops_short : (work : WorkData) (c : ContextData) (why : OrMemory JobFault)
-    (histories : List JobHistory) (files : FilesState)
+    (histories : List JobHistory) (given_up : ℕ) (files : FilesState)
     → HasCome work (first_progress work) c.histories c.progress
     → why ≡ OutOfMemory → histories ≡ c.histories → files ≡ c.files
-    → Stops work c why histories files
-stops_short work c why histories files come none all same =
-    subst (λ w. Stops work c w histories files) (sym none)
+    → Stops work c why histories given_up files
+stops_short work c why histories given_up files come none all same =
+    subst (λ w. Stops work c w histories given_up files) (sym none)
     (record {
       behind = ([], all ∙ sym (append-nil c.histories));
       shows = cut_short work c histories come all;
       over = unchanged_stops (dir_of_job work (goals.Action c.progress.actions)) c.files files
           OutOfMemory same tt;
-      counted = still_counts c.files files same;
+      counted = still_counts given_up c.files files same;
     })
 
 -- or behind one that is done
 pub stops_ended : (work : WorkData) (c : ContextData) (goal : Goal) (why : OrMemory JobFault)
-    (passed : PassedData) (stores : List StoreData) (histories left : List JobHistory)
-    (given : List TaskResult) (files files_left : FilesState) → IsNext work c.progress goal
+    (passed : PassedData) (histories left : List JobHistory) (given : List TaskResult)
+    (given_up : ℕ) (files files_left : FilesState) → IsNext work c.progress goal
     → HasCome work (first_progress work) c.histories c.progress
-    → IsEnded work c goal passed stores histories given files → why ≡ OutOfMemory
-    → left ≡ histories → files_left ≡ files → Stops work c why left files_left
-stops_ended work c goal why passed stores histories left given files files_left next come ended
+    → IsEnded work c goal passed histories given files → why ≡ OutOfMemory
+    → left ≡ histories → files_left ≡ files → Stops work c why left given_up files_left
+stops_ended work c goal why passed histories left given given_up files files_left next come ended
     none all same =
-    subst (λ w. Stops work c w left files_left) (sym none)
+    subst (λ w. Stops work c w left given_up files_left) (sym none)
     (record {
       behind = (ended.history ∷ [], all ∙ ended.all);
       shows = inl (ended_short work c.progress c.histories left ended.history goal come ended.is
@@ -140,23 +140,24 @@ stops_ended work c goal why passed stores histories left given files files_left 
           (stops_for work c.progress goal c.files files OutOfMemory next
           (left_stops (dir_of_job work goal) work goal ended.history c.files files
           ended.left.left));
-      counted = subst (λ f. HasCounted (faults_told (ended.history ∷ [])) OutOfMemory c.files f)
-          (sym same) (ended_counts ended.history c.files files ended.left.counted);
+      counted = subst
+          (λ f. HasCounted (ended.history ∷ []) OutOfMemory given_up c.files f) (sym same)
+          (ended_counts ended.history given_up c.files files ended.left.counted);
     })
 
 -- the files of a job weren't opened, so it never began
 pub stops_unbegun : (work : WorkData) (c : ContextData) (goal : Goal) (why : OrMemory JobFault)
-    (histories : List JobHistory) (files : FilesState) → IsNext work c.progress goal
-    → HasCome work (first_progress work) c.histories c.progress
+    (histories : List JobHistory) (given_up : ℕ) (files : FilesState)
+    → IsNext work c.progress goal → HasCome work (first_progress work) c.histories c.progress
     → RefusesOutput (dir_of_job work goal) c.files files why → histories ≡ c.histories
-    → Stops work c why histories files
-stops_unbegun work c goal why histories files next come refused all =
+    → Stops work c why histories given_up files
+stops_unbegun work c goal why histories given_up files next come refused all =
     record {
       behind = ([], all ∙ sym (append-nil c.histories));
       shows = shows (dir_of_job work goal) why refused;
       over = stops_for work c.progress goal c.files files why next
           (refused_stops (dir_of_job work goal) c.files files why refused);
-      counted = refused_counts (dir_of_job work goal) c.files files why refused;
+      counted = refused_counts (dir_of_job work goal) given_up c.files files why refused;
     }
   where
     shows : (dir : Option Path) (why : OrMemory JobFault)
@@ -173,18 +174,38 @@ stops_unbegun work c goal why histories files next come refused all =
 
 -- they were opened, and memory ran out before it began
 pub stops_opened : WaysGoOn → (work : WorkData) (c : ContextData) (goal : Goal)
-    (why : OrMemory JobFault) (histories : List JobHistory) (files : FilesState)
+    (why : OrMemory JobFault) (histories : List JobHistory) (given_up : ℕ) (files : FilesState)
     → IsNext work c.progress goal → HasCome work (first_progress work) c.histories c.progress
     → IsOpenIn (dir_of_job work goal) c.files files → why ≡ OutOfMemory
-    → histories ≡ c.histories → Stops work c why histories files
-stops_opened ways work c goal why histories files next come opened none all =
-    subst (λ w. Stops work c w histories files) (sym none)
+    → histories ≡ c.histories → Stops work c why histories given_up files
+stops_opened ways work c goal why histories given_up files next come opened none all =
+    subst (λ w. Stops work c w histories given_up files) (sym none)
     (record {
       behind = ([], all ∙ sym (append-nil c.histories));
       shows = cut_short work c histories come all;
       over = stops_for work c.progress goal c.files files OutOfMemory next
           (unbegun_stops ways (dir_of_job work goal) c.files files opened);
-      counted = opened_counts (dir_of_job work goal) c.files files opened;
+      counted = opened_counts (dir_of_job work goal) given_up c.files files opened;
+    })
+
+-- they were opened, and its executors gave it up, and memory ran out before it began again
+pub stops_given_up : WaysGoOn → (work : WorkData) (c : ContextData) (goal : Goal)
+    (why : OrMemory JobFault) (histories : List JobHistory) (given_up : ℕ)
+    (opened files : FilesState) → IsNext work c.progress goal
+    → HasCome work (first_progress work) c.histories c.progress
+    → IsOpenIn (dir_of_job work goal) c.files opened
+    → IsLeftOpen (dir_of_job work goal) opened files → 0 < given_up → why ≡ OutOfMemory
+    → histories ≡ c.histories → Stops work c why histories given_up files
+stops_given_up ways work c goal why histories given_up opened files next come is_open left some
+    none all =
+    subst (λ w. Stops work c w histories given_up files) (sym none)
+    (record {
+      behind = ([], all ∙ sym (append-nil c.histories));
+      shows = cut_short work c histories come all;
+      over = stops_for work c.progress goal c.files files OutOfMemory next
+          (given_up_stops ways (dir_of_job work goal) c.files opened files is_open left);
+      counted = given_up_counts (dir_of_job work goal) given_up c.files opened files is_open left
+          some;
     })
 
 -- ---- contexts that go on
@@ -227,15 +248,15 @@ stand_behind work c d histories on (more, all) = (
 
 -- and what stops there stops here
 pub stops_behind : (work : WorkData) (c d : ContextData) (why : OrMemory JobFault)
-    (histories : List JobHistory) (files : FilesState) → GoesOn work c d
-    → Stops work d why histories files → Stops work c why histories files
-stops_behind work c d why histories files on stops =
+    (histories : List JobHistory) (given_up : ℕ) (files : FilesState) → GoesOn work c d
+    → Stops work d why histories given_up files → Stops work c why histories given_up files
+stops_behind work c d why histories given_up files on stops =
     record {
       behind = stand_behind work c d histories on stops.behind;
       shows = subst (λ k. ShowsStop work k why histories) on.actions stops.shows;
       over = subst (λ f. StopsFiles work c.progress.actions f files why) on.files
           (subst (λ k. StopsFiles work k d.files files why) on.actions stops.over);
-      counted = counts_behind on.more stops.behind.0 why c.files d.files files
+      counted = counts_behind on.more stops.behind.0 why given_up c.files d.files files
           (left_counts work c.progress d.progress on.more c.files d.files on.come on.left)
           stops.counted;
     }

@@ -20,6 +20,7 @@ use Rattle.sc_jobs.specs.declared.goals.Goal.TheVariants as goals
 use Rattle.sc_desk.specs.Files.{dir_of_job}
 use Rattle.sc_context.specs.Files.{EndsBy, FailsIn, HaveLeft, IsOfNoFiles, IsOpenSince, LeavesFiles, LeavesIn, StopsFiles, StopsIn}
 use Rattle.sc_context.specs.Histories.{HasCome, IsDone}
+use Rattle.sc_context.specs.Goings.{IsLeftOpen}
 use Rattle.sc_context.specs.Outputs.{FailsAtEnd, IsOpenIn, MakesAtEnd, RefusesIn, RefusesOutput, WentIn}
 use Rattle.sc_context.specs.Progress.{IsNext, Progress}
 use Rattle.sc_context.specs.declared.stops.JobFault.{JobFault}
@@ -145,30 +146,33 @@ module _ (ways : WaysGoOn) (dir : Path) (before opened : FilesState)
   went_fails after OutOfMemory (calls, ending, inr made) =
       inr (calls, ending, inr (ends_by after calls (Err OutOfMemory) made))
 
-  -- memory ran out before its job began
-  unbegun_fails : FailsIn dir before opened OutOfMemory
-  unbegun_fails =
+  -- memory ran out before its job came to an end
+  left_fails : (after : FilesState) → IsLaterFiles opened after
+      → Changes (StaysUnderWay dir) opened.shown after.shown → FailsIn dir before after OutOfMemory
+  left_fails after later goes =
       inr (
         abort_calls dir,
         inl refl,
         inr (record {
-          mid = opened;
-          way = open_since opened same (changes-none (StaysUnderWay dir) opened.shown
-              (λ t opening under. under));
+          mid = after;
+          way = open_since after later goes;
           makes = (
             record { faults = refl; clashes = refl },
-            changes-none _ opened.shown (λ t. inl refl),
+            changes-none _ after.shown (λ t. inl refl),
           );
         }),
       )
-    where
-      same : IsLaterFiles opened opened
-      same =
-          record {
-            shown = changes-none (λ t u. Unit {0}) opened.shown (λ t. tt);
-            faults = omega arith;
-            clashes = omega arith;
-          }
+
+  -- or before it began
+  unbegun_fails : FailsIn dir before opened OutOfMemory
+  unbegun_fails =
+      left_fails opened
+      (record {
+        shown = changes-none (λ t u. Unit {0}) opened.shown (λ t. tt);
+        faults = omega arith;
+        clashes = omega arith;
+      })
+      (changes-none (StaysUnderWay dir) opened.shown (λ t opening under. under))
 
 -- the files of a job that was opened, and came to no end
 pub went_stops : {A : Type 0} (ways : WaysGoOn) (dir : Option Path) (work : WorkData)
@@ -194,3 +198,14 @@ pub unbegun_stops : (ways : WaysGoOn) (dir : Option Path) (before opened : Files
 unbegun_stops ways None before opened open_is = (open_is, tt)
 unbegun_stops ways (Some dir) before opened open_is =
     inr (open_is.0, unbegun_fails ways dir before opened open_is)
+
+-- or gave up before it began again
+pub given_up_stops : (ways : WaysGoOn) (dir : Option Path) (before opened after : FilesState)
+    → IsOpenIn dir before opened → IsLeftOpen dir opened after
+    → StopsIn dir before after OutOfMemory
+given_up_stops ways None before opened after open_is left = (left.1 ∙ open_is, tt)
+given_up_stops ways (Some dir) before opened after open_is left =
+    inr (
+      later-then before opened after open_is.0 left.0,
+      left_fails ways dir before opened open_is after left.0 left.1,
+    )

@@ -1,15 +1,15 @@
 -- What a job leaves that went somehow.
-use Rattle.std.proofs.Common.{◌≡◌, ◌∙◌, inl, inr, ℕ, zero, suc, ◌<◌, ◌≤◌, List, [], ◌∷◌, ◌++◌, Option, Some, None, length, replicate, refl, ap, sym, subst}
-use Rattle.sc_base.specs.Lists.{at_or}
+use Rattle.std.specs.declared.alloc.Global.{Global}
+use Rattle.std.proofs.Common.{◌≡◌, ◌∙◌, inl, inr, ℕ, ◌<◌, ◌≤◌, List, [], ◌∷◌, ◌++◌, Option, Some, length, refl, ap, sym, subst, Vec}
+use Rattle.std.specs.Prelude.{IfErr, IfOk, Result}
 use Rattle.sc_base.specs.Outside.{FilesState}
+use Rattle.sc_base.specs.Trees.{Path}
 use Rattle.sc_base.specs.declared.refusals.OrMemory.{OrMemory}
 use Rattle.sc_base.specs.declared.refusals.OrMemory.TheVariants.{Fault, OutOfMemory}
 use Rattle.sc_compute.specs.declared.results.TaskResult.{TaskResult}
 use Rattle.sc_lineage.specs.ScriptData.{WorkData, IsSoundWork}
 use Rattle.sc_stagecut.specs.Carrying.{IsCarriedFor, after_job}
 use Rattle.sc_stagecut.specs.Cuts.{IsCut}
-use Rattle.sc_core.specs.CoreData.{CoreData}
-use Rattle.sc_core.specs.Journals.{Replays}
 use Rattle.sc_core.specs.Openings.{IsOpening}
 use Rattle.sc_core.specs.Sound.{IsSoundCore}
 use Rattle.sc_core.specs.declared.answers.Abort.{Abort}
@@ -18,19 +18,17 @@ use Rattle.sc_core.specs.declared.answers.JobState.TheVariants as jobs
 use Rattle.sc_core.specs.declared.journals.JobHistory.{JobHistory}
 use Rattle.sc_jobs.specs.JobData.{IsGoal, JobData, goal_node, job_data, saves}
 use Rattle.sc_jobs.specs.declared.goals.Goal.{Goal}
-use Rattle.sc_store.specs.StoreData.{StoreData}
 use Rattle.sc_desk.specs.Begins.{FitsLast, FitsRun, IsPassedFor}
-use Rattle.sc_desk.specs.DeskData.{DeskData, PassedData}
+use Rattle.sc_desk.specs.DeskData.{PassedData}
 use Rattle.sc_desk.specs.Files.{dir_of_job}
 use Rattle.sc_desk.specs.Sound.{AreEvident}
-use Rattle.sc_task.specs.Attempts.{AttemptData}
-use Rattle.sc_world.specs.Serial.{IsResting}
-use Rattle.sc_world.specs.WorldData.{WorldData}
 use Rattle.sc_context.specs.Aborts.{IsAborted, IsHalted}
 use Rattle.sc_context.specs.Contexts.{ContextData, IsContext, IsEnded, IsReady, ShowsStop, Stops, context_data}
-use Rattle.sc_context.specs.Files.{HasCounted, LeavesFiles, StopsIn, faults_told}
+use Rattle.sc_context.specs.Files.{HasCounted, LeavesFiles, StopsIn}
+use Rattle.sc_context.specs.Goings.{HasRun}
 use Rattle.sc_context.specs.Histories.{HasCome, IsCutShort, IsHistory, IsUnaborted, last_end}
-use Rattle.sc_context.specs.Jobs.{AreResultsFor, HasBegunFor, HasNoResults, HasResults, IsUnabortedOrSave}
+use Rattle.sc_context.specs.Jobs.{AreResultsFor, HasNoResults, HasResults, IsUnabortedOrSave}
+use Rattle.sc_context.specs.Outputs.{WentIn}
 use Rattle.sc_context.specs.Progress.{IsNext, Progress, actions_behind, behind_job, carried_behind, first_progress, progress}
 use Rattle.sc_context.specs.declared.stops.JobFault.{JobFault}
 use Rattle.sc_context.specs.declared.stops.JobFault.TheVariants as faults
@@ -45,65 +43,62 @@ pub record HasWent (work : WorkData) (p : Progress) (goal : Goal) (h : JobHistor
   pub is : IsHistory work p goal h
   pub carried : after.carried ≡ after_job p.carried is.graph
 
--- The world of a job that begins, and the history that it leaves.
-module _ (work : WorkData) (p : Progress) (goal : Goal) (passed : PassedData)
-    (stores : List StoreData) (w : WorldData)
-    (begun : HasBegunFor work passed stores p.last goal w) where
-  desk_is : w.desk ≡ begun.desk
-  desk_is = ap (λ (x : WorldData). x.desk) begun.idle
+-- A job that went so from a desk that began.
+module _ (work : WorkData) (p : Progress) (goal : Goal) (passed next : PassedData)
+    (dir : Option Path) (opened files : FilesState) (h : JobHistory)
+    (results : Result (Vec TaskResult Global) (OrMemory JobFault))
+    (run : HasRun work passed p.last goal dir opened h next results files) where
+  job_is : run.desk.job ≡ job_data goal run.desk.job.graph
+  job_is = ap (λ g. job_data g run.desk.job.graph) run.begins.goal_is
 
-  pub goal_is : w.desk.job.goal ≡ goal
-  goal_is = ap (λ (x : DeskData). x.job.goal) desk_is ∙ begun.begins.goal_is
-
-  job_is : w.desk.job ≡ job_data goal begun.desk.job.graph
-  job_is =
-      ap (λ (x : DeskData). x.job) desk_is
-      ∙ ap (λ g. job_data g begun.desk.job.graph) begun.begins.goal_is
-
-  pub has_went : (h : JobHistory) (after : PassedData) → IsNext work p goal
-      → passed.carried ≡ p.carried → h.opening ≡ w.desk.journal.opening
-      → IsSoundCore h.opening → (replays : Replays h.opening h.entries.items h.end)
-      → ((is : Replays h.opening h.entries.items h.end)
-      → AreEvident work w.desk.job h.opening h.entries.items h.end is)
-      → after.carried ≡ w.desk.carried → HasWent work p goal h after
-  has_went h after next same opening core replays evident carried =
+  pub has_went : IsNext work p goal → passed.carried ≡ p.carried → IsSoundCore h.opening
+      → HasWent work p goal h next
+  has_went comes same core =
       record {
         is = record {
-          next = next;
-          graph = begun.desk.job.graph;
-          cut = subst (λ c. IsCut work c (goal_node work goal) begun.desk.job.graph) same
-              begun.begins.cut;
+          next = comes;
+          graph = run.desk.job.graph;
+          cut = subst (λ c. IsCut work c (goal_node work goal) run.desk.job.graph) same
+              run.begins.cut;
+          from = run.from;
+          behind = run.behind;
           opening = subst
-              (IsOpening begun.desk.job.graph work.limits (saves work goal) work.plan p.last)
-              (sym (opening ∙ ap (λ (x : DeskData). x.journal.opening) desk_is))
-              begun.begins.opening;
+              (IsOpening run.desk.job.graph work.limits (saves work goal) work.plan run.from)
+              (sym run.goes.opening) run.begins.opening;
           began = core;
-          replays = replays;
-          evidence = subst
-              (λ (j : JobData). AreEvident work j h.opening h.entries.items h.end replays)
-              job_is (evident replays);
+          replays = run.goes.replays;
+          evidence = subst (λ (j : JobData).
+              AreEvident work j h.opening h.entries.items h.end run.goes.replays) job_is
+              (run.goes.evidence run.goes.replays);
         };
-        carried = carried
-            ∙ ap (λ (x : DeskData). x.carried) desk_is
-            ∙ begun.begins.carried_on
-            ∙ ap (λ c. after_job c begun.desk.job.graph) same;
+        carried = run.goes.carried
+            ∙ run.begins.carried_on
+            ∙ ap (λ c. after_job c run.desk.job.graph) same;
       }
 
--- the results of a job that is done are those for its goal
-pub results_for : (work : WorkData) (own goal : Goal) (end : CoreData) (given : List TaskResult)
-    → own ≡ goal → HasResults work own end given → AreResultsFor work goal given
-results_for work own goal end given same has =
-    subst (λ g. AreResultsFor work g given) same has.all
+  -- its results, or why there are none, and what is left of its files
+  pub given_for : IfOk results (λ rs. HasResults work goal h.end rs.items)
+  given_for =
+      subst (λ g. IfOk results (λ rs. HasResults work g h.end rs.items)) run.begins.goal_is
+      run.goes.given
+
+  pub none_for : IfErr results (HasNoResults work goal h.end)
+  none_for =
+      subst (λ g. IfErr results (HasNoResults work g h.end)) run.begins.goal_is run.goes.none
+
+  pub left_for : WentIn dir work goal h.end opened files results
+  left_for =
+      subst (λ g. WentIn dir work g h.end opened files results) run.begins.goal_is run.goes.left
 
 -- a job that is done
 pub ended_is : (work : WorkData) (c : ContextData) (goal : Goal) (h : JobHistory)
-    (passed : PassedData) (stores : List StoreData) (histories : List JobHistory)
-    (given : List TaskResult) (files : FilesState) → HasWent work c.progress goal h passed
+    (passed : PassedData) (histories : List JobHistory) (given : List TaskResult)
+    (files : FilesState) → HasWent work c.progress goal h passed
     → histories ≡ c.histories ++ h ∷ [] → h.end.job ≡ jobs.Done
-    → IsReady work passed stores (Some h.end) → AreResultsFor work goal given
+    → IsReady work passed (Some h.end) → AreResultsFor work goal given
     → LeavesFiles work goal h c.files files
-    → IsEnded work c goal passed stores histories given files
-ended_is work c goal h passed stores histories given files went all done ready given_are left =
+    → IsEnded work c goal passed histories given files
+ended_is work c goal h passed histories given files went all done ready given_are left =
     record {
       history = h;
       all = all;
@@ -154,10 +149,11 @@ module _ (known_causes : AreCauses) (work : WorkData) (sound : IsSoundWork work)
   shows_stop (Fault (faults.Device path)) e = halts e
   shows_stop OutOfMemory e = halts e
 
-  pub stops_job : (why : OrMemory JobFault) (files : FilesState)
+  pub stops_job : (why : OrMemory JobFault) (given_up : ℕ) (files : FilesState)
       → HasNoResults work goal h.end why → StopsIn (dir_of_job work goal) c.files files why
-      → HasCounted (faults_told (h ∷ [])) why c.files files → Stops work c why histories files
-  stops_job why files none stops counted =
+      → HasCounted (h ∷ []) why given_up c.files files
+      → Stops work c why histories given_up files
+  stops_job why given_up files none stops counted =
       record {
         behind = (h ∷ [], all);
         shows = shows_stop why none;
@@ -169,10 +165,9 @@ module _ (known_causes : AreCauses) (work : WorkData) (sound : IsSoundWork work)
 
 -- A job that is done, and what goes on behind it.
 module _ (work : WorkData) (c : ContextData) (goal : Goal) (passed after : PassedData)
-    (stores : List StoreData) (histories : List JobHistory) (given : List TaskResult)
-    (actions : ℕ) (files : FilesState)
+    (histories : List JobHistory) (given : List TaskResult) (actions : ℕ) (files : FilesState)
     (come : HasCome work (first_progress work) c.histories c.progress)
-    (ended : IsEnded work c goal passed stores histories given files)
+    (ended : IsEnded work c goal passed histories given files)
     (carried : after.carried ≡ carried_behind work goal ended.is.graph c.progress.carried)
     (many : actions ≡ actions_behind goal c.progress.actions) where
   abbrev behind : ContextData
@@ -192,7 +187,7 @@ module _ (work : WorkData) (c : ContextData) (goal : Goal) (passed after : Passe
   -- a context stands behind it
   pub context_behind : actions ≤ length work.script.actions → IsPassedFor work after
       → length after.carried.bounds ≡ length work.script.nodes
-      → IsContext work after stores behind
+      → IsContext work after behind
   context_behind within serves places =
       record {
         come = subst (λ hs. HasCome work (first_progress work) hs
@@ -201,11 +196,8 @@ module _ (work : WorkData) (c : ContextData) (goal : Goal) (passed after : Passe
             (sym progress_is)
             (ended_come work c.progress c.histories ended.history goal come ended.is ended.done));
         within = within;
-        ready = subst (IsReady work after stores) (sym last_is) (record {
-          passed_on = serves;
-          fits = ended.ready.fits;
-          stores_are = ended.ready.stores_are;
-        });
+        ready = subst (IsReady work after) (sym last_is)
+            (record { passed_on = serves; fits = ended.ready.fits });
         places = places;
       }
 
@@ -215,18 +207,3 @@ module _ (work : WorkData) (c : ContextData) (goal : Goal) (passed after : Passe
       gone_once work c.progress behind.progress ended.history c.files files
       (record { goal = goal; is = ended.is; done = ended.done; behind = progress_is })
       ended.left
-
--- ---- worlds that begin
-
-none_at : (n e : ℕ) → at_or {A = Option AttemptData} (replicate n None) e None ≡ None
-none_at zero e = refl
-none_at (suc n) zero = refl
-none_at (suc n) (suc e) = none_at n e
-
--- no executor has an attempt out
-pub begun_rests : (work : WorkData) (passed : PassedData) (stores : List StoreData)
-    (last : Option CoreData) (goal : Goal) (w : WorldData)
-    → HasBegunFor work passed stores last goal w → IsResting w
-begun_rests work passed stores last goal w begun =
-    subst (λ (x : WorldData). IsResting x) (sym begun.idle)
-    (λ exec. none_at work.limits.executors exec)

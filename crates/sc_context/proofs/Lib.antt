@@ -1,3 +1,4 @@
+pub mod BehindLemmas
 pub mod ReadyLemmas
 pub mod LiveLemmas
 pub mod StartLemmas
@@ -17,4 +18,9 @@ pub mod CalmLemmas
 pub mod AbortLemmas
 pub mod BoundLemmas
 pub mod JobLemmas
+pub mod EndingLemmas
 pub mod OpenedLemmas
+pub mod AloneLemmas
+pub mod RecordLemmas
+pub mod RunningLemmas
+pub mod SerialLemmas

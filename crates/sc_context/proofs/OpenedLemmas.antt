@@ -1,5 +1,5 @@
 -- The files of a job that begins.
-use Rattle.std.proofs.Common.{◌≡◌, List, Option, Some, None, sym, subst}
+use Rattle.std.proofs.Common.{◌≡◌, Option, Some, None, sym, subst}
 use Rattle.std.specs.Prelude.{IfSome}
 use Rattle.sc_base.specs.Outside.{Changes, FilesState}
 use Rattle.sc_base.specs.Trees.{Path, Tree}
@@ -9,12 +9,9 @@ use Rattle.sc_staging.specs.Outputs.{output_dir, output_files}
 use Rattle.sc_staging.specs.declared.outputs.Output.{Output}
 use Rattle.sc_core.specs.CoreData.{CoreData}
 use Rattle.sc_jobs.specs.declared.goals.Goal.{Goal}
-use Rattle.sc_store.specs.StoreData.{StoreData}
-use Rattle.sc_desk.specs.DeskData.{PassedData}
+use Rattle.sc_desk.specs.Begins.{Begins}
+use Rattle.sc_desk.specs.DeskData.{DeskData, PassedData}
 use Rattle.sc_desk.specs.Files.{FilesGoOn, FilesStand, dir_of_job}
-use Rattle.sc_world.specs.Files.{OutputStands}
-use Rattle.sc_world.specs.WorldData.{WorldData}
-use Rattle.sc_context.specs.Jobs.{HasBegunFor}
 use Rattle.sc_context.specs.Outputs.{IsOpenFor, IsOpenIn}
 
 -- where those of a save show, both directories were made
@@ -31,14 +28,12 @@ opened_shows (Some dir) before opened is = by before.shown opened.shown is.2
 
 -- so the files of a job that begins stand
 pub begun_stands : {F : Type 0} → FilesGoOn → (work : WorkData) (passed : PassedData)
-    (stores : List StoreData) (last : Option CoreData) (goal : Goal) (w : WorldData)
-    (state : F → FilesState) (before : FilesState) (output : Output F)
-    → HasBegunFor work passed stores last goal w
-    → IsOpenFor state (dir_of_job work goal) before output → OutputStands work w state output
-begun_stands law work passed stores last goal w state before output begun opened =
+    (last : Option CoreData) (goal : Goal) (d : DeskData) (state : F → FilesState)
+    (before : FilesState) (output : Output F) → Begins work passed last goal d
+    → IsOpenFor state (dir_of_job work goal) before output
+    → FilesStand work d (output_dir output) (output_files state output)
+begun_stands law work passed last goal d state before output begins opened =
     let files = output_files state output in
-    subst (λ (x : WorldData). FilesStand work x.desk (output_dir output) files) (sym begun.idle)
-    (law.begun work passed last goal begun.desk (output_dir output) files begun.begins
-    opened.saves_to
+    law.begun work passed last goal d (output_dir output) files begins opened.saves_to
     (subst (λ d. IfSome d (λ p. IfSome files.shown (λ t. (u : Tree) × (t ≡ opened_tree p u))))
-    (sym opened.saves_to) (opened_shows (dir_of_job work goal) before files opened.opened)))
+    (sym opened.saves_to) (opened_shows (dir_of_job work goal) before files opened.opened))

@@ -18,7 +18,7 @@ use Rattle.sc_dag.specs.DagData.{DagData}
 use Rattle.sc_dag.specs.Openings.{sized_by, sized_for_all}
 use Rattle.sc_dag.specs.Submission.{IsSubmitted}
 use Rattle.sc_core.specs.CoreData.{CoreData}
-use Rattle.sc_core.specs.Openings.{IsOpening, tracker_behind}
+use Rattle.sc_core.specs.Openings.{IsOpening, told_before, tracker_behind}
 use Rattle.sc_jobs.specs.JobData.{saves}
 use Rattle.sc_jobs.specs.declared.goals.Goal.{Goal}
 use Rattle.sc_store.specs.StoreData.{StoreData}
@@ -27,7 +27,7 @@ use Rattle.sc_desk.specs.DeskData.{DeskData, PassedData, core_of}
 use Rattle.sc_desk.specs.Dues.{wipes_due}
 use Rattle.sc_world.specs.Runs.{AreReady}
 use Rattle.sc_world.specs.Ties.{AreTied, StandsAt, generation_at}
-use Rattle.sc_context.specs.Contexts.{AreReadyBehind}
+use Rattle.sc_context.specs.Starts.{IsUnregistered}
 
 -- ---- room for more outputs
 
@@ -133,7 +133,28 @@ pub opened_tracker : (graph : List StageData) (limits : Limits) (saved : Bool)
 opened_tracker graph limits saved plan last c opening =
     submitted_tracker opening.dag c.dag _ opening.submits ∙ opening.opens.tracker
 
--- stores that are ready behind a core are ready for the job that begins there
+-- where the tracker had no shuffles, a job begins with a desk that knows of no place
+pub begun_unregistered : (work : WorkData) (passed : PassedData) (last : Option CoreData)
+    (goal : Goal) (desk : DeskData) → (tracker_behind last work.limits).shuffles ≡ []
+    → Begins work passed last goal desk → IsUnregistered desk
+begun_unregistered work passed last goal desk none begins b =
+    subst (λ (t : TrackerData). (output_of t b).last ≡ None) (sym is)
+    (sized_all_last (λ o. o ≡ None) refl (tracker_behind last work.limits) desk.job.graph b
+    (ap (λ ss. (output_under ss b).last) none))
+  where
+    is : (core_of desk).dag.tracker
+        ≡ sized_for_all (tracker_behind last work.limits) desk.job.graph
+    is =
+        ap (λ (c : CoreData). c.dag.tracker) begins.core
+        ∙ opened_tracker desk.job.graph work.limits (saves work goal) work.plan last
+        desk.journal.opening begins.opening
+
+-- the stores are ready for the job behind a core or none
+abbrev pub AreReadyBehind : WorkData → List StoreData → Option CoreData → Type 0
+AreReadyBehind work stores last =
+    AreReady work stores (tracker_behind last work.limits) (told_before last)
+
+-- and so they are ready for the job that begins there
 pub ready_opening : (work : WorkData) (stores : List StoreData) (passed : PassedData)
     (last : Option CoreData) (goal : Goal) (desk : DeskData)
     → AreReadyBehind work stores last → Begins work passed last goal desk

@@ -11,18 +11,15 @@ use Rattle.sc_compute.specs.declared.evaluation.Evaluated.{Evaluated}
 use Rattle.sc_compute.specs.declared.evaluation.Evaluated.TheVariants as evaluated
 use Rattle.sc_stagecut.specs.Carrying.{CarriedData, after_job}
 use Rattle.sc_core.specs.CoreData.{CoreData}
-use Rattle.sc_core.specs.Openings.{told_before, tracker_behind}
 use Rattle.sc_core.specs.declared.answers.JobState.TheVariants.{Done}
 use Rattle.sc_core.specs.declared.journals.JobHistory.{JobHistory}
 use Rattle.sc_jobs.specs.JobData.{goal_action}
 use Rattle.sc_jobs.specs.declared.goals.Goal.{Goal}
 use Rattle.sc_jobs.specs.declared.goals.Goal.TheVariants as goals
-use Rattle.sc_store.specs.StoreData.{StoreData}
 use Rattle.sc_desk.specs.Begins.{FitsLast, IsPassedFor}
 use Rattle.sc_desk.specs.DeskData.{PassedData}
-use Rattle.sc_world.specs.Runs.{AreReady}
 use Rattle.sc_context.specs.Aborts.{IsAborted, IsHalted}
-use Rattle.sc_context.specs.Files.{HasCounted, HaveLeft, LeavesFiles, StopsFiles, faults_told}
+use Rattle.sc_context.specs.Files.{HasCounted, HaveLeft, LeavesFiles, StopsFiles}
 use Rattle.sc_context.specs.Histories.{HasCome, HasDone, IsHistory, last_end}
 use Rattle.sc_context.specs.Jobs.{AreResultsFor}
 use Rattle.sc_context.specs.Progress.{Progress, first_progress, progress}
@@ -51,38 +48,32 @@ abbrev pub new_context : WorkData → FilesState → ContextData
 new_context work files =
     record { progress = first_progress work; histories = []; files = files }
 
--- the stores are ready for the job behind a core or none
-abbrev pub AreReadyBehind : WorkData → List StoreData → Option CoreData → Type 0
-AreReadyBehind work stores last =
-    AreReady work stores (tracker_behind last work.limits) (told_before last)
-
--- what goes on to the next job serves it
-pub record IsReady (work : WorkData) (passed : PassedData) (stores : List StoreData)
-    (last : Option CoreData) : Type 0 where
+-- What goes on to the next job serves it. Of the stores nothing is said: they lie behind locks, and
+-- what an executor finds there is checked as it is found.
+pub record IsReady (work : WorkData) (passed : PassedData) (last : Option CoreData)
+    : Type 0 where
   pub passed_on : IsPassedFor work passed
   pub fits : FitsLast work last
-  pub stores_are : AreReadyBehind work stores last
 
 -- every context
-pub record IsContext (work : WorkData) (passed : PassedData) (stores : List StoreData)
-    (c : ContextData) : Type 0 where
+pub record IsContext (work : WorkData) (passed : PassedData) (c : ContextData) : Type 0 where
   pub come : HasCome work (first_progress work) c.histories c.progress
   pub within : c.progress.actions ≤ length work.script.actions
-  pub ready : IsReady work passed stores c.progress.last
+  pub ready : IsReady work passed c.progress.last
   -- there is a place for the bounds of each node
   pub places : length c.progress.carried.bounds ≡ length work.script.nodes
 
 -- the job that came next is done: its history stands behind the others, what goes on serves the
 -- next job, these are its results, and the files are as it left them
 pub record IsEnded (work : WorkData) (c : ContextData) (goal : Goal) (passed : PassedData)
-    (stores : List StoreData) (histories : List JobHistory) (given : List TaskResult)
-    (files : FilesState) : Type 0 where
+    (histories : List JobHistory) (given : List TaskResult) (files : FilesState)
+    : Type 0 where
   pub history : JobHistory
   pub all : histories ≡ c.histories ++ history ∷ []
   pub is : IsHistory work c.progress goal history
   pub done : history.end.job ≡ Done
   pub carried : passed.carried ≡ after_job c.progress.carried is.graph
-  pub ready : IsReady work passed stores (Some history.end)
+  pub ready : IsReady work passed (Some history.end)
   pub results : AreResultsFor work goal given
   pub left : LeavesFiles work goal history c.files files
 
@@ -117,10 +108,11 @@ ShowsStop work k (Fault (faults.Device path)) histories = IsHalted work k histor
 ShowsStop work k OutOfMemory histories = IsHalted work k histories
 
 -- The next action gave no value, since a job for it was aborted, its directory was there, a call on
--- its files failed, or memory ran out: what the histories show then, and how the files stand.
+-- its files failed, or memory ran out: what the histories show then, and how the files stand, where
+-- so many jobs of the run were given up.
 pub record Stops (work : WorkData) (c : ContextData) (why : OrMemory JobFault)
-    (histories : List JobHistory) (files : FilesState) : Type 0 where
+    (histories : List JobHistory) (given_up : ℕ) (files : FilesState) : Type 0 where
   pub behind : StandBehind c histories
   pub shows : ShowsStop work c.progress.actions why histories
   pub over : StopsFiles work c.progress.actions c.files files why
-  pub counted : HasCounted (faults_told behind.0) why c.files files
+  pub counted : HasCounted behind.0 why given_up c.files files

@@ -1,5 +1,5 @@
 -- What the jobs of a run leave of the files.
-use Rattle.std.specs.Prelude.{ℕ, ◌≡◌, ◌⊎◌, false, List, [], ◌∷◌, ◌++◌, Option, Some, None, Result, Ok, Err}
+use Rattle.std.specs.Prelude.{ℕ, ◌≡◌, ◌<◌, ◌⊎◌, false, List, [], ◌∷◌, Option, Some, None, Result, Ok, Err}
 use Rattle.sc_base.specs.Outside.{Changes, FilesState, IsLaterFiles, IsQuietFiles}
 use Rattle.sc_base.specs.Saves.{IsApart, saved_tree}
 use Rattle.sc_base.specs.Trees.{Path, Tree, has_dir}
@@ -9,7 +9,6 @@ use Rattle.sc_ids.specs.declared.attempts.AttemptId.{AttemptId}
 use Rattle.sc_lineage.specs.Actions.{action_outcome, saves}
 use Rattle.sc_lineage.specs.ScriptData.{WorkData}
 use Rattle.sc_files.specs.Calls.{CountsClash, CountsFault, counts_of}
-use Rattle.sc_ids.specs.declared.failures.Fault as device
 use Rattle.sc_output.specs.Calls.{Call, IsNotDone, MakesCalls}
 use Rattle.sc_output.specs.Commits.{abort_calls, commit_calls}
 use Rattle.sc_output.specs.Saved.{IsUnderWay}
@@ -19,7 +18,7 @@ use Rattle.sc_jobs.specs.JobData.{goal_action}
 use Rattle.sc_jobs.specs.declared.goals.Goal.{Goal}
 use Rattle.sc_jobs.specs.declared.goals.Goal.TheVariants as goals
 use Rattle.sc_desk.specs.Files.{AreCounted, AreWinners, dir_of_job, faults_of}
-use Rattle.sc_context.specs.Histories.{HasCome}
+use Rattle.sc_context.specs.Histories.{AreDrivers, HasCome}
 use Rattle.sc_context.specs.Progress.{Progress}
 use Rattle.sc_context.specs.declared.stops.JobFault.{JobFault}
 use Rattle.sc_context.specs.declared.stops.JobFault.TheVariants as faults
@@ -54,12 +53,19 @@ LeavesIn None work goal h before after = after ≡ before
 LeavesIn (Some dir) work goal h before after =
     IsCommitted work goal dir h before after × IsLaterFiles before after
 
--- What a job that is done leaves of the files: they have counted just the faults that its entries
--- tell of.
+-- What the files have counted while a job ran: just the faults that its entries tell of. Where the
+-- driver ran it again alone, since its executors had given it up, that is so since it began again.
+pub record CountsOf (h : JobHistory) (before after : FilesState) : Type 0 where
+  pub begun : FilesState
+  pub later : IsLaterFiles before begun
+  pub since : (counts_of begun ≡ counts_of before) ⊎ AreDrivers h.entries.items
+  pub counted : AreCounted (counts_of begun) (faults_of h.entries.items) (counts_of after)
+
+-- What a job that is done leaves of the files.
 pub record LeavesFiles (work : WorkData) (goal : Goal) (h : JobHistory)
     (before after : FilesState) : Type 0 where
   pub left : LeavesIn (dir_of_job work goal) work goal h before after
-  pub counted : AreCounted (counts_of before) (faults_of h.entries.items) (counts_of after)
+  pub counted : CountsOf h before after
 
 -- what jobs leave that were done, one behind the other
 abbrev pub HaveLeft : (work : WorkData) (p : Progress) (histories : List JobHistory)
@@ -124,23 +130,25 @@ StopsFiles work k before after why =
 
 -- ---- what the files have counted
 
--- the faults that histories tell of, in order
-abbrev pub faults_told : List JobHistory → List device.Fault
-faults_told [] = []
-faults_told (h ∷ histories) = faults_of h.entries.items ++ faults_told histories
+-- what the files have counted while some jobs ran, one behind the other
+abbrev pub CountAll : List JobHistory → FilesState → FilesState → Type 0
+CountAll [] before after = after ≡ before
+CountAll (h ∷ histories) before after =
+    (then : FilesState) × CountsOf h before then × CountAll histories then after
 
--- what the last calls for a job that came to no end have counted, by what ended it
-abbrev pub CountsLast : OrMemory JobFault → FilesState → FilesState → Type 0
-CountsLast (Fault (faults.Aborted abort)) before after = IsQuietFiles before after
-CountsLast (Fault (faults.Exists path)) before after = CountsClash before after
-CountsLast (Fault (faults.Device path)) before after = IsNotDone before after
-CountsLast OutOfMemory before after = IsQuietFiles before after
+-- What the last calls for a job that came to no end have counted, by what ended it, and by how many
+-- jobs of the run were given up: where memory ran out behind such a job, it isn't among those that
+-- tell of faults.
+abbrev pub CountsLast : OrMemory JobFault → ℕ → FilesState → FilesState → Type 0
+CountsLast (Fault (faults.Aborted abort)) given_up before after = IsQuietFiles before after
+CountsLast (Fault (faults.Exists path)) given_up before after = CountsClash before after
+CountsLast (Fault (faults.Device path)) given_up before after = IsNotDone before after
+CountsLast OutOfMemory given_up before after = IsQuietFiles before after ⊎ (0 < given_up)
 
--- The files have counted the faults that histories tell of, and behind them what ended the last
--- job.
-pub record HasCounted (told : List device.Fault) (why : OrMemory JobFault)
+-- The files have counted what some jobs tell of, and behind them what ended the last job.
+pub record HasCounted (histories : List JobHistory) (why : OrMemory JobFault) (given_up : ℕ)
     (before after : FilesState) : Type 0 where
   pub last : FilesState
-  pub counted : AreCounted (counts_of before) told (counts_of last)
+  pub counted : CountAll histories before last
   pub later : IsLaterFiles last after
-  pub ends : CountsLast why last after
+  pub ends : CountsLast why given_up last after

@@ -1,20 +1,32 @@
 -- How the jobs of a run went, one behind the other.
-use Rattle.std.specs.Prelude.{ℕ, ◌-◌, ◌≡◌, ◌≢◌, ◌⊎◌, List, [], ◌∷◌, ◌++◌, Option, length, slice_get}
+use Rattle.std.specs.Prelude.{ℕ, ◌-◌, ◌≡◌, ◌≢◌, ◌⊎◌, All, List, [], ◌∷◌, ◌++◌, Option, length, slice_get}
 use Rattle.std.specs.Option.{option_map}
 use Rattle.sc_ids.specs.Graphs.{StageData}
+use Rattle.sc_ids.specs.declared.attempts.Mark.TheVariants.{Driver}
 use Rattle.sc_lineage.specs.ScriptData.{WorkData}
 use Rattle.sc_stagecut.specs.Cuts.{IsCut}
 use Rattle.sc_core.specs.CoreData.{CoreData}
 use Rattle.sc_core.specs.Journals.{Replays}
-use Rattle.sc_core.specs.Openings.{IsOpening}
+use Rattle.sc_core.specs.Openings.{IsOpening, unregistered_core}
 use Rattle.sc_core.specs.Sound.{IsSoundCore}
 use Rattle.sc_core.specs.declared.answers.Abort.{Abort}
 use Rattle.sc_core.specs.declared.answers.JobState.TheVariants as jobs
+use Rattle.sc_core.specs.declared.entries.Entry.{Entry}
 use Rattle.sc_core.specs.declared.journals.JobHistory.{JobHistory}
 use Rattle.sc_jobs.specs.JobData.{goal_node, job_data, saves}
 use Rattle.sc_jobs.specs.declared.goals.Goal.{Goal}
 use Rattle.sc_desk.specs.Sound.{AreEvident}
 use Rattle.sc_context.specs.Progress.{IsNext, Progress, behind_job, first_progress}
+
+-- the driver alone did all of it
+abbrev pub AreDrivers : List Entry → Type 0
+AreDrivers entries = All (λ e. e.by ≡ Driver) entries
+
+-- What a job with these entries began behind: the core of the job before; or, where its executors
+-- gave it up and the driver ran it again alone, that core with nothing registered.
+abbrev pub BeginsBehind : Option CoreData → List Entry → Option CoreData → Type 0
+BeginsBehind last entries from =
+    (from ≡ last) ⊎ ((from ≡ option_map unregistered_core last) × AreDrivers entries)
 
 -- The job that comes next went so: its stages were cut behind what is carried, it began behind the
 -- core of the job before, these entries happened, each with its evidence, and they left its end.
@@ -23,7 +35,9 @@ pub record IsHistory (work : WorkData) (p : Progress) (goal : Goal) (h : JobHist
   pub next : IsNext work p goal
   pub graph : List StageData
   pub cut : IsCut work p.carried (goal_node work goal) graph
-  pub opening : IsOpening graph work.limits (saves work goal) work.plan p.last h.opening
+  pub from : Option CoreData
+  pub behind : BeginsBehind p.last h.entries.items from
+  pub opening : IsOpening graph work.limits (saves work goal) work.plan from h.opening
   pub began : IsSoundCore h.opening
   pub replays : Replays h.opening h.entries.items h.end
   pub evidence : AreEvident work (job_data goal graph) h.opening h.entries.items h.end replays

@@ -1,5 +1,5 @@
 -- How one job of a run begins and ends.
-use Rattle.std.specs.Prelude.{◌≡◌, ◌⊎◌, true, List, Option}
+use Rattle.std.specs.Prelude.{◌≡◌, ◌⊎◌, true, List}
 use Rattle.sc_base.specs.declared.refusals.OrMemory.{OrMemory}
 use Rattle.sc_base.specs.declared.refusals.OrMemory.TheVariants.{Fault, OutOfMemory}
 use Rattle.sc_lineage.specs.ScriptData.{WorkData}
@@ -9,21 +9,9 @@ use Rattle.sc_core.specs.CoreData.{CoreData}
 use Rattle.sc_core.specs.declared.answers.JobState.TheVariants as jobs
 use Rattle.sc_jobs.specs.JobData.{goal_action, saves}
 use Rattle.sc_jobs.specs.declared.goals.Goal.{Goal}
-use Rattle.sc_store.specs.StoreData.{StoreData}
-use Rattle.sc_desk.specs.Begins.{Begins}
-use Rattle.sc_desk.specs.DeskData.{DeskData, PassedData}
-use Rattle.sc_world.specs.Runs.{idle_world}
-use Rattle.sc_world.specs.WorldData.{WorldData}
 use Rattle.sc_context.specs.Histories.{IsUnaborted}
 use Rattle.sc_context.specs.declared.stops.JobFault.{JobFault}
 use Rattle.sc_context.specs.declared.stops.JobFault.TheVariants as faults
-
--- the world of a job that begins behind what goes on and another job or none, over these stores
-pub record HasBegunFor (work : WorkData) (passed : PassedData) (stores : List StoreData)
-    (last : Option CoreData) (goal : Goal) (w : WorldData) : Type 0 where
-  pub desk : DeskData
-  pub begins : Begins work passed last goal desk
-  pub idle : w ≡ idle_world work desk stores
 
 -- results are those of all partitions for a goal, of which none raises
 abbrev pub AreResultsFor : WorkData → Goal → List TaskResult → Type 0

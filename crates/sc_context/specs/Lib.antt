@@ -1,5 +1,7 @@
 pub mod Progress
 pub mod Histories
+pub mod Records
+pub mod Crews
 pub mod Aborts
 pub mod Starts
 pub mod Results
@@ -8,3 +10,5 @@ pub mod Files
 pub mod Contexts
 pub mod Bounding
 pub mod Outputs
+pub mod Goings
+pub mod Endings

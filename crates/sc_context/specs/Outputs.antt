@@ -24,7 +24,7 @@ use Rattle.sc_core.specs.declared.answers.JobState.{JobState}
 use Rattle.sc_core.specs.declared.answers.JobState.TheVariants as jobs
 use Rattle.sc_jobs.specs.declared.goals.Goal.{Goal}
 use Rattle.sc_desk.specs.Files.{AreCounted, AreWinners, part_texts}
-use Rattle.sc_context.specs.Files.{HasCounted, IsEnding, IsOfNoFiles}
+use Rattle.sc_context.specs.Files.{CountsLast, IsEnding, IsOfNoFiles}
 use Rattle.sc_context.specs.Histories.{IsUnaborted}
 use Rattle.sc_context.specs.declared.stops.JobFault.{JobFault}
 use Rattle.sc_context.specs.declared.stops.JobFault.TheVariants as faults
@@ -163,9 +163,17 @@ WentIn (Some dir) work goal end opened after (Ok a) =
 WentIn (Some dir) work goal end opened after (Err why) =
     IsLaterFiles opened after × FailsAtEnd dir opened after why
 
--- what the files of a job have counted whose files were opened, by the faults that its entries tell
--- of, and by whether it has results
+-- what the files of a job have counted since it began with these counts, by the faults that its
+-- entries tell of, and what ended it
+pub record CountsToEnd (told : List device.Fault) (why : OrMemory JobFault)
+    (opened after : FilesState) : Type 0 where
+  pub last : FilesState
+  pub counted : AreCounted (counts_of opened) told (counts_of last)
+  pub later : IsLaterFiles last after
+  pub ends : CountsLast why 0 last after
+
+-- the same by whether it has results
 abbrev pub CountsIn : {A : Type 0} → List device.Fault → FilesState → FilesState
     → Result A (OrMemory JobFault) → Type 0
 CountsIn told opened after (Ok a) = AreCounted (counts_of opened) told (counts_of after)
-CountsIn told opened after (Err why) = HasCounted told why opened after
+CountsIn told opened after (Err why) = CountsToEnd told why opened after

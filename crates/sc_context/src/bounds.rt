@@ -7,6 +7,7 @@ ghost use Rattle.sc_context.specs.Bounding.{Finds, FindsAll, parts_of};
 ghost use Rattle.sc_context.specs.Contexts.{Stops};
 ghost use Rattle.sc_context.specs.Jobs.{AreResultsFor};
 ghost use Rattle.sc_context.specs.Progress.{next_node};
+ghost use Rattle.sc_context.specs.Records.{AreKept};
 ghost use Rattle.sc_jobs.specs.JobData.{IsGoal};
 ghost use Rattle.sc_jobs.specs.declared.goals.Goal.TheVariants as goals;
 ghost use Rattle.sc_lineage.specs.ScriptData.{node_of_action};
@@ -14,9 +15,11 @@ ghost use Rattle.sc_lineage.specs.Views.{action_data_of, node_data_of};
 ghost use Rattle.sc_stagecut.specs.Carrying.{IsFirstLacking};
 
 use crate::context::Context;
-use crate::jobs::Ended;
+use crate::endings::Ended;
 use crate::stops::Stopped;
+use sc_clock::Clock;
 use sc_compute::bounds_of_results;
+use sc_exec::Gate;
 use sc_files::Files;
 use sc_jobs::Goal;
 use sc_lineage::{Action, Node, NodeId};
@@ -24,20 +27,28 @@ use sc_part::Bounds;
 use sc_stagecut::unbounded_sort;
 use sc_work::Naming;
 use std::alloc::{AllocError, Global};
+use std::sync::{Mutex, Wait};
+use std::thread::Threads;
+use std::time;
 
-impl<W: Naming, F: Files> Context<W, F> {
+impl<W: Naming + Send + Sync, F: Files + Send> Context<W, F> {
     /// Runs the jobs that find the bounds which the next action needs and that weren't found yet.
-    pub(crate) fn find_all_bounds(self, alloc: Global) -> Result<Context<W, F>, Stopped<F>>
+    pub(crate) fn find_all_bounds<
+        G: Gate + Sync,
+        C: Clock + Send,
+        R: Threads + Wait + time::Clock + Sync,
+    >(self, rt: &R, alloc: Global, gate: &G, clock: &Mutex<C>) -> Result<Context<W, F>, Stopped<F>>
         requires within { self.progress.actions < length W.work.script.actions }
         ensures finds { IfOk result (FindsAll W.work self) }
-        ensures stops { IfErr result (λ s. Stops W.work self s.why s.histories.items
-            (F.state s.files)) }
+        ensures stops { IfErr result (λ s. Stops W.work self s.why s.records.histories.items
+            (length s.records.gave_up.items) (F.state s.files)) }
+        ensures kept { IfErr result (λ s. AreKept s.records) }
     {
         let mut context = self;
         loop {
             context.is_sound();
             match context.next_sort(alloc) {
-                Ok(Some(sort)) => context = context.find_bounds(alloc, sort)?,
+                Ok(Some(sort)) => context = context.find_bounds(rt, alloc, gate, clock, sort)?,
                 Ok(None) => return Ok(context),
                 Err(_) => return Err(context.without_memory()),
             }
@@ -60,24 +71,32 @@ impl<W: Naming, F: Files> Context<W, F> {
     }
 
     /// Runs the job that finds the bounds of a sort, which comes next.
-    fn find_bounds(self, alloc: Global, sort: NodeId) -> Result<Context<W, F>, Stopped<F>>
+    fn find_bounds<G: Gate + Sync, C: Clock + Send, R: Threads + Wait + time::Clock + Sync>(
+        self,
+        rt: &R,
+        alloc: Global,
+        gate: &G,
+        clock: &Mutex<C>,
+        sort: NodeId,
+    ) -> Result<Context<W, F>, Stopped<F>>
         requires within { self.progress.actions < length W.work.script.actions }
         requires next { IsFirstLacking W.work.script.nodes self.progress.carried
             (next_node W.work self.progress) (Some sort) }
         ensures finds { IfOk result (Finds W.work self sort) }
-        ensures stops { IfErr result (λ s. Stops W.work self s.why s.histories.items
-            (F.state s.files)) }
+        ensures stops { IfErr result (λ s. Stops W.work self s.why s.records.histories.items
+            (length s.records.gave_up.items) (F.state s.files)) }
+        ensures kept { IfErr result (λ s. AreKept s.records) }
     {
         self.is_sound();
-        let ended = self.run_job(alloc, Goal::Bounds { sort })?;
+        let ended = self.run_job(rt, alloc, gate, clock, Goal::Bounds { sort })?;
         let Ok(bounds) = ended.bounds(alloc, sort) else {
-            return Err(Stopped::without_memory(ended.histories, ended.files));
+            return Err(Stopped::without_memory(ended.records, ended.files));
         };
         let Ended {
             work,
             mut passed,
             stores,
-            histories,
+            records,
             actions,
             files,
             ..
@@ -87,7 +106,7 @@ impl<W: Naming, F: Files> Context<W, F> {
             work,
             passed,
             stores,
-            histories,
+            records,
             actions,
             files,
         })

@@ -1,29 +1,31 @@
 //! The context.
 #![tactic(auto)]
 
-ghost use Rattle.std.specs.Prelude.{◌≡◌, ◌≤◌, IfErr, IfOk, None, length};
+ghost use Rattle.std.specs.Prelude.{◌≡◌, ◌≤◌, IfErr, IfOk, None, length, map};
 ghost use Rattle.sc_context.specs.Contexts.{IsReady, new_context};
 ghost use Rattle.sc_context.specs.Histories.{HasCome};
 ghost use Rattle.sc_context.specs.Progress.{first_progress};
+ghost use Rattle.sc_context.specs.Records.{AreKept};
 ghost use Rattle.sc_desk.specs.Begins.{FitsLast};
 ghost use Rattle.sc_stagecut.specs.Carrying.{IsCarriedFor};
 
-use crate::starts::new_stores;
-use sc_core::JobHistory;
+use crate::records::Records;
+use crate::starts::{locked, new_stores};
 use sc_desk::Passed;
 use sc_files::Files;
 use sc_store::Store;
 use sc_work::{Naming, SharedWork};
 use std::alloc::{AllocError, AllocFailed, Global};
 use std::marker::Model;
+use std::sync::Mutex;
 
 /// The jobs of a run so far, what goes on to the next one, and the files that saves write to.
 #[derive(Drop)]
 pub struct Context<W: Naming, F: Files> {
     pub(crate) work: SharedWork<W>,
     pub(crate) passed: Passed,
-    pub(crate) stores: Vec<Store<W>>,
-    pub(crate) histories: Vec<JobHistory>,
+    pub(crate) stores: Vec<Mutex<Store<W>>>,
+    pub(crate) records: Records,
     pub(crate) actions: u32,
     pub(crate) files: F,
 }
@@ -32,16 +34,18 @@ impl<W: Naming, F: Files> Model for Context<W, F> {
     ghost use Rattle.std.specs.Coded.{codes};
     ghost use Rattle.sc_base.specs.Outside.{files_state_code};
     ghost use Rattle.sc_context.specs.Contexts.{ContextData, IsContext, context_data};
+    ghost use Rattle.sc_context.specs.Records.{AreKept};
 
     ghost Value = { ContextData };
 
     ghost coded = { Prim.hlevel (codes, files_state_code) };
 
     ghost view = { λ c.
-        context_data c.actions c.passed.carried c.histories.items (F.state c.files) };
+        context_data c.actions c.passed.carried c.records.histories.items (F.state c.files) };
 
-    ghost invariant = { λ c. IsContext W.work c.passed c.stores.items
-        (context_data c.actions c.passed.carried c.histories.items (F.state c.files)) };
+    ghost invariant = { λ c. IsContext W.work c.passed
+        (context_data c.actions c.passed.carried c.records.histories.items (F.state c.files))
+        × AreKept c.records };
 }
 
 impl<W: Naming, F: Files> Context<W, F> {
@@ -60,7 +64,7 @@ impl<W: Naming, F: Files> Context<W, F> {
                 work,
                 passed: starts.passed,
                 stores: starts.stores,
-                histories: Vec::new(alloc),
+                records: Records::new(alloc),
                 actions: 0,
                 files,
             }),
@@ -94,15 +98,16 @@ impl<W: Naming, F: Files> Context<W, F> {
         ensures places { length self.now.progress.carried.bounds ≡ length W.work.script.nodes }
         ensures fits { FitsLast W.work self.now.progress.last }
     {
-        let _ = &self.histories;
+        let _ = &self.records;
     }
 
     /// How the jobs went, and the files.
-    pub fn into_parts(self) -> (Vec<JobHistory>, F)
-        ensures histories { result.0.items ≡ self.histories }
+    pub fn into_parts(self) -> (Records, F)
+        ensures histories { result.0.histories.items ≡ self.histories }
+        ensures kept { AreKept result.0 }
         ensures files { F.state result.1 ≡ self.files }
     {
-        (self.histories, self.files)
+        (self.records, self.files)
     }
 }
 
@@ -110,17 +115,21 @@ impl<W: Naming, F: Files> Context<W, F> {
 #[derive(Drop)]
 struct Starts<W: Naming> {
     passed: Passed,
-    stores: Vec<Store<W>>,
+    stores: Vec<Mutex<Store<W>>>,
 }
 
 /// What the jobs of a work begin with.
 fn make_starts<W: Naming>(alloc: Global, work: &SharedWork<W>) -> Result<Starts<W>, AllocError>
     ensures carried { IfOk result (λ s. s.passed.carried ≡ (first_progress W.work).carried) }
-    ensures ready { IfOk result (λ s. IsReady W.work s.passed s.stores.items None) }
+    ensures ready { IfOk result (λ s. IsReady W.work s.passed None) }
 {
     work.is_named();
     work.get().is_sound();
     let passed = Passed::first(alloc, work.get())?;
     let stores = new_stores(alloc, work)?;
-    Ok(Starts { passed, stores })
+    let room = Vec::with_capacity(alloc, stores.len())?;
+    Ok(Starts {
+        passed,
+        stores: locked(stores, room),
+    })
 }

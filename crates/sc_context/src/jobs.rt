@@ -1,16 +1,18 @@
 //! One job of a context.
 #![tactic(auto)]
 
-ghost use Rattle.std.specs.Prelude.{◌≡◌, ◌<◌, IfErr, IfOk, length};
+ghost use Rattle.std.specs.Prelude.{◌≡◌, ◌<◌, IfErr, IfOk, OnOk, length};
 ghost use Rattle.std.specs.Option.{option_map};
 ghost use Rattle.sc_causes.specs.Inputs.{MissingInputsWereLost};
 ghost use Rattle.sc_causes.specs.Losses.{EmptyPlansLoseNone, PlannedLossesAlone};
 ghost use Rattle.sc_causes.specs.Raises.{RaisesLeaveNoValue};
 ghost use Rattle.sc_context.specs.Contexts.{IsEnded, IsReady, Stops};
-ghost use Rattle.sc_context.specs.Jobs.{HasBegunFor};
 ghost use Rattle.sc_context.specs.Progress.{IsNext};
+ghost use Rattle.sc_context.specs.Crews.{IsCrew};
+ghost use Rattle.sc_context.specs.Records.{AreKept, HasRoom, IsSame};
 ghost use Rattle.sc_core.specs.Openings.{tracker_behind};
 ghost use Rattle.sc_core.specs.Sound.{HasLive};
+ghost use Rattle.sc_desk.specs.Begins.{Begins};
 ghost use Rattle.sc_desk.specs.Files.{FilesGoOn};
 ghost use Rattle.sc_jobs.specs.JobData.{IsGoal, goal_node};
 ghost use Rattle.sc_laws.specs.Skips.{OutcomeLaw};
@@ -18,47 +20,49 @@ ghost use Rattle.sc_stagecut.specs.Carrying.{HasBounds};
 ghost use Rattle.sc_staging.specs.Laws.{WaysGoOn};
 
 use crate::context::Context;
+use crate::crews::Crew;
+use crate::endings::{Ended, end_job};
 use crate::lasts::last_end;
 use crate::outputs::{Refused, open_output};
+use crate::records::Records;
+use crate::running::{Begun, run_begun};
 use crate::stops::Stopped;
-use crate::went::{Went, run_world};
 use sc_causes::{missing_inputs_were_lost, planned_losses_alone, raises_leave_no_value};
-use sc_compute::TaskResult;
-use sc_core::{Core, JobHistory};
+use sc_clock::Clock;
+use sc_core::Core;
 use sc_desk::{Desk, Passed, files_go_on};
+use sc_exec::Gate;
 use sc_files::Files;
 use sc_jobs::Goal;
 use sc_laws::outcome_law;
 use sc_staging::laws_of_ways;
 use sc_store::Store;
 use sc_work::{Naming, SharedWork};
-use sc_world::World;
 use std::alloc::{AllocError, Global};
+use std::sync::{Mutex, Wait};
+use std::thread::Threads;
+use std::time;
 
-/// A job that is done, and what goes on behind it.
-#[derive(Drop)]
-pub(crate) struct Ended<W: Naming, F: Files> {
-    pub(crate) work: SharedWork<W>,
-    pub(crate) passed: Passed,
-    pub(crate) stores: Vec<Store<W>>,
-    pub(crate) histories: Vec<JobHistory>,
-    pub(crate) actions: u32,
-    /// Its results.
-    pub(crate) results: Vec<TaskResult>,
-    pub(crate) files: F,
-}
-
-impl<W: Naming, F: Files> Context<W, F> {
-    /// Runs the job that comes next to its end. Room for its history is made before it begins, and
-    /// where it saves, its directory and staging area too.
-    pub(crate) fn run_job(self, alloc: Global, goal: Goal) -> Result<Ended<W, F>, Stopped<F>>
+impl<W: Naming + Send + Sync, F: Files + Send> Context<W, F> {
+    /// Runs the job that comes next to its end, on executor threads. Room for its history is made
+    /// before it begins, and where it saves, its directory and staging area too.
+    pub(crate) fn run_job<G: Gate + Sync, C: Clock + Send, R: Threads + Wait + time::Clock + Sync>(
+        self,
+        rt: &R,
+        alloc: Global,
+        gate: &G,
+        clock: &Mutex<C>,
+        goal: Goal,
+    ) -> Result<Ended<W, F>, Stopped<F>>
         requires next { IsNext W.work self.progress goal }
         requires within { self.progress.actions < length W.work.script.actions }
-        ensures ended { IfOk result (λ e. IsEnded W.work self goal e.passed e.stores.items
-            e.histories.items e.results.items (F.state e.files)) }
+        ensures ended { IfOk result (λ e. IsEnded W.work self goal e.passed
+            e.records.histories.items e.results.items (F.state e.files)) }
         ensures actions { IfOk result (λ e. e.actions ≡ self.progress.actions) }
-        ensures stops { IfErr result (λ s. Stops W.work self s.why s.histories.items
-            (F.state s.files)) }
+        ensures recorded { IfOk result (λ e. AreKept e.records) }
+        ensures stops { IfErr result (λ s. Stops W.work self s.why s.records.histories.items
+            (length s.records.gave_up.items) (F.state s.files)) }
+        ensures kept { IfErr result (λ s. AreKept s.records) }
     {
         laws_of_ends();
         self.is_sound();
@@ -68,52 +72,45 @@ impl<W: Naming, F: Files> Context<W, F> {
             work,
             passed,
             stores,
-            mut histories,
+            mut records,
             actions,
             files,
         } = self;
-        let Ok(()) = histories.reserve(1) else {
-            return Err(Stopped::without_memory(histories, files));
+        let Ok(crew) = make_room(alloc, &work, &mut records) else {
+            return Err(Stopped::without_memory(records, files));
         };
         let output = match open_output(alloc, &work, goal, files) {
             Ok(output) => output,
             Err(Refused { why, files }) => return Err(Stopped {
                 why,
-                histories,
+                records,
                 files,
             }),
         };
-        let last = last_end(histories.as_slice());
-        let Ok(world) = begin_world(alloc, &work, passed, stores, last, goal) else {
-            return Err(Stopped::without_memory(histories, output.close()));
+        let last = last_end(records.histories.as_slice());
+        let Ok(begun) = begin(alloc, &work, passed, last, goal) else {
+            return Err(Stopped::without_memory(records, output.close()));
         };
-        let Went {
-            history,
-            passed,
-            stores,
-            results,
-            files,
-        } = run_world(alloc, world, output);
-        history.opening.is_sound();
-        history.end.is_sound();
-        histories.push_reserved(history);
-        match results {
-            Ok(results) => Ok(Ended {
-                work,
-                passed,
-                stores,
-                histories,
-                actions,
-                results,
-                files,
-            }),
-            Err(why) => Err(Stopped {
-                why,
-                histories,
-                files,
-            }),
-        }
+        let run = run_begun(rt, alloc, gate, clock, last, begun, output, stores, crew);
+        end_job(work, actions, records, run)
     }
+}
+
+/// Room in the records for one job more, and its executors. A refused call changes nothing.
+fn make_room<W: Naming>(
+    alloc: Global,
+    work: &SharedWork<W>,
+    records: &mut Records,
+) -> Result<Crew, AllocError>
+    requires kept { AreKept records.old }
+    ensures kept { AreKept records.new }
+    ensures room { OnOk result (HasRoom records.new) }
+    ensures crew { IfOk result (IsCrew W.work.limits.executors) }
+    ensures same { IsSame records.old records.new }
+{
+    records.reserve()?;
+    work.is_named();
+    Crew::new(alloc, work.get().limits().executors)
 }
 
 /// What holds of the ends of all jobs. A call does nothing.
@@ -134,28 +131,26 @@ fn laws_of_ends()
     laws_of_ways();
 }
 
-/// The world of a job that begins behind the core of the last one or none.
-fn begin_world<W: Naming>(
+/// A job begins behind the core of the last one or none, with a copy of which orders of the fault
+/// plan were handed out before it.
+fn begin<W: Naming>(
     alloc: Global,
     work: &SharedWork<W>,
     passed: Passed,
-    stores: Vec<Store<W>>,
     last: Option<&Core>,
     goal: Goal,
-) -> Result<World<W>, AllocError>
+) -> Result<Begun<W>, AllocError>
     requires goal { IsGoal W.work goal }
     requires bounds { HasBounds W.work.script.nodes passed.carried (goal_node W.work goal) }
-    requires ready { IsReady W.work passed stores.items (option_map (λ l. l.now) last) }
+    requires ready { IsReady W.work passed (option_map (λ l. l.now) last) }
     requires live { HasLive (tracker_behind (option_map (λ l. l.now) last) W.work.limits) }
-    ensures begun { IfOk result (λ w. HasBegunFor W.work passed stores.items
-        (option_map (λ l. l.now) last.entry) goal w) }
+    ensures begun { IfOk result
+        (λ b. Begins W.work passed (option_map (λ l. l.now) last.entry) goal b.desk) }
+    ensures ordered { IfOk result (λ b. b.ordered ≡ b.desk.ordered) }
 {
-    let Ok(desk) = Desk::begin(alloc, work.share()?, passed, last, goal) else {
-        return Err(AllocError);
-    };
-    desk.core().is_sound();
-    match World::begin(alloc, desk, stores) {
-        Ok(world) => Ok(world),
+    let ordered = passed.ordered.copied(alloc)?;
+    match Desk::begin(alloc, work.share()?, passed, last, goal) {
+        Ok(desk) => Ok(Begun { desk, ordered }),
         Err(_) => Err(AllocError),
     }
 }

@@ -11,23 +11,33 @@
 //!
 //! `specs/Progress.antt` says which job comes next, `specs/Histories.antt` how jobs follow one
 //! another, `specs/Files.antt` what they leave of the files, `specs/Aborts.antt` what an abort
-//! shows, and `specs/Contexts.antt` what an action answers. One thread runs the jobs
-//! (`World::serial`); no text is written here.
+//! shows, and `specs/Contexts.antt` what an action answers. Executor threads run the jobs
+//! (`work_job` of `sc_exec`). Where what they wrote down isn't what the driver's desk says, or one
+//! of them met what can't be, they give the job up, and the driver runs it again alone
+//! (`World::serial`), with no output registered and over new stores: what is known of the stores
+//! isn't known past their locks. `specs/Records.antt` says what is kept of each job, and
+//! `specs/Goings.antt` how one goes from its beginning to its end. No text is written here.
 //!
 //! After `SparkContext.runJob` of Spark.
 #![tactic(auto)]
 
 mod actions;
+mod alone;
 mod bounds;
 mod context;
+mod crews;
+mod endings;
 mod jobs;
 mod lasts;
 mod outputs;
+mod records;
 mod results;
+mod running;
 mod starts;
 mod stops;
 mod went;
 
 pub use actions::Given;
 pub use context::Context;
+pub use records::{GaveUp, Records};
 pub use stops::{JobFault, Stopped};

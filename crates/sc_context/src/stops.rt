@@ -3,10 +3,12 @@
 
 ghost use Rattle.std.specs.Prelude.{◌≡◌};
 ghost use Rattle.sc_base.specs.declared.refusals.OrMemory.TheVariants.{OutOfMemory};
+ghost use Rattle.sc_context.specs.Records.{AreKept};
 
 use crate::context::Context;
+use crate::records::Records;
 use sc_base::OrMemory;
-use sc_core::{Abort, JobHistory};
+use sc_core::Abort;
 use sc_files::Files;
 use sc_value::Name;
 use sc_work::Naming;
@@ -29,21 +31,21 @@ pub struct Stopped<F: Files> {
     /// Why the last job came to no end or the next one didn't begin, or want of memory.
     pub why: OrMemory<JobFault>,
     /// How the jobs went: all but the last are done.
-    pub histories: Vec<JobHistory>,
+    pub records: Records,
     /// The files.
     pub files: F,
 }
 
 impl<F: Files> Stopped<F> {
     /// Memory ran out behind these jobs.
-    pub(crate) fn without_memory(histories: Vec<JobHistory>, files: F) -> Stopped<F>
+    pub(crate) fn without_memory(records: Records, files: F) -> Stopped<F>
         ensures why { result.why ≡ OutOfMemory }
-        ensures histories { result.histories.items ≡ histories.items }
+        ensures records { result.records ≡ records }
         ensures files { F.state result.files ≡ F.state files }
     {
         Stopped {
             why: OrMemory::OutOfMemory,
-            histories,
+            records,
             files,
         }
     }
@@ -53,9 +55,10 @@ impl<W: Naming, F: Files> Context<W, F> {
     /// Memory ran out before the next job began.
     pub(crate) fn without_memory(self) -> Stopped<F>
         ensures why { result.why ≡ OutOfMemory }
-        ensures histories { result.histories.items ≡ self.histories }
+        ensures histories { result.records.histories.items ≡ self.histories }
+        ensures kept { AreKept result.records }
         ensures files { F.state result.files ≡ self.files }
     {
-        Stopped::without_memory(self.histories, self.files)
+        Stopped::without_memory(self.records, self.files)
     }
 }

@@ -31,16 +31,19 @@ returns-in_err-context-in-Ok-Some-clause-stops g c =
     let stopped = c.in_err-context-in-Ok-Some.field-0.0 in
     rw (p.1, p.2)
     (stops_behind g.W.Naming.work c.args.self c.loop-sort.context stopped.why
-    stopped.histories.items (g.F.Files.state stopped.files) c.loop-sort.invariant
+    stopped.records.histories.items (length stopped.records.gave_up.items)
+    (g.F.Files.state stopped.files) c.loop-sort.invariant
     c.in_err-context-in-Ok-Some.ensures.stops)
 
 pub returns-in-Err-clause-stops : goal.returns-in-Err-clause-stops
 returns-in-Err-clause-stops g c =
     let left = c.without_memory.result in
     let files = g.F.Files.state left.files in
-    stops_behind g.W.Naming.work c.args.self c.loop-sort.context left.why left.histories.items
+    let histories = left.records.histories.items in
+    let given_up = length left.records.gave_up.items in
+    stops_behind g.W.Naming.work c.args.self c.loop-sort.context left.why histories given_up
     files c.loop-sort.invariant
-    (stops_short g.W.Naming.work c.loop-sort.context left.why left.histories.items files
+    (stops_short g.W.Naming.work c.loop-sort.context left.why histories given_up files
     c.is_sound.ensures.come c.without_memory.ensures.why c.without_memory.ensures.histories
     c.without_memory.ensures.files)
 

@@ -6,6 +6,7 @@ use Rattle.sc_stagecut.specs.Carrying.{CarriedData, after_job, with_bounds}
 use Rattle.sc_jobs.specs.declared.goals.Goal.TheVariants as goals
 use Rattle.sc_desk.specs.Begins.{IsPassedFor}
 use Rattle.sc_desk.specs.DeskData.{PassedData, passed_data}
+use Rattle.sc_context.specs.declared.records.Records.{Records}
 use Rattle.sc_context.proofs.BoundLemmas.{found_passed, lacking_is}
 use Rattle.sc_context.proofs.ChainLemmas.{stops_ended}
 use Rattle.sc_context.proofs.JobLemmas.{context_behind, gone_behind}
@@ -21,10 +22,11 @@ returns-in_default-clause-stops g c =
     let e = c.in_ok-ended.ended in
     let left = c.without_memory in
     stops_ended g.W.Naming.work c.args.self (goals.Bounds c.args.sort) left.result.why e.passed
-    e.stores.items e.histories.items left.result.histories.items e.results.items
-    (g.F.Files.state e.files) (g.F.Files.state left.result.files) c.requires.next
-    c.is_sound.ensures.come c.in_ok-ended.ensures.ended left.ensures.why left.ensures.histories
-    left.ensures.files
+    e.records.histories.items left.result.records.histories.items e.results.items
+    (length left.result.records.gave_up.items) (g.F.Files.state e.files)
+    (g.F.Files.state left.result.files) c.requires.next c.is_sound.ensures.come
+    c.in_ok-ended.ensures.ended left.ensures.why
+    (ap (λ (r : Records). r.histories.items) left.ensures.records) left.ensures.files
 
 pub invariant_of-result : goal.invariant_of-result
 invariant_of-result g c =
@@ -50,11 +52,13 @@ invariant_of-result g c =
     ∙ c.is_sound.ensures.places in
     let many = c.in_ok-ended.ensures.actions in
     let within : e.actions ≤ length work.script.actions =
-    omega (arith, many, c.requires.within) in
-    context_behind work c.args.self (goals.Bounds sort) e.passed
-    (passed_data c.set_bounds.new.self c.passed.inside.ordered) e.stores.items e.histories.items
-    e.results.items e.actions (g.F.Files.state e.files) c.is_sound.ensures.come ended carried many
-    within serves places
+    omega (arith, many, c.requires.within) in (
+      context_behind work c.args.self (goals.Bounds sort) e.passed
+          (passed_data c.set_bounds.new.self c.passed.inside.ordered) e.records.histories.items
+          e.results.items e.actions (g.F.Files.state e.files) c.is_sound.ensures.come ended
+          carried many within serves places,
+      c.in_ok-ended.ensures.recorded,
+    )
 
 pub returns-clause-finds : goal.returns-clause-finds
 returns-clause-finds g c =
@@ -68,7 +72,7 @@ returns-clause-finds g c =
     ∙ ap (λ b. with_bounds (after_job c.args.self.progress.carried ended.is.graph) sort b)
     c.in-Ok.ensures in
     let gone = gone_behind work c.args.self (goals.Bounds sort) e.passed
-    (passed_data c.set_bounds.new.self c.passed.inside.ordered) e.stores.items e.histories.items
+    (passed_data c.set_bounds.new.self c.passed.inside.ordered) e.records.histories.items
     e.results.items e.actions (g.F.Files.state e.files) c.is_sound.ensures.come ended carried
     c.in_ok-ended.ensures.actions in
     record {

@@ -8,8 +8,9 @@ pub invariant_of-result : goal.invariant_of-result
 invariant_of-result g c =
     let work = g.W.Naming.work in
     let passed = c.in-Ok.starts.passed in
-    let stores = c.in-Ok.starts.stores.items in
-    let files = g.F.Files.state c.args.files in
-    subst (λ (hs : List JobHistory). IsContext work passed stores
-    (context_data 0 passed.carried hs files)) (sym c.new.ensures.items)
-    (first_context work passed stores files c.in-Ok.ensures.carried c.in-Ok.ensures.ready)
+    let files = g.F.Files.state c.args.files in (
+      subst (λ (hs : List JobHistory). IsContext work passed
+          (context_data 0 passed.carried hs files)) (sym c.new.ensures.none)
+          (first_context work passed files c.in-Ok.ensures.carried c.in-Ok.ensures.ready),
+      c.new.ensures.kept,
+    )

@@ -3,6 +3,7 @@ use Rattle.sc_stagecut.specs.Carrying.{CarriedData}
 use Rattle.sc_jobs.specs.JobData.{goal_action}
 use Rattle.sc_jobs.specs.declared.goals.Goal.TheVariants as goals
 use Rattle.sc_context.specs.Contexts.{ContextData, Evaluates}
+use Rattle.sc_context.specs.declared.records.Records.{Records}
 use Rattle.sc_context.proofs.ChainLemmas.{stops_ended, stops_short}
 use Rattle.sc_context.proofs.JobLemmas.{context_behind, gone_behind}
 use Rattle.sc_context.proofs.context.Context.run_own_job.Goals as goal
@@ -10,21 +11,24 @@ use Rattle.sc_context.proofs.context.Context.run_own_job.Goals as goal
 pub returns-in_default-clause-stops : goal.returns-in_default-clause-stops
 returns-in_default-clause-stops g c =
     let left = c.without_memory.result in
-    stops_short g.W.Naming.work c.args.self left.why left.histories.items
-    (g.F.Files.state left.files) c.is_sound.ensures.come c.without_memory.ensures.why
-    c.without_memory.ensures.histories c.without_memory.ensures.files
+    stops_short g.W.Naming.work c.args.self left.why left.records.histories.items
+    (length left.records.gave_up.items) (g.F.Files.state left.files) c.is_sound.ensures.come
+    c.without_memory.ensures.why c.without_memory.ensures.histories
+    c.without_memory.ensures.files
 
 pub returns-in_default-value_of-clause-stops : goal.returns-in_default-value_of-clause-stops
 returns-in_default-value_of-clause-stops g c =
     let e = c.in_ok-ended.ended in
     let left = c.without_memory-in_default-value_of in
     stops_ended g.W.Naming.work c.args.self (goals.Action c.self.inside.actions)
-    left.result.why e.passed e.stores.items e.histories.items
-    left.result.histories.items e.results.items (g.F.Files.state e.files)
+    left.result.why e.passed e.records.histories.items
+    left.result.records.histories.items e.results.items
+    (length left.result.records.gave_up.items) (g.F.Files.state e.files)
     (g.F.Files.state left.result.files)
     (ap (λ (x : ContextData). x.progress.actions) c.self.view_is, c.requires.found)
     c.is_sound.ensures.come c.in_ok-ended.ensures.ended
-    left.ensures.why left.ensures.histories left.ensures.files
+    left.ensures.why (ap (λ (r : Records). r.histories.items) left.ensures.records)
+    left.ensures.files
 
 pub invariant_of-context : goal.invariant_of-context
 invariant_of-context g c =
@@ -35,11 +39,13 @@ invariant_of-context g c =
     let at = ap (λ (x : ContextData). x.progress.actions) c.self.view_is in
     let many : c.in-Some.behind ≡ p.actions + 1 = omega (arith, c.in-Some.ensures, at) in
     let within : c.in-Some.behind ≤ length work.script.actions =
-    omega (arith, many, c.requires.within) in
-    context_behind work c.args.self (goals.Action c.self.inside.actions) e.passed e.passed
-    e.stores.items e.histories.items e.results.items c.in-Some.behind (g.F.Files.state e.files)
-    c.is_sound.ensures.come ended ended.carried many within ended.ready.passed_on
-    (ap (λ (k : CarriedData). length k.bounds) ended.carried ∙ c.is_sound.ensures.places)
+    omega (arith, many, c.requires.within) in (
+      context_behind work c.args.self (goals.Action c.self.inside.actions) e.passed e.passed
+          e.records.histories.items e.results.items c.in-Some.behind (g.F.Files.state e.files)
+          c.is_sound.ensures.come ended ended.carried many within ended.ready.passed_on
+          (ap (λ (k : CarriedData). length k.bounds) ended.carried ∙ c.is_sound.ensures.places),
+      c.in_ok-ended.ensures.recorded,
+    )
 
 pub returns-clause-given : goal.returns-clause-given
 returns-clause-given g c =
@@ -50,7 +56,7 @@ returns-clause-given g c =
     let many : c.in-Some.behind ≡ c.args.self.progress.actions + 1 =
     omega (arith, c.in-Some.ensures, at) in
     let gone = gone_behind work c.args.self (goals.Action c.self.inside.actions) e.passed e.passed
-    e.stores.items e.histories.items e.results.items c.in-Some.behind (g.F.Files.state e.files)
+    e.records.histories.items e.results.items c.in-Some.behind (g.F.Files.state e.files)
     c.is_sound.ensures.come ended ended.carried many in
     record {
       evaluates = subst (λ k. Evaluates work (goal_action work (goals.Action k)) c.in-Ok.value) at

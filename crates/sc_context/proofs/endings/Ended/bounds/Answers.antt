@@ -12,7 +12,7 @@ use Rattle.sc_lineage.proofs.PlaceLemmas.{at_or-found}
 use Rattle.sc_jobs.proofs.NodeLemmas.{found_within}
 use Rattle.sc_context.specs.Bounding.{parts_of}
 use Rattle.sc_context.proofs.ResultLemmas.{item_at, parent_rows, some_inside, within_read}
-use Rattle.sc_context.proofs.jobs.Ended.bounds.Goals as goal
+use Rattle.sc_context.proofs.endings.Ended.bounds.Goals as goal
 
 pub bounds_of_results-requires : goal.bounds_of_results-requires
 bounds_of_results-requires g c =

@@ -1,0 +1,208 @@
+-- What came of a job that began: its executors worked to its end, or gave it up.
+use Rattle.std.proofs.Common.{◌≡◌, ◌∙◌, ◌⊎◌, inl, inr, ◌||◌, All, Bool, true, false, Global, List, [], Option, option_map, length, refl, ap, sym, subst}
+use Rattle.std.specs.Prelude.{Result, Vec}
+use Rattle.std.proofs.lemmas.List.Elements.{All-nil, All-weaker}
+use Rattle.sc_base.specs.Outside.{FilesState, IsLaterFiles}
+use Rattle.sc_base.specs.Trees.{Path}
+use Rattle.sc_base.specs.declared.refusals.OrMemory.{OrMemory}
+use Rattle.sc_ids.specs.declared.attempts.Mark.TheVariants.{Driver}
+use Rattle.sc_compute.specs.declared.results.TaskResult.{TaskResult}
+use Rattle.sc_lineage.specs.ScriptData.{WorkData}
+use Rattle.sc_files.specs.Calls.{counts_of}
+use Rattle.sc_staging.specs.Outputs.{GoesOnIn}
+use Rattle.sc_core.specs.CoreData.{CoreData}
+use Rattle.sc_core.specs.Openings.{unregistered_core}
+use Rattle.sc_core.specs.Journals.{Replays}
+use Rattle.sc_core.specs.declared.entries.Entry.{Entry}
+use Rattle.sc_core.specs.declared.journals.JobHistory.{JobHistory}
+use Rattle.sc_jobs.specs.declared.goals.Goal.{Goal}
+use Rattle.sc_logs.specs.Logs.{Interleaves, IsLogIn, is_known, marks_driver}
+use Rattle.sc_logs.specs.declared.logs.ExecLog.{ExecLog}
+use Rattle.sc_desk.specs.Begins.{Begins, BeginsAgain}
+use Rattle.sc_desk.specs.DeskData.{DeskData, PassedData}
+use Rattle.sc_desk.specs.Files.{AreCounted, faults_of}
+use Rattle.sc_desk.specs.declared.orders.Ordered.{Ordered}
+use Rattle.sc_desk.proofs.AgainLemmas.{again_is_begun}
+use Rattle.sc_exec.specs.Helms.{IsJobOf, helm_data, opening_of}
+use Rattle.sc_exec.specs.Openings.{OpeningData, opening_data}
+use Rattle.sc_exec.specs.Verdicts as judging
+use Rattle.sc_exec.specs.Workers.{AreInPlace, lefts_of, logs_of}
+use Rattle.sc_exec.specs.declared.lefts.Left.{Left}
+use Rattle.sc_exec.specs.declared.verdicts.Verdict.{Verdict}
+use Rattle.sc_exec.specs.declared.verdicts.Verdict.TheVariants as verdicts
+use Rattle.sc_exec.specs.declared.workers.Worker.{Worker}
+use Rattle.sc_context.specs.Goings.{BeganBehind, CameFrom, ComesFrom, GoesFrom, HasRun, RunsAgain, RunsFrom}
+use Rattle.sc_context.specs.Histories.{AreDrivers}
+use Rattle.sc_context.specs.Outputs.{CountsIn}
+use Rattle.sc_context.specs.Records.{IsGivenUp, IsLogged, WasGivenUp}
+use Rattle.sc_context.specs.declared.records.GaveUp.{GaveUp}
+use Rattle.sc_context.specs.declared.running.Run.{Run}
+use Rattle.sc_context.specs.declared.running.Run.TheVariants as runs
+use Rattle.sc_context.specs.declared.stops.JobFault.{JobFault}
+use Rattle.sc_context.proofs.AloneLemmas.{again_stands, comes_along, later_self}
+
+-- ---- what executors wrote down
+
+-- the entries of a job are logged as they were judged
+pub logged_so : (h : JobHistory) (entries : List Entry) (workers : List Worker)
+    (logs : List ExecLog) → h.entries.items ≡ entries → logs ≡ logs_of workers
+    → judging.AreLogged entries workers → IsLogged h logs
+logged_so h entries workers logs same are logged =
+    subst (λ (es : List Entry). Interleaves es logs) (sym same)
+    (subst (Interleaves entries) (sym are) logged)
+
+-- and that is so where it ended or memory ran out
+pub logged_by : (core : CoreData) (entries : List Entry) (workers : List Worker)
+    (how : Verdict) → (how ≡ verdicts.Ended) ⊎ (how ≡ verdicts.NoMemory)
+    → judging.IsVerdict core entries workers how → judging.AreLogged entries workers
+logged_by core entries workers how (inl is) judged =
+    (subst (judging.IsVerdict core entries workers) is judged).0
+logged_by core entries workers how (inr is) judged =
+    (subst (judging.IsVerdict core entries workers) is judged).0
+
+-- what the judgement of a job that is given up says
+pub given_by : (core : CoreData) (entries : List Entry) (workers : List Worker)
+    (how : Verdict) → how ≡ verdicts.GivenUp → judging.IsVerdict core entries workers how
+    → judging.IsGivenUp entries workers
+given_by core entries workers how is judged =
+    (subst (judging.IsVerdict core entries workers) is judged).0
+
+-- or why it is given up
+pub given_up_so : (entries : List Entry) (workers : List Worker) (logs : List ExecLog)
+    (lefts : List Left) → logs ≡ logs_of workers → lefts ≡ lefts_of workers
+    → judging.IsGivenUp entries workers → WasGivenUp entries logs lefts
+given_up_so entries workers logs lefts are whys given =
+    subst (λ (ls : List ExecLog). WasGivenUp entries ls lefts) (sym are)
+    (subst (WasGivenUp entries (logs_of workers)) (sym whys) given)
+
+-- the driver alone needs no log
+known_alone : (e : Entry) → marks_driver e.by ≡ true → is_known [] e ≡ true
+known_alone e is = ap (λ (b : Bool). b || false) is
+
+pub logged_alone : (h : JobHistory) (logs : List ExecLog) → logs ≡ [] → AreDrivers h.entries.items
+    → IsLogged h logs
+logged_alone h logs none drivers =
+    subst (Interleaves h.entries.items) (sym none) (
+      All-nil (IsLogIn h.entries.items),
+      All-weaker (λ e. e.by ≡ Driver) (λ e. is_known [] e ≡ true)
+          (λ e is. known_alone e (ap marks_driver is)) h.entries.items drivers,
+    )
+
+-- as many executors as before
+pub as_many : (executors : _) (before after : List Worker) → AreInPlace executors before
+    → AreInPlace executors after → length after ≡ length before
+as_many executors before after was is = is.many ∙ sym was.many
+
+-- ---- a job that is run
+
+-- A job begins with a desk, and its executors leave another one.
+module _ (work : WorkData) (passed : PassedData) (last : Option CoreData) (goal : Goal)
+    (first d : DeskData) (dir then : Option Path) (opened files : FilesState)
+    (is : IsJobOf work (opening_of (helm_data first dir opened)) (helm_data d then files)) where
+  -- it went so to its end
+  pub has_run : (h : JobHistory) (next : PassedData)
+      (results : Result (Vec TaskResult Global) (OrMemory JobFault)) (closed : FilesState)
+      → Begins work passed last goal first
+      → ((o : OpeningData) → ComesFrom work o (helm_data d then files)
+      → GoesFrom work o h next results closed)
+      → ((begun : FilesState)
+      → AreCounted (counts_of begun) (faults_of d.journal.entries) (counts_of files)
+      → CountsIn (faults_of h.entries.items) begun closed results)
+      → HasRun work passed last goal dir opened h next results closed
+  has_run h next results closed begins goes counts =
+      record {
+        desk = first;
+        from = last;
+        begins = begins;
+        behind = inl refl;
+        goes = goes (opening_of (helm_data first dir opened))
+            (comes_along work (opening_of (helm_data first dir opened)) (helm_data d then files)
+            is);
+        counted = record {
+          begun = opened;
+          later = later_self opened;
+          since = inl refl;
+          counted = counts opened is.counted;
+        };
+      }
+
+  -- it is given up, and may begin again
+  pub came_from : (orders : List Ordered) → BeganBehind work last first
+      → orders ≡ first.ordered → CameFrom work last orders d
+  came_from orders (passed_on, for_goal, begins) same =
+      record {
+        passed = passed_on;
+        goal = for_goal;
+        first = first;
+        begins = begins;
+        job = is.job;
+        carried = is.carried;
+        orders_are = same ∙ begins.ordered;
+      }
+
+  -- and did, or didn't
+  pub has_run_again : {W F : Type 0} (state : F → FilesState) (orders : List Ordered)
+      (run : Run W F)
+      → Begins work passed last goal first → orders ≡ first.ordered
+      → RunsAgain work state d last orders then files run
+      → RunsFrom work state passed last goal dir opened run
+  has_run_again state orders (runs.Went went logs gave_up stores) begins same
+      ((after, again, goes), drivers, counted, logged, given) = (
+        record {
+          desk = after;
+          from = option_map unregistered_core last;
+          begins = again_is_begun work passed last last goal first d after orders begins is.job
+              is.carried (same ∙ begins.ordered) again;
+          behind = inr (refl, drivers);
+          goes = goes (opening_data after.journal.opening after.job after.carried dir opened)
+              (record {
+                core = refl;
+                job = refl;
+                carried = refl;
+                dir = is.dir;
+                stand = again_stands work d after last orders then files again is.stand;
+                later = is.later;
+                goes = is.goes;
+              });
+          counted = record {
+            begun = files;
+            later = is.later;
+            since = inr drivers;
+            counted = counted;
+          };
+        },
+        logged,
+        given,
+      )
+  has_run_again state orders (runs.Refused gave_up after) begins same (given, stays) = (
+    given,
+    (
+      subst (λ (f : FilesState). IsLaterFiles opened f) (sym stays) is.later,
+      subst (λ (f : FilesState). GoesOnIn dir opened f) (sym stays) is.goes,
+    ),
+  )
+
+-- ---- a job that begins again
+
+-- how it went before
+pub is_given_up : (g : GaveUp) (entries : List Entry)
+    → Replays g.history.opening g.history.entries.items g.history.end
+    → g.history.entries.items ≡ entries → WasGivenUp entries g.logs.items g.lefts.items
+    → IsGivenUp g
+is_given_up g entries replays same cause =
+    record {
+      replays = replays;
+      cause = subst (λ (es : List Entry). WasGivenUp es g.logs.items g.lefts.items) (sym same)
+          cause;
+    }
+
+-- it begins like any other, behind a job of which nothing is registered
+pub begins_again : (work : WorkData) (last : Option CoreData) (orders : List Ordered)
+    (d after : DeskData) → CameFrom work last orders d → BeginsAgain work d last orders after
+    → BeganBehind work (option_map unregistered_core last) after
+begins_again work last orders d after came again = (
+  came.passed,
+  came.goal,
+  again_is_begun work came.passed last last came.goal came.first d after orders came.begins
+      came.job came.carried came.orders_are again,
+)

@@ -1,0 +1,11 @@
+use Rattle.std.proofs.Common.{All}
+use Rattle.sc_exec.specs.Workers.{AreInPlace}
+use Rattle.sc_exec.specs.Working.{IsFresh}
+use Rattle.sc_context.proofs.crews.fresh_workers.Given as goal
+
+abbrev pub invariant-loop-exec : goal.invariant-loop-exec
+invariant-loop-exec l =
+    record {
+      fresh : All (IsFresh l.executors) l.workers.items;
+      places : AreInPlace l.exec l.workers.items;
+    }

@@ -1,0 +1,121 @@
+-- How a job goes on from its beginning to its end.
+use Rattle.std.specs.declared.alloc.Global.{Global}
+use Rattle.std.specs.Prelude.{◌≡◌, ◌⊎◌, IfErr, IfOk, IfSome, List, Option, Some, Result, Vec}
+use Rattle.sc_base.specs.Outside.{FilesState, IsLaterFiles}
+use Rattle.sc_base.specs.Trees.{Path}
+use Rattle.sc_base.specs.declared.refusals.OrMemory.{OrMemory}
+use Rattle.sc_compute.specs.declared.results.TaskResult.{TaskResult}
+use Rattle.sc_lineage.specs.ScriptData.{WorkData}
+use Rattle.sc_files.specs.Calls.{counts_of}
+use Rattle.sc_staging.specs.Outputs.{GoesOnIn}
+use Rattle.sc_core.specs.CoreData.{CoreData}
+use Rattle.sc_core.specs.Journals.{Replays}
+use Rattle.sc_core.specs.declared.journals.JobHistory.{JobHistory}
+use Rattle.sc_jobs.specs.declared.goals.Goal.{Goal}
+use Rattle.sc_desk.specs.Begins.{Begins, BeginsAgain, FitsLast, IsPassedFor}
+use Rattle.sc_desk.specs.DeskData.{DeskData, PassedData}
+use Rattle.sc_desk.specs.Files.{FilesStand, faults_of}
+use Rattle.sc_desk.specs.Sound.{AreEvident}
+use Rattle.sc_desk.specs.declared.orders.Ordered.{Ordered}
+use Rattle.sc_exec.specs.Helms.{HelmData, helm_data}
+use Rattle.sc_exec.specs.Openings.{OpeningData, opening_data}
+use Rattle.sc_context.specs.Histories.{AreDrivers, BeginsBehind}
+use Rattle.sc_context.specs.Jobs.{HasNoResults, HasResults}
+use Rattle.sc_context.specs.Outputs.{CountsIn, WentIn}
+use Rattle.sc_context.specs.Records.{IsGivenUp, IsLogged}
+use Rattle.sc_context.specs.declared.running.Run.{Run}
+use Rattle.sc_context.specs.declared.running.Run.TheVariants as runs
+use Rattle.sc_context.specs.declared.stops.JobFault.{JobFault}
+
+-- a desk is that of a job that begins behind another one or none
+abbrev pub BeganBehind : WorkData → Option CoreData → DeskData → Type 0
+BeganBehind work last d =
+    (passed : PassedData) × (goal : Goal) × Begins work passed last goal d
+
+-- a desk is one of such a job later on, and these orders of the fault plan were handed out before
+pub record CameFrom (work : WorkData) (last : Option CoreData) (orders : List Ordered)
+    (d : DeskData) : Type 0 where
+  pub passed : PassedData
+  pub goal : Goal
+  pub first : DeskData
+  pub begins : Begins work passed last goal first
+  pub job : d.job ≡ first.job
+  pub carried : d.carried ≡ first.carried
+  pub orders_are : orders ≡ passed.ordered
+
+-- a desk with the files of its job comes from a beginning: it is the same job, and a save that was
+-- under way is under way
+pub record ComesFrom (work : WorkData) (o : OpeningData) (h : HelmData) : Type 0 where
+  pub core : h.desk.journal.opening ≡ o.core
+  pub job : h.desk.job ≡ o.job
+  pub carried : h.desk.carried ≡ o.carried
+  pub dir : h.dir ≡ o.dir
+  pub stand : FilesStand work h.desk h.dir h.files
+  pub later : IsLaterFiles o.files h.files
+  pub goes : GoesOnIn o.dir o.files h.files
+
+-- A job went so from its beginning to its end: this is its history, what goes on to the next one,
+-- its results or why there are none, and its files.
+pub record GoesFrom (work : WorkData) (o : OpeningData)
+    (h : JobHistory) (passed : PassedData)
+    (results : Result (Vec TaskResult Global) (OrMemory JobFault)) (files : FilesState)
+    : Type 0 where
+  pub opening : h.opening ≡ o.core
+  pub replays : Replays h.opening h.entries.items h.end
+  pub evidence : (is : Replays h.opening h.entries.items h.end)
+      → AreEvident work o.job h.opening h.entries.items h.end is
+  pub carried : passed.carried ≡ o.carried
+  pub passed_on : IsPassedFor work passed
+  pub fits : FitsLast work (Some h.end)
+  pub given : IfOk results (λ rs. HasResults work o.job.goal h.end rs.items)
+  pub none : IfErr results (HasNoResults work o.job.goal h.end)
+  pub left : WentIn o.dir work o.job.goal h.end o.files files results
+
+-- What the files have counted since a job began: just the faults that its entries tell of, and then
+-- what ended it. Where the driver ran it again alone, that is so since it began again.
+pub record CountsSince (h : JobHistory) (before after : FilesState)
+    (results : Result (Vec TaskResult Global) (OrMemory JobFault)) : Type 0 where
+  pub begun : FilesState
+  pub later : IsLaterFiles before begun
+  pub since : (counts_of begun ≡ counts_of before) ⊎ AreDrivers h.entries.items
+  pub counted : CountsIn (faults_of h.entries.items) begun after results
+
+-- A job that began with a desk, or once more with nothing registered, went so.
+pub record HasRun (work : WorkData) (passed : PassedData) (last : Option CoreData) (goal : Goal)
+    (dir : Option Path) (opened : FilesState) (h : JobHistory) (next : PassedData)
+    (results : Result (Vec TaskResult Global) (OrMemory JobFault)) (files : FilesState)
+    : Type 0 where
+  pub desk : DeskData
+  pub from : Option CoreData
+  pub begins : Begins work passed from goal desk
+  pub behind : BeginsBehind last h.entries.items from
+  pub goes : GoesFrom work
+      (opening_data desk.journal.opening desk.job desk.carried dir opened) h next results files
+  pub counted : CountsSince h opened files results
+
+-- What came of a job that was given up: it began again with nothing registered and went so, by the
+-- driver alone; or it didn't begin again, and its files are as they were.
+abbrev pub RunsAgain : {W F : Type 0} → WorkData → (F → FilesState) → DeskData → Option CoreData
+    → List Ordered → Option Path → FilesState → Run W F → Type 0
+RunsAgain work state d last ordered dir files (runs.Went went logs gave_up stores) =
+    ((after : DeskData) × BeginsAgain work d last ordered after
+    × ((o : OpeningData) → ComesFrom work o (helm_data after dir files)
+    → GoesFrom work o went.history went.passed went.results (state went.files)))
+    × AreDrivers went.history.entries.items
+    × CountsIn (faults_of went.history.entries.items) files (state went.files) went.results
+    × IsLogged went.history logs.items × IfSome gave_up IsGivenUp
+RunsAgain work state d last ordered dir files (runs.Refused gave_up after) =
+    IsGivenUp gave_up × (state after ≡ files)
+
+-- a job that was given up didn't begin again: a save that was under way is under way
+abbrev pub IsLeftOpen : Option Path → FilesState → FilesState → Type 0
+IsLeftOpen dir opened files = IsLaterFiles opened files × GoesOnIn dir opened files
+
+-- What came of a job that began with a desk behind what goes on and another job or none.
+abbrev pub RunsFrom : {W F : Type 0} → WorkData → (F → FilesState) → PassedData → Option CoreData
+    → Goal → Option Path → FilesState → Run W F → Type 0
+RunsFrom work state passed last goal dir opened (runs.Went went logs gave_up stores) =
+    HasRun work passed last goal dir opened went.history went.passed went.results
+    (state went.files) × IsLogged went.history logs.items × IfSome gave_up IsGivenUp
+RunsFrom work state passed last goal dir opened (runs.Refused gave_up files) =
+    IsGivenUp gave_up × IsLeftOpen dir opened (state files)

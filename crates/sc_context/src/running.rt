@@ -1,0 +1,171 @@
+//! A job that runs on executor threads, and again on the driver's alone where they give it up.
+#![tactic(auto)]
+
+ghost use Rattle.std.specs.Prelude.{◌≡◌, length};
+ghost use Rattle.std.specs.Option.{option_map};
+ghost use Rattle.sc_context.specs.Crews.{IsCrew};
+ghost use Rattle.sc_context.specs.Goings.{BeganBehind, CameFrom, RunsAgain, RunsFrom};
+ghost use Rattle.sc_context.specs.Records.{WasGivenUp};
+ghost use Rattle.sc_core.specs.Openings.{tracker_behind};
+ghost use Rattle.sc_core.specs.Sound.{HasLive};
+ghost use Rattle.sc_desk.specs.Begins.{Begins, FitsLast};
+ghost use Rattle.sc_desk.specs.DeskData.{PassedData};
+ghost use Rattle.sc_desk.specs.Files.{FilesStand};
+ghost use Rattle.sc_jobs.specs.declared.goals.Goal.{Goal};
+ghost use Rattle.sc_staging.specs.Outputs.{output_dir, output_files};
+
+use crate::alone::run_alone;
+use crate::crews::Crew;
+use crate::records::GaveUp;
+use crate::went::{Went, finish};
+use sc_clock::Clock;
+use sc_core::Core;
+use sc_desk::{Again, Desk, Orders};
+use sc_exec::{Gate, Left, Verdict, into_logs, judge, work_job};
+use sc_files::Files;
+use sc_logs::ExecLog;
+use sc_staging::Output;
+use sc_store::Store;
+use sc_work::Naming;
+use std::alloc::Global;
+use std::sync::{Mutex, Wait};
+use std::thread::Threads;
+use std::time;
+
+/// A job that begins: its desk, and which orders of the fault plan were handed out before.
+#[derive(Drop)]
+pub(crate) struct Begun<W: Naming> {
+    pub(crate) desk: Desk<W>,
+    pub(crate) ordered: Orders,
+}
+
+/// What came of a job that began.
+#[derive(Drop)]
+pub(crate) enum Run<W: Naming, F: Files> {
+    /// It went so.
+    Went {
+        /// What is left of it.
+        went: Went<F>,
+        /// What its executors wrote down.
+        logs: Vec<ExecLog>,
+        /// How it went before, where its executors gave it up.
+        gave_up: Option<GaveUp>,
+        /// The stores of its executors.
+        stores: Vec<Mutex<Store<W>>>,
+    },
+    /// Its executors gave it up, and memory ran out before it began again.
+    Refused {
+        /// How it went.
+        gave_up: GaveUp,
+        /// The files.
+        files: F,
+    },
+}
+
+/// Runs a job on executor threads until all of them have left it. Where they give it up, which what
+/// they wrote down shows, the driver runs it again alone, with nothing registered and over new
+/// stores.
+pub(crate) fn run_begun<
+    W: Naming + Send + Sync,
+    F: Files + Send,
+    G: Gate + Sync,
+    C: Clock + Send,
+    R: Threads + Wait + time::Clock + Sync,
+>(
+    rt: &R,
+    alloc: Global,
+    gate: &G,
+    clock: &Mutex<C>,
+    last: Option<&Core>,
+    begun: Begun<W>,
+    output: Output<F>,
+    stores: Vec<Mutex<Store<W>>>,
+    crew: Crew,
+) -> Run<W, F>
+    requires stand { FilesStand W.work begun.desk (output_dir output)
+        (output_files F.state output) }
+    requires ordered { begun.ordered ≡ begun.desk.ordered }
+    requires begun { BeganBehind W.work (option_map (λ l. l.now) last) begun.desk }
+    requires fits { FitsLast W.work (option_map (λ l. l.now) last) }
+    requires live { HasLive (tracker_behind (option_map (λ l. l.now) last) W.work.limits) }
+    requires crew { IsCrew W.work.limits.executors crew }
+    ensures runs { (passed : PassedData) (goal : Goal)
+        → Begins W.work passed (option_map (λ l. l.now) last.entry) goal begun.desk
+        → RunsFrom W.work F.state passed (option_map (λ l. l.now) last.entry) goal
+        (output_dir output) (output_files F.state output) result }
+{
+    begun.desk.is_sound();
+    let Begun { desk, ordered } = begun;
+    let Crew {
+        mut workers,
+        logs,
+        lefts,
+    } = crew;
+    let (desk, output) = work_job(
+        rt,
+        alloc,
+        desk,
+        output,
+        stores.as_slice(),
+        gate,
+        clock,
+        &mut workers,
+    );
+    let how = judge(&desk, workers.as_slice());
+    let (logs, lefts) = into_logs(workers, logs, lefts);
+    match how {
+        Verdict::Ended | Verdict::NoMemory => Run::Went {
+            went: finish(alloc, desk, output),
+            logs,
+            gave_up: None,
+            stores,
+        },
+        Verdict::GivenUp => run_again(alloc, last, Begun { desk, ordered }, output, logs, lefts),
+    }
+}
+
+/// Runs a job again that its executors gave up.
+fn run_again<W: Naming, F: Files>(
+    alloc: Global,
+    last: Option<&Core>,
+    given: Begun<W>,
+    output: Output<F>,
+    logs: Vec<ExecLog>,
+    lefts: Vec<Left>,
+) -> Run<W, F>
+    requires stand { FilesStand W.work given.desk (output_dir output)
+        (output_files F.state output) }
+    requires from { CameFrom W.work (option_map (λ l. l.now) last) given.ordered given.desk }
+    requires many { length given.ordered ≡ W.work.limits.executors }
+    requires fits { FitsLast W.work (option_map (λ l. l.now) last) }
+    requires live { HasLive (tracker_behind (option_map (λ l. l.now) last) W.work.limits) }
+    requires cause { WasGivenUp given.desk.journal.entries logs.items lefts.items }
+    ensures again { RunsAgain W.work F.state given.desk (option_map (λ l. l.now) last.entry)
+        given.ordered (output_dir output) (output_files F.state output) result }
+{
+    let Begun { desk, ordered } = given;
+    let Again { history, begun } = desk.again(alloc, last, ordered);
+    let gave_up = GaveUp {
+        history,
+        logs,
+        lefts,
+    };
+    match begun {
+        Ok(desk) => match run_alone(alloc, desk, output) {
+            Ok(alone) => Run::Went {
+                went: alone.went,
+                logs: Vec::new(alloc),
+                gave_up: Some(gave_up),
+                stores: alone.stores,
+            },
+            Err(output) => Run::Refused {
+                gave_up,
+                files: output.close(),
+            },
+        },
+        Err(_) => Run::Refused {
+            gave_up,
+            files: output.close(),
+        },
+    }
+}
