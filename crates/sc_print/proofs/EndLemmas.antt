@@ -26,10 +26,10 @@ use Rattle.sc_print.proofs.OverLemmas.{done_all, done_further, gone_further, non
 use Rattle.sc_print.proofs.PrintLemmas.{printed-all, printed-none, with_more-append}
 
 -- want of memory leaves the files as they are
-still-over : (work : WorkData) (before after : FilesState) (histories : List JobHistory) (k : ℕ)
-    → HasDoneOver work before after histories k
-    → EndsOver work before after histories k OutOfMemory
-still-over work before after histories k done =
+still-over : (work : WorkData) (before after : FilesState) (histories : List JobHistory)
+    (given_up k : ℕ) → HasDoneOver work before after histories k
+    → EndsOver work before after histories given_up k OutOfMemory
+still-over work before after histories given_up k done =
     record {
       front = histories;
       mid = after;
@@ -37,16 +37,18 @@ still-over work before after histories k done =
       more = [];
       all = sym (append-nil histories);
       over = unchanged_stops (dir_of_job work (goals.Action k)) after after OutOfMemory refl tt;
-      counted = still_counts after after refl;
+      counted = still_counts given_up after after refl;
     }
 
 -- nothing is printed, and no job has run
 pub nothing_done : (work : WorkData) (state : SinkState) (before after : FilesState)
-    → after ≡ before → (histories : List JobHistory) → histories ≡ []
-    → Prints work state state before after (Err OutOfMemory) histories
-nothing_done work state before after still histories none =
-    subst (λ f. Prints work state state before f (Err OutOfMemory) histories) (sym still) (
-    subst (λ hs. Prints work state state before before (Err OutOfMemory) hs) (sym none) (
+    → after ≡ before → (histories : List JobHistory) → histories ≡ [] → (given_up : ℕ)
+    → Prints work state state before after (Err OutOfMemory) histories given_up
+nothing_done work state before after still histories none given_up =
+    subst (λ f. Prints work state state before f (Err OutOfMemory) histories given_up)
+    (sym still) (
+    subst (λ hs. Prints work state state before before (Err OutOfMemory) hs given_up)
+    (sym none) (
     record {
       k = 0;
       printed = printed-none work state;
@@ -54,7 +56,7 @@ nothing_done work state before after still histories none =
       printed_all = omega arith;
       but_one = omega arith;
       jobs = inl (first_progress work, refl, inl refl);
-      over = still-over work before before [] 0 (none_over work before);
+      over = still-over work before before [] given_up 0 (none_over work before);
     }
     )
     )
@@ -66,10 +68,10 @@ module _ (laws : SavesAreLawful) (work : WorkData) (start now : SinkState) (befo
     -- all is printed, and all jobs are done
     pub all_done : length work.script.actions ≤ c.progress.actions
         → c.progress.actions ≤ length work.script.actions
-        → (histories : List JobHistory) (files : FilesState)
+        → (histories : List JobHistory) (given_up : ℕ) (files : FilesState)
         → histories ≡ c.histories → files ≡ c.files → (done : Unit {0})
-        → Prints work start now before files (Ok done) histories
-    all_done past within histories files same still done =
+        → Prints work start now before files (Ok done) histories given_up
+    all_done past within histories given_up files same still done =
         let all : c.progress.actions ≡ length work.script.actions = omega (arith, past, within) in (
           printed-all work start now c.progress.actions past so_far,
           done_all work before c gone laws (length work.script.actions) all histories files same
@@ -78,30 +80,35 @@ module _ (laws : SavesAreLawful) (work : WorkData) (start now : SinkState) (befo
 
     -- what ends the running at the next action ends the whole
     pub printing-stops : (after : SinkState) (files : FilesState) (why : OrMemory PrintFault)
-        (histories : List JobHistory) → StopsNext work now after c files why histories
-        → Prints work start after before files (Err why) histories
-    printing-stops after files (Fault (Aborted n abort)) histories x =
+        (histories : List JobHistory) (given_up : ℕ)
+        → StopsNext work now after c files why histories given_up
+        → Prints work start after before files (Err why) histories given_up
+    printing-stops after files (Fault (Aborted n abort)) histories given_up x =
         subst (λ k. HasPrinted work start after k × IsAborted work k histories abort
-        × EndsOver work before files histories k (Fault (faults.Aborted abort))) (sym x.0) (
+        × EndsOver work before files histories given_up k (Fault (faults.Aborted abort)))
+        (sym x.0) (
           subst (λ s. HasPrinted work start s c.progress.actions) (sym x.1) so_far,
           x.2.shows,
-          stopped_over work before c gone laws (Fault (faults.Aborted abort)) histories files x.2,
+          stopped_over work before c gone laws (Fault (faults.Aborted abort)) histories given_up
+              files x.2,
         )
-    printing-stops after files (Fault (Exists n path)) histories x =
+    printing-stops after files (Fault (Exists n path)) histories given_up x =
         subst (λ k. HasPrinted work start after k × HasDone work histories k
-        × EndsOver work before files histories k (Fault (faults.Exists path))) (sym x.0) (
+        × EndsOver work before files histories given_up k (Fault (faults.Exists path))) (sym x.0) (
           subst (λ s. HasPrinted work start s c.progress.actions) (sym x.1) so_far,
           x.2.shows,
-          stopped_over work before c gone laws (Fault (faults.Exists path)) histories files x.2,
+          stopped_over work before c gone laws (Fault (faults.Exists path)) histories given_up
+              files x.2,
         )
-    printing-stops after files (Fault (Device n path)) histories x =
+    printing-stops after files (Fault (Device n path)) histories given_up x =
         subst (λ k. HasPrinted work start after k × IsHalted work k histories
-        × EndsOver work before files histories k (Fault (faults.Device path))) (sym x.0) (
+        × EndsOver work before files histories given_up k (Fault (faults.Device path))) (sym x.0) (
           subst (λ s. HasPrinted work start s c.progress.actions) (sym x.1) so_far,
           x.2.shows,
-          stopped_over work before c gone laws (Fault (faults.Device path)) histories files x.2,
+          stopped_over work before c gone laws (Fault (faults.Device path)) histories given_up
+              files x.2,
         )
-    printing-stops after files (Fault (Driver n fault)) histories x =
+    printing-stops after files (Fault (Driver n fault)) histories given_up x =
         subst (λ k. StopsAtDriver work start after k fault
         × HasDoneOver work before files histories (k + 1)) (sym x.0) (
           record {
@@ -112,7 +119,7 @@ module _ (laws : SavesAreLawful) (work : WorkData) (start now : SinkState) (befo
           },
           done_further work before c gone laws histories files x.2,
         )
-    printing-stops after files (Fault Write) histories x = (
+    printing-stops after files (Fault Write) histories given_up x = (
       record {
         k = c.progress.actions;
         action = x.1.1;
@@ -130,7 +137,7 @@ module _ (laws : SavesAreLawful) (work : WorkData) (start now : SinkState) (befo
       },
       done_further work before c gone laws histories files x.0,
     )
-    printing-stops after files OutOfMemory histories (same, inl stops) =
+    printing-stops after files OutOfMemory histories given_up (same, inl stops) =
         record {
           k = c.progress.actions;
           printed = subst (λ s. HasPrinted work start s c.progress.actions) (sym same) so_far;
@@ -138,9 +145,9 @@ module _ (laws : SavesAreLawful) (work : WorkData) (start now : SinkState) (befo
           printed_all = omega arith;
           but_one = omega arith;
           jobs = stops.shows;
-          over = stopped_over work before c gone laws OutOfMemory histories files stops;
+          over = stopped_over work before c gone laws OutOfMemory histories given_up files stops;
         }
-    printing-stops after files OutOfMemory histories (same, inr goes) =
+    printing-stops after files OutOfMemory histories given_up (same, inr goes) =
         record {
           k = c.progress.actions;
           printed = subst (λ s. HasPrinted work start s c.progress.actions) (sym same) so_far;
@@ -152,6 +159,6 @@ module _ (laws : SavesAreLawful) (work : WorkData) (start now : SinkState) (befo
             goes.one_more,
             inl (gone_further work before c gone histories files goes).come,
           );
-          over = still-over work before files histories (c.progress.actions + 1)
+          over = still-over work before files histories given_up (c.progress.actions + 1)
               (done_further work before c gone laws histories files goes);
         }

@@ -22,15 +22,17 @@ use Rattle.sc_print.proofs.PrintLemmas.{slice_get-at, with_more-none}
 -- where a context ran no further the running ends, and the sink stays as it is
 pub context-stops : (work : WorkData) (state : SinkState) (c : ContextData) (number : ℕ)
     → number ≡ c.progress.actions → (why : OrMemory JobFault) (histories : List JobHistory)
-    (files : FilesState) → Stops work c why histories files
-    → StopsNext work state state c files (fault_of number why) histories
-context-stops work state c number same (Fault (faults.Aborted abort)) histories files stops =
+    (given_up : ℕ) (files : FilesState) → Stops work c why histories given_up files
+    → StopsNext work state state c files (fault_of number why) histories given_up
+context-stops work state c number same (Fault (faults.Aborted abort)) histories given_up files
+    stops =
     (same, refl, stops)
-context-stops work state c number same (Fault (faults.Exists path)) histories files stops =
+context-stops work state c number same (Fault (faults.Exists path)) histories given_up files stops =
     (same, refl, stops)
-context-stops work state c number same (Fault (faults.Device path)) histories files stops =
+context-stops work state c number same (Fault (faults.Device path)) histories given_up files stops =
     (same, refl, stops)
-context-stops work state c number same OutOfMemory histories files stops = (refl, inl stops)
+context-stops work state c number same OutOfMemory histories given_up files stops =
+    (refl, inl stops)
 
 module _ (work : WorkData) (before after : SinkState) (c next : ContextData)
     (within : c.progress.actions < length work.script.actions)
@@ -92,18 +94,18 @@ module _ (work : WorkData) (before after : SinkState) (c next : ContextData)
 
     -- and the running ends at it
     pub next-stops : (value : Evaluated) → GivesNext work c value next
-        → (histories : List JobHistory) (files : FilesState) → histories ≡ next.histories
-        → files ≡ next.files → (why : OrMemory PrintFault)
+        → (histories : List JobHistory) (given_up : ℕ) (files : FilesState)
+        → histories ≡ next.histories → files ≡ next.files → (why : OrMemory PrintFault)
         → WritesValue number value before after (Err why)
-        → StopsNext work before after c files why histories
-    next-stops value gives histories files as_there still why writes =
-        subst (λ hs. StopsNext work before after c files why hs) (sym as_there)
-        (subst (λ f. StopsNext work before after c f why next.histories) (sym still)
+        → StopsNext work before after c files why histories given_up
+    next-stops value gives histories given_up files as_there still why writes =
+        subst (λ hs. StopsNext work before after c files why hs given_up) (sym as_there)
+        (subst (λ f. StopsNext work before after c f why next.histories given_up) (sym still)
         (by value gives why writes))
       where
         by : (value : Evaluated) → GivesNext work c value next → (why : OrMemory PrintFault)
             → WritesValue number value before after (Err why)
-            → StopsNext work before after c next.files why next.histories
+            → StopsNext work before after c next.files why next.histories given_up
         by (evaluated.Prints text) gives (Fault (Aborted k abort)) writes = absurd writes
         by (evaluated.Prints text) gives (Fault (Exists k path)) writes = absurd writes
         by (evaluated.Prints text) gives (Fault (Device k path)) writes = absurd writes
@@ -123,7 +125,8 @@ module _ (work : WorkData) (before after : SinkState) (c next : ContextData)
         by evaluated.Saves gives why writes = absurd (search (rules, writes.0))
         by (evaluated.Faults fault) gives why writes =
             let e : why ≡ Fault (Driver number fault) = search (rules, writes.0) in
-            subst (λ w. StopsNext work before after c next.files w next.histories) (sym e) (
+            subst (λ w. StopsNext work before after c next.files w next.histories given_up)
+            (sym e) (
               same,
               writes.1,
               further (evaluated.Faults fault) gives,

@@ -106,9 +106,10 @@ module _ (work : WorkData) (before : FilesState) (c : ContextData)
 
     -- the next action came to no end
     pub stopped_over : (laws : SavesAreLawful) (why : OrMemory JobFault)
-        (histories : List JobHistory) (files : FilesState) → Stops work c why histories files
-        → EndsOver work before files histories c.progress.actions why
-    stopped_over laws why histories files stops =
+        (histories : List JobHistory) (given_up : ℕ) (files : FilesState)
+        → Stops work c why histories given_up files
+        → EndsOver work before files histories given_up c.progress.actions why
+    stopped_over laws why histories given_up files stops =
         record {
           front = c.histories;
           mid = c.files;
@@ -130,25 +131,26 @@ stops-later (Some dir) before after why (inl stops) =
     subst (λ s. IsLaterFiles before s) (sym stops.0) (later-same before)
 stops-later (Some dir) before after why (inr stops) = stops.0
 
-ends-later : (work : WorkData) (before after : FilesState) (histories : List JobHistory) (k : ℕ)
-    (why : OrMemory JobFault) → EndsOver work before after histories k why
-    → IsLaterFiles before after
-ends-later work before after histories k why ends =
+ends-later : (work : WorkData) (before after : FilesState) (histories : List JobHistory)
+    (given_up k : ℕ) (why : OrMemory JobFault)
+    → EndsOver work before after histories given_up k why → IsLaterFiles before after
+ends-later work before after histories given_up k why ends =
     later-then before ends.mid after ends.done.later
     (stops-later (dir_of_job work (goals.Action k)) ends.mid after why ends.over)
 
 -- however the running ends, it leaves later files
 pub prints-later : (work : WorkData) (start now : SinkState) (before after : FilesState)
-    (end : Result (Unit {0}) (OrMemory PrintFault)) (histories : List JobHistory)
-    → Prints work start now before after end histories → IsLaterFiles before after
-prints-later work start now before after (Ok done) histories x = x.1.later
-prints-later work start now before after (Err (Fault (Aborted k abort))) histories x =
-    ends-later work before after histories k _ x.2
-prints-later work start now before after (Err (Fault (Exists k path))) histories x =
-    ends-later work before after histories k _ x.2
-prints-later work start now before after (Err (Fault (Device k path))) histories x =
-    ends-later work before after histories k _ x.2
-prints-later work start now before after (Err (Fault (Driver k fault))) histories x = x.1.later
-prints-later work start now before after (Err (Fault Write)) histories x = x.1.later
-prints-later work start now before after (Err OutOfMemory) histories x =
-    ends-later work before after histories x.actions OutOfMemory x.over
+    (end : Result (Unit {0}) (OrMemory PrintFault)) (histories : List JobHistory) (given_up : ℕ)
+    → Prints work start now before after end histories given_up → IsLaterFiles before after
+prints-later work start now before after (Ok done) histories given_up x = x.1.later
+prints-later work start now before after (Err (Fault (Aborted k abort))) histories given_up x =
+    ends-later work before after histories given_up k _ x.2
+prints-later work start now before after (Err (Fault (Exists k path))) histories given_up x =
+    ends-later work before after histories given_up k _ x.2
+prints-later work start now before after (Err (Fault (Device k path))) histories given_up x =
+    ends-later work before after histories given_up k _ x.2
+prints-later work start now before after (Err (Fault (Driver k fault))) histories given_up x =
+    x.1.later
+prints-later work start now before after (Err (Fault Write)) histories given_up x = x.1.later
+prints-later work start now before after (Err OutOfMemory) histories given_up x =
+    ends-later work before after histories given_up x.actions OutOfMemory x.over

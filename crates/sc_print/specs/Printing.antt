@@ -16,7 +16,7 @@ use Rattle.sc_compute.specs.declared.evaluation.Evaluated.TheVariants as evaluat
 use Rattle.sc_core.specs.declared.journals.JobHistory.{JobHistory}
 use Rattle.sc_context.specs.Aborts.{IsAborted, IsHalted}
 use Rattle.sc_context.specs.Contexts.{ContextData, Stops}
-use Rattle.sc_context.specs.Files.{HasCounted, HaveLeft, StopsFiles, faults_told}
+use Rattle.sc_context.specs.Files.{HasCounted, HaveLeft, StopsFiles}
 use Rattle.sc_context.specs.Histories.{HasCome, HasDone}
 use Rattle.sc_context.specs.Progress.{Progress, first_progress}
 use Rattle.sc_context.specs.declared.stops.JobFault.{JobFault}
@@ -72,56 +72,56 @@ pub record HasDoneOver (work : WorkData) (before after : FilesState)
       → after.shown ≡ Some (saved_by work k opening)
 
 -- The first k actions are done, and the next one came to no end: how the files stand then, and what
--- they have counted since these actions were done.
+-- they have counted since these actions were done, where so many jobs were given up.
 pub record EndsOver (work : WorkData) (before after : FilesState) (histories : List JobHistory)
-    (k : ℕ) (why : OrMemory JobFault) : Type 0 where
+    (given_up k : ℕ) (why : OrMemory JobFault) : Type 0 where
   pub front : List JobHistory
   pub mid : FilesState
   pub done : HasDoneOver work before mid front k
   pub more : List JobHistory
   pub all : histories ≡ front ++ more
   pub over : StopsFiles work k mid after why
-  pub counted : HasCounted (faults_told more) why mid after
+  pub counted : HasCounted more why given_up mid after
 
 -- ---- how it ends
 
 -- memory ran out: some actions are printed, and the jobs of these are done and perhaps those of one
 -- more, which wasn't printed
 pub record CutsShort (work : WorkData) (before after : SinkState) (files then : FilesState)
-    (histories : List JobHistory) : Type 0 where
+    (histories : List JobHistory) (given_up : ℕ) : Type 0 where
   pub k : ℕ
   pub printed : HasPrinted work before after k
   pub actions : ℕ
   pub printed_all : k ≤ actions
   pub but_one : actions ≤ k + 1
   pub jobs : IsHalted work actions histories
-  pub over : EndsOver work files then histories actions OutOfMemory
+  pub over : EndsOver work files then histories given_up actions OutOfMemory
 
 -- What the running of a work's actions answers, by what the sink has then taken, by how the jobs
--- went, and by what these left of the files: all actions have their texts; a job for the next one
--- was aborted; its directory was there, or a call on its files failed; its results have no value
--- together; the sink failed; or memory ran out.
+-- went, how many were given up, and what these left of the files: all actions have their texts; a
+-- job for the next one was aborted; its directory was there, or a call on its files failed; its
+-- results have no value together; the sink failed; or memory ran out.
 abbrev pub Prints : WorkData → SinkState → SinkState → FilesState → FilesState
-    → Result (Unit {0}) (OrMemory PrintFault) → List JobHistory → Type 0
-Prints work before after files then (Ok done) histories =
+    → Result (Unit {0}) (OrMemory PrintFault) → List JobHistory → ℕ → Type 0
+Prints work before after files then (Ok done) histories given_up =
     PrintsAll work before after
     × HasDoneOver work files then histories (length work.script.actions)
-Prints work before after files then (Err (Fault (Aborted k abort))) histories =
+Prints work before after files then (Err (Fault (Aborted k abort))) histories given_up =
     HasPrinted work before after k × IsAborted work k histories abort
-    × EndsOver work files then histories k (Fault (faults.Aborted abort))
-Prints work before after files then (Err (Fault (Exists k path))) histories =
+    × EndsOver work files then histories given_up k (Fault (faults.Aborted abort))
+Prints work before after files then (Err (Fault (Exists k path))) histories given_up =
     HasPrinted work before after k × HasDone work histories k
-    × EndsOver work files then histories k (Fault (faults.Exists path))
-Prints work before after files then (Err (Fault (Device k path))) histories =
+    × EndsOver work files then histories given_up k (Fault (faults.Exists path))
+Prints work before after files then (Err (Fault (Device k path))) histories given_up =
     HasPrinted work before after k × IsHalted work k histories
-    × EndsOver work files then histories k (Fault (faults.Device path))
-Prints work before after files then (Err (Fault (Driver k fault))) histories =
+    × EndsOver work files then histories given_up k (Fault (faults.Device path))
+Prints work before after files then (Err (Fault (Driver k fault))) histories given_up =
     StopsAtDriver work before after k fault × HasDoneOver work files then histories (k + 1)
-Prints work before after files then (Err (Fault Write)) histories =
+Prints work before after files then (Err (Fault Write)) histories given_up =
     (stops : StopsAtWrite work before after)
     × HasDoneOver work files then histories (stops.k + 1)
-Prints work before after files then (Err OutOfMemory) histories =
-    CutsShort work before after files then histories
+Prints work before after files then (Err OutOfMemory) histories given_up =
+    CutsShort work before after files then histories given_up
 
 -- the text of an action, where it isn't empty, was taken by one write
 pub record PrintsText (text : List ℕ) (before after : SinkState) : Type 0 where
@@ -194,28 +194,28 @@ fault_of k (Fault (faults.Exists path)) = Fault (Exists k path)
 fault_of k (Fault (faults.Device path)) = Fault (Device k path)
 fault_of k OutOfMemory = OutOfMemory
 
--- What ends the running at the next action, by how the jobs went and by what they left of the
--- files.
+-- What ends the running at the next action, by how the jobs went, how many were given up, and what
+-- they left of the files.
 abbrev pub StopsNext : WorkData → SinkState → SinkState → ContextData → FilesState
-    → OrMemory PrintFault → List JobHistory → Type 0
-StopsNext work before after c files (Fault (Aborted n abort)) histories =
+    → OrMemory PrintFault → List JobHistory → ℕ → Type 0
+StopsNext work before after c files (Fault (Aborted n abort)) histories given_up =
     (n ≡ c.progress.actions) × (after ≡ before)
-    × Stops work c (Fault (faults.Aborted abort)) histories files
-StopsNext work before after c files (Fault (Exists n path)) histories =
+    × Stops work c (Fault (faults.Aborted abort)) histories given_up files
+StopsNext work before after c files (Fault (Exists n path)) histories given_up =
     (n ≡ c.progress.actions) × (after ≡ before)
-    × Stops work c (Fault (faults.Exists path)) histories files
-StopsNext work before after c files (Fault (Device n path)) histories =
+    × Stops work c (Fault (faults.Exists path)) histories given_up files
+StopsNext work before after c files (Fault (Device n path)) histories given_up =
     (n ≡ c.progress.actions) × (after ≡ before)
-    × Stops work c (Fault (faults.Device path)) histories files
-StopsNext work before after c files (Fault (Driver n fault)) histories =
+    × Stops work c (Fault (faults.Device path)) histories given_up files
+StopsNext work before after c files (Fault (Driver n fault)) histories given_up =
     (n ≡ c.progress.actions) × (after ≡ before) × GoesOneFurther work c histories files
     × ((action : ActionData) × (slice_get work.script.actions c.progress.actions ≡ Some action)
     × (action_outcome work action ≡ faulty fault))
-StopsNext work before after c files (Fault Write) histories =
+StopsNext work before after c files (Fault Write) histories given_up =
     GoesOneFurther work c histories files
     × ((text : List ℕ) × (action : ActionData)
     × (slice_get work.script.actions c.progress.actions ≡ Some action)
     × (action_outcome work action ≡ prints text) × FailsInText text before after)
-StopsNext work before after c files OutOfMemory histories =
+StopsNext work before after c files OutOfMemory histories given_up =
     (after ≡ before)
-    × (Stops work c OutOfMemory histories files ⊎ GoesOneFurther work c histories files)
+    × (Stops work c OutOfMemory histories given_up files ⊎ GoesOneFurther work c histories files)

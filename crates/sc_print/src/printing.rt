@@ -4,18 +4,23 @@
 ghost use Rattle.std.specs.Prelude.{◌≡◌, ◌<◌, ◌≤◌, IfErr, IfOk, length};
 ghost use Rattle.sc_base.specs.Outside.{IsLaterFiles};
 ghost use Rattle.sc_context.specs.Contexts.{new_context};
+ghost use Rattle.sc_context.specs.Records.{AreKept};
 ghost use Rattle.sc_print.specs.Printing.{Prints, PrintsNext, StopsNext, fault_of};
 
 use crate::faults::PrintFault;
 use crate::writing::write_value;
 use sc_base::OrMemory;
-use sc_context::{Context, Given, JobFault, Stopped};
-use sc_core::JobHistory;
+use sc_clock::Clock;
+use sc_context::{Context, Given, JobFault, Records, Stopped};
+use sc_exec::Gate;
 use sc_files::Files;
 use sc_lineage::{Work, meaning_is_lawful};
 use sc_sink::Sink;
 use sc_work::{Naming, SharedWork};
 use std::alloc::{AllocFailed, Global};
+use std::sync::{Mutex, Wait};
+use std::thread::Threads;
+use std::time;
 
 /// How the running of a work's actions went.
 #[derive(Drop)]
@@ -23,34 +28,46 @@ pub struct Printed<F: Files> {
     /// Whether all were printed, or what ended it.
     pub end: Result<(), OrMemory<PrintFault>>,
     /// How the jobs went, in order.
-    pub histories: Vec<JobHistory>,
+    pub records: Records,
     /// The files that saves wrote to.
     pub files: F,
 }
 
 /// Runs a work's actions in order, and writes their texts to the sink, each by one write where it
-/// isn't empty.
+/// isn't empty. The executors of a job are threads, which pass the gate with each task.
 ///
 /// It ends with the first action of which a job is aborted, whose directory is there already, for
 /// which a call on the files failed, or whose results have no value; with a failure of the sink; or
 /// with want of memory. The texts and the saved directories of the actions before it stand.
-pub fn print_work<W: Naming, K: Sink, F: Files>(
+pub fn print_work<
+    W: Naming + Send + Sync,
+    K: Sink,
+    F: Files + Send,
+    G: Gate + Sync,
+    C: Clock + Send,
+    R: Threads + Wait + time::Clock + Sync,
+>(
+    rt: &R,
     alloc: Global,
     work: Work,
     files: F,
     sink: &mut K,
+    gate: &G,
+    clock: &Mutex<C>,
 ) -> Printed<F>
     requires named { work ≡ W.work }
     ensures later { (K.state sink.old).faults ≤ (K.state sink.new).faults }
     ensures files_later { IsLaterFiles (F.state files) (F.state result.files) }
+    ensures kept { AreKept result.records }
     ensures prints { Prints W.work (K.state sink.old) (K.state sink.new) (F.state files)
-        (F.state result.files) result.end result.histories.items }
+        (F.state result.files) result.end result.records.histories.items
+        (length result.records.gave_up.items) }
 {
     match new_context::<W, F>(alloc, work, files) {
-        Ok(context) => print_actions(alloc, context, sink),
+        Ok(context) => print_actions(rt, alloc, context, sink, gate, clock),
         Err(failed) => Printed {
             end: Err(OrMemory::OutOfMemory),
-            histories: Vec::new(alloc),
+            records: Records::new(alloc),
             files: failed.value,
         },
     }
@@ -73,37 +90,49 @@ fn new_context<W: Naming, F: Files>(
 }
 
 /// Prints the actions of a work from the first on.
-fn print_actions<W: Naming, K: Sink, F: Files>(
+fn print_actions<
+    W: Naming + Send + Sync,
+    K: Sink,
+    F: Files + Send,
+    G: Gate + Sync,
+    C: Clock + Send,
+    R: Threads + Wait + time::Clock + Sync,
+>(
+    rt: &R,
     alloc: Global,
     first: Context<W, F>,
     sink: &mut K,
+    gate: &G,
+    clock: &Mutex<C>,
 ) -> Printed<F>
     requires { first ≡ new_context W.work first.files }
     ensures later { (K.state sink.old).faults ≤ (K.state sink.new).faults }
     ensures files_later { IsLaterFiles first.files (F.state result.files) }
+    ensures kept { AreKept result.records }
     ensures prints { Prints W.work (K.state sink.old) (K.state sink.new) first.files
-        (F.state result.files) result.end result.histories.items }
+        (F.state result.files) result.end result.records.histories.items
+        (length result.records.gave_up.items) }
 {
     meaning_is_lawful();
     let actions = first.work().get().script().actions().len();
     let mut context = first;
     while (context.actions() as usize) < actions {
-        match print_action(alloc, context, sink) {
+        match print_action(rt, alloc, context, sink, gate, clock) {
             Ok(next) => context = next,
             Err(stop) => {
                 return Printed {
                     end: Err(stop.why),
-                    histories: stop.histories,
+                    records: stop.records,
                     files: stop.files,
                 };
             }
         }
     }
     context.is_sound();
-    let (histories, files) = context.into_parts();
+    let (records, files) = context.into_parts();
     Printed {
         end: Ok(()),
-        histories,
+        records,
         files,
     }
 }
@@ -112,32 +141,44 @@ fn print_actions<W: Naming, K: Sink, F: Files>(
 #[derive(Drop)]
 struct Stop<F: Files> {
     why: OrMemory<PrintFault>,
-    histories: Vec<JobHistory>,
+    records: Records,
     files: F,
 }
 
 /// Runs the next action, and writes its text.
-fn print_action<W: Naming, K: Sink, F: Files>(
+fn print_action<
+    W: Naming + Send + Sync,
+    K: Sink,
+    F: Files + Send,
+    G: Gate + Sync,
+    C: Clock + Send,
+    R: Threads + Wait + time::Clock + Sync,
+>(
+    rt: &R,
     alloc: Global,
     context: Context<W, F>,
     sink: &mut K,
+    gate: &G,
+    clock: &Mutex<C>,
 ) -> Result<Context<W, F>, Stop<F>>
     requires within { context.progress.actions < length W.work.script.actions }
     ensures later { (K.state sink.old).faults ≤ (K.state sink.new).faults }
     ensures prints { IfOk result
         (PrintsNext W.work (K.state sink.old) (K.state sink.new) context) }
     ensures stops { IfErr result (λ s. StopsNext W.work (K.state sink.old) (K.state sink.new)
-        context (F.state s.files) s.why s.histories.items) }
+        context (F.state s.files) s.why s.records.histories.items
+        (length s.records.gave_up.items)) }
+    ensures kept { IfErr result (λ s. AreKept s.records) }
 {
     let action = context.actions();
-    match context.run_action(alloc) {
+    match context.run_action(rt, alloc, gate, clock) {
         Ok(Given { context, value }) => match write_value(action, &value, sink) {
             Ok(()) => Ok(context),
             Err(why) => {
-                let (histories, files) = context.into_parts();
+                let (records, files) = context.into_parts();
                 Err(Stop {
                     why,
-                    histories,
+                    records,
                     files,
                 })
             }
@@ -145,12 +186,12 @@ fn print_action<W: Naming, K: Sink, F: Files>(
         Err(
             Stopped {
                 why,
-                histories,
+                records,
                 files,
             },
         ) => Err(Stop {
             why: fault_of(action, why),
-            histories,
+            records,
             files,
         }),
     }

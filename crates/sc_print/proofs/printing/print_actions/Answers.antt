@@ -32,18 +32,20 @@ returns-in-Err-clause-prints g c =
     (g.K.Sink.state c.args.sink.now) (g.K.Sink.state c.loop-alloc.sink) c.args.first.files
     c.loop-alloc.context c.loop-alloc.invariant.printed c.loop-alloc.invariant.gone
     (g.K.Sink.state c.print_action.new.sink) (g.F.Files.state c.in-Err.stop.files)
-    c.in-Err.stop.why c.in-Err.stop.histories.items c.in-Err.ensures.stops
+    c.in-Err.stop.why c.in-Err.stop.records.histories.items
+    (length c.in-Err.stop.records.gave_up.items) c.in-Err.ensures.stops
 
 pub returns-in-Err-clause-files_later : goal.returns-in-Err-clause-files_later
 returns-in-Err-clause-files_later g c =
     prints-later g.W.Naming.work (g.K.Sink.state c.args.sink.now)
     (g.K.Sink.state c.print_action.new.sink) c.args.first.files
-    (g.F.Files.state c.in-Err.stop.files) (Err c.in-Err.stop.why) c.in-Err.stop.histories.items
+    (g.F.Files.state c.in-Err.stop.files) (Err c.in-Err.stop.why)
+    c.in-Err.stop.records.histories.items (length c.in-Err.stop.records.gave_up.items)
     (returns-in-Err-clause-prints g c)
 
 pub returns-clause-prints : goal.returns-clause-prints
 returns-clause-prints g c =
-    let parts = c.into_parts-histories in
+    let parts = c.into_parts-records in
     let len : length g.W.Naming.work.script.actions ≡ length c.actions-actions.result.now =
     ap length (sym (c.actions-actions.ensures
     ∙ ap (λ (s : ScriptData). s.actions) (c.script.ensures
@@ -54,12 +56,14 @@ returns-clause-prints g c =
     all_done c.meaning_is_lawful.ensures.saves g.W.Naming.work (g.K.Sink.state c.args.sink.now)
     (g.K.Sink.state c.loop-alloc.sink) c.args.first.files c.loop-alloc.context
     c.loop-alloc.invariant.printed c.loop-alloc.invariant.gone past c.is_sound.ensures.within
-    parts.result.0.items (g.F.Files.state parts.result.1)
+    parts.result.0.histories.items (length parts.result.0.gave_up.items)
+    (g.F.Files.state parts.result.1)
     parts.ensures.histories parts.ensures.files tt
 
 pub returns-clause-files_later : goal.returns-clause-files_later
 returns-clause-files_later g c =
     prints-later g.W.Naming.work (g.K.Sink.state c.args.sink.now)
     (g.K.Sink.state c.loop-alloc.sink) c.args.first.files
-    (g.F.Files.state c.into_parts-histories.result.1) (Ok tt)
-    c.into_parts-histories.result.0.items (returns-clause-prints g c)
+    (g.F.Files.state c.into_parts-records.result.1) (Ok tt)
+    c.into_parts-records.result.0.histories.items
+    (length c.into_parts-records.result.0.gave_up.items) (returns-clause-prints g c)

@@ -1,8 +1,9 @@
+use Rattle.std.proofs.Common.{length}
 use Rattle.sc_print.proofs.EndLemmas.{nothing_done}
 use Rattle.sc_print.proofs.printing.print_work.Goals as goal
 
 pub returns-in-Err-clause-prints : goal.returns-in-Err-clause-prints
 returns-in-Err-clause-prints g c =
     nothing_done g.W.Naming.work (g.K.Sink.state c.args.sink.now) (g.F.Files.state c.args.files)
-    (g.F.Files.state c.in-Err.failed.value) c.in-Err.ensures.back c.new.result.items
-    c.new.ensures.items
+    (g.F.Files.state c.in-Err.failed.value) c.in-Err.ensures.back
+    c.new.result.histories.items c.new.ensures.none (length c.new.result.gave_up.items)
