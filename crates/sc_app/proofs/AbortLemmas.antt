@@ -30,7 +30,7 @@ abbrev RaisesOrSaves : WorkData → ActionData → Type 0
 RaisesOrSaves work action = (action_outcome work action ≡ never) ⊎ (is_saving action ≡ true)
 
 module _ (law : HaveOneReading) (plans : PlansHaveOneReading) (run : RunData)
-    (history : List JobHistory) (work : WorkData)
+    (history : List JobHistory) (given_up : ℕ) (work : WorkData)
     (read : HasReadWork run.words run.reads work) (none_planned : work.plan ≡ []) where
   -- the work that was run is this one
   this_work : (other : WorkData) → HasReadWork run.words run.reads other → other ≡ work
@@ -40,14 +40,15 @@ module _ (law : HaveOneReading) (plans : PlansHaveOneReading) (run : RunData)
   no_line : (other : WorkData) → HasReadWork run.words run.reads other → other.plan ≡ []
   no_line other was = ap (λ (w : WorkData). w.plan) (this_work other was) ∙ none_planned
 
-  no_loss : EndsForAbort run history aborts.NoExecutor → ⊥
+  no_loss : EndsForAbort run history given_up aborts.NoExecutor → ⊥
   no_loss ends = ends.aborted.unplanned (no_line ends.work ends.read)
 
-  none_given_up : (stage : ℕ) → EndsForAbort run history (aborts.StageLimit stage) → ⊥
+  none_given_up : (stage : ℕ) → EndsForAbort run history given_up (aborts.StageLimit stage) → ⊥
   none_given_up stage ends = ends.aborted.unplanned (no_line ends.work ends.read)
 
   by_saving : HasNoNever work → (stage attempt partition : ℕ)
-      → EndsForAbort run history (aborts.TaskLimit stage attempt partition) → SavesSome work
+      → EndsForAbort run history given_up (aborts.TaskLimit stage attempt partition)
+      → SavesSome work
   by_saving outcomes stage attempt partition ends =
       let same : ends.work ≡ work = this_work ends.work ends.read in
       let known : ends.k < length work.script.actions =
@@ -63,13 +64,14 @@ module _ (law : HaveOneReading) (plans : PlansHaveOneReading) (run : RunData)
       by action there (inr saves) = (action, there, saves)
 
 pub tells_no_failure : HaveOneReading → PlansHaveOneReading → (run : RunData)
-    (history : List JobHistory) (status : Status) → Ends run history status
+    (history : List JobHistory) (given_up : ℕ) (status : Status) → Ends run history given_up status
     → TellsNoFailure run.words run.reads status
-tells_no_failure law plans run history status ends = λ work read none_planned. (
-  (λ e. no_loss law plans run history work read none_planned
-      (subst (λ (s : Status). Ends run history s) e ends)),
-  (λ stage e. none_given_up law plans run history work read none_planned stage
-      (subst (λ (s : Status). Ends run history s) e ends)),
-  (λ outcomes stage attempt partition e. by_saving law plans run history work read none_planned
-      outcomes stage attempt partition (subst (λ (s : Status). Ends run history s) e ends)),
+tells_no_failure law plans run history given_up status ends = λ work read none_planned. (
+  (λ e. no_loss law plans run history given_up work read none_planned
+      (subst (λ (s : Status). Ends run history given_up s) e ends)),
+  (λ stage e. none_given_up law plans run history given_up work read none_planned stage
+      (subst (λ (s : Status). Ends run history given_up s) e ends)),
+  (λ outcomes stage attempt partition e. by_saving law plans run history given_up work read
+      none_planned outcomes stage attempt partition
+      (subst (λ (s : Status). Ends run history given_up s) e ends)),
 )

@@ -9,23 +9,35 @@ use Rattle.sc_jobs.specs.declared.goals.Goal.{Goal}
 use Rattle.sc_context.specs.Aborts.{IsHalted}
 use Rattle.sc_context.specs.Histories.{HasCome, HasGone, IsHistory}
 use Rattle.sc_context.specs.Progress.{Progress, first_progress}
+use Rattle.sc_context.specs.declared.records.GaveUp.{GaveUp}
 use Rattle.sc_app.specs.declared.ran.Status.{Status}
 use Rattle.sc_app.specs.declared.ran.Status.TheVariants as statuses
 use Rattle.sc_app.specs.Ends.{NothingRan, NothingWritten, StandsBehind}
 use Rattle.sc_app.specs.Handed.{IsRun, RanAllJobs}
-use Rattle.sc_app.specs.Promises.{Ends, IsAuthorisedAlone}
+use Rattle.sc_app.specs.Promises.{Ends, GrantsOneAlone, IsAuthorisedAlone}
 use Rattle.sc_app.specs.Runs.{RunData}
 
 module _ (sole : GrantsAreSole) (winners : WinnersCommit) where
+  -- in any job no two attempts of a partition are granted at a time that they may commit
+  grants-in : (h : JobHistory) → GrantsOneAlone h
+  grants-in h = λ first more c a b parts replays one other same.
+      sole h.opening c first a b replays one other same
+
+  -- and so in each that was given up
+  pub grants-given : (given : List GaveUp) → All (λ g. GrantsOneAlone g.history) given
+  grants-given [] = All-nil (λ (g : GaveUp). GrantsOneAlone g.history)
+  grants-given (g ∷ given) =
+      All-cons (λ (g : GaveUp). GrantsOneAlone g.history) g given (grants-in g.history)
+      (grants-given given)
+
   -- in a job that went so
   alone-in : (work : WorkData) (p : Progress) (goal : Goal) (h : JobHistory)
       → IsHistory work p goal h → IsAuthorisedAlone h
   alone-in work p goal h is =
       record {
-        sole = λ first more c a b parts replays one other same.
-            sole h.opening c first a b replays one other same;
+        sole = grants-in h;
         winners = λ partition winner won.
-            winners is.graph work.limits (saves work goal) work.plan p.last h.opening h.end
+            winners is.graph work.limits (saves work goal) work.plan is.from h.opening h.end
             h.entries.items partition winner is.opening is.began is.replays won;
       }
 
@@ -61,40 +73,43 @@ module _ (sole : GrantsAreSole) (winners : WinnersCommit) where
   alone-none histories none =
       subst (λ hs. All IsAuthorisedAlone hs) (sym none) (All-nil IsAuthorisedAlone)
 
-  alone-by : (run : RunData) (history : List JobHistory) (status : Status)
-      → Ends run history status → (status ≡ statuses.Done → RanAllJobs run history)
+  alone-by : (run : RunData) (history : List JobHistory) (given_up : ℕ) (status : Status)
+      → Ends run history given_up status → (status ≡ statuses.Done → RanAllJobs run history)
       → All IsAuthorisedAlone history
-  alone-by run history statuses.Done ends jobs = done (jobs refl)
+  alone-by run history given_up statuses.Done ends jobs = done (jobs refl)
     where
       done : RanAllJobs run history → All IsAuthorisedAlone history
       done (work, read, over) =
           alone-come work (first_progress work) history over.progress over.come
-  alone-by run history statuses.Usage ends jobs = alone-none history ends.nothing_ran
-  alone-by run history (statuses.Script fault) ends jobs = alone-none history ends.nothing_ran
-  alone-by run history (statuses.Plan fault) ends jobs = alone-none history ends.nothing_ran
-  alone-by run history (statuses.Input name missing) ends jobs =
-      alone-none history ends.nothing_ran
-  alone-by run history (statuses.Aborted abort) ends jobs =
+  alone-by run history given_up statuses.Usage ends jobs = alone-none history ends.nothing_ran.0
+  alone-by run history given_up (statuses.Script fault) ends jobs =
+      alone-none history ends.nothing_ran.0
+  alone-by run history given_up (statuses.Plan fault) ends jobs =
+      alone-none history ends.nothing_ran.0
+  alone-by run history given_up (statuses.Input name missing) ends jobs =
+      alone-none history ends.nothing_ran.0
+  alone-by run history given_up (statuses.Aborted abort) ends jobs =
       let aborted = ends.aborted in
       alone-gone ends.work history aborted.progress aborted.goal aborted.history aborted.gone
-  alone-by run history (statuses.DriverFault k fault) ends jobs =
+  alone-by run history given_up (statuses.DriverFault k fault) ends jobs =
       alone-come ends.work (first_progress ends.work) history ends.jobs.progress ends.jobs.come
-  alone-by run history (statuses.OutputExists dir) ends jobs =
+  alone-by run history given_up (statuses.OutputExists dir) ends jobs =
       alone-come ends.work (first_progress ends.work) history ends.jobs.0 ends.jobs.1
-  alone-by run history (statuses.Device path) ends jobs =
+  alone-by run history given_up (statuses.Device path) ends jobs =
       alone-halted ends.work ends.k history ends.jobs
-  alone-by run history statuses.WriteFault ends jobs =
+  alone-by run history given_up statuses.WriteFault ends jobs =
       alone-come ends.work (first_progress ends.work) history ends.jobs.progress ends.jobs.come
-  alone-by run history statuses.OutOfMemory ends jobs = by ends.stands
+  alone-by run history given_up statuses.OutOfMemory ends jobs = by ends.stands
     where
-      by : (NothingWritten run × NothingRan history) ⊎ StandsBehind run history
+      by : (NothingWritten run × NothingRan history given_up) ⊎ StandsBehind run history given_up
           → All IsAuthorisedAlone history
-      by (inl nothing) = alone-none history nothing.1
+      by (inl nothing) = alone-none history nothing.1.0
       by (inr behind) =
           alone-halted behind.work behind.stands.actions history behind.stands.jobs
-  alone-by run history (statuses.NotText name) ends jobs = alone-none history ends.nothing_ran
+  alone-by run history given_up (statuses.NotText name) ends jobs =
+      alone-none history ends.nothing_ran.0
 
   -- however a run ended
-  pub alone : (run : RunData) (history : List JobHistory) (status : Status)
-      → IsRun run history status → All IsAuthorisedAlone history
-  alone run history status is = alone-by run history status is.ends is.jobs
+  pub alone : (run : RunData) (history : List JobHistory) (given_up : ℕ) (status : Status)
+      → IsRun run history given_up status → All IsAuthorisedAlone history
+  alone run history given_up status is = alone-by run history given_up status is.ends is.jobs

@@ -17,6 +17,7 @@ use Rattle.sc_read.specs.Scripts.{TakesAsScript, TakesScript}
 use Rattle.sc_read.proofs.ReadLemmas.{asked-more, later-more, quiet-more}
 use Rattle.sc_script.specs.Scripts.{ReadsScript}
 use Rattle.sc_app.specs.declared.ran.Status.TheVariants as statuses
+use Rattle.sc_app.specs.Ends.{NothingRan}
 use Rattle.sc_app.specs.Handed.{IsRun}
 use Rattle.sc_app.specs.Runs.{run_of}
 use Rattle.sc_app.specs.Statuses.{is_missing, status_of_script}
@@ -85,7 +86,7 @@ begun word (Some name) executors before mid after first reads bytes script plan 
 
 module _ (words : List (List ℕ)) (command : Command)
     (is_command : command_of words ≡ Some command) (history : List JobHistory)
-    (none_ran : history ≡ []) where
+    (given_up : ℕ) (none_ran : NothingRan history given_up) where
   abbrev name : List ℕ
   name = command.script
 
@@ -97,7 +98,7 @@ module _ (words : List (List ℕ)) (command : Command)
       (reads : List Read) (stop : OrMemory ScriptStop)
       → TakesAsScript before after name [] reads (Err stop)
       → IsRun (run_of words reads (outside_of before sink) (outside_of after sink) files files)
-      history (status_of_script name stop)
+      history given_up (status_of_script name stop)
   script-stops before after sink files reads (refusals.Fault (script_stops.Faulty fault)) x =
       let run = run_of words reads (outside_of before sink) (outside_of after sink) files files in
       record {

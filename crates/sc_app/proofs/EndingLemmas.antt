@@ -12,20 +12,21 @@ use Rattle.sc_app.specs.Runs.{RunData, HasReadWork, IsNextName}
 use Rattle.sc_app.proofs.ReadingLemmas.{no_bad_text, no_fault, no_next, no_next_plan, no_plan_fault}
 
 module _ (law : HaveOneReading) (plans : PlansHaveOneReading) (run : RunData)
-    (history : List JobHistory) (work : WorkData) (read : HasReadWork run.words run.reads work)
+    (history : List JobHistory) (given_up : ℕ) (work : WorkData)
+    (read : HasReadWork run.words run.reads work)
   where
     -- the words are a command
-    pub not_refused : EndsForUsage run history → ⊥
+    pub not_refused : EndsForUsage run history given_up → ⊥
     not_refused ends = let e = ends.nothing_read in let was = read.read.is in absurd cc
 
     -- the script has no fault
-    pub not_faulty : (fault : ScriptFault) → EndsForScript run history fault → ⊥
+    pub not_faulty : (fault : ScriptFault) → EndsForScript run history given_up fault → ⊥
     not_faulty fault ends =
         no_fault law run.words run.reads ends.bytes [] fault work.script work.plan work.inputs
         ends.is ends.faults read.read
 
     -- nor has the plan
-    pub not_planless : (fault : PlanFault) → EndsForPlan run history fault → ⊥
+    pub not_planless : (fault : PlanFault) → EndsForPlan run history given_up fault → ⊥
     not_planless fault ends =
         let taken : Taken =
         record { script = ends.bytes; plan = Some ends.plan_bytes; inputs = [] } in
@@ -41,7 +42,7 @@ module _ (law : HaveOneReading) (plans : PlansHaveOneReading) (run : RunData)
         no_next law run.words run.reads work next.0 next.1 next.2 name read next.3 next.4
 
     -- the input that was read last is text
-    pub not_bad : (name : List ℕ) → EndsForText run history name → ⊥
+    pub not_bad : (name : List ℕ) → EndsForText run history given_up name → ⊥
     not_bad name ends =
         no_bad_text law run.words run.reads work ends.script ends.plan ends.inputs name ends.bytes
         read ends.read ends.no_text

@@ -25,8 +25,8 @@ use Rattle.sc_words.specs.declared.commands.Command.{Command}
 
 -- ---- a fault of the script
 
-module _ (law : HaveOneReading) (run : RunData) (history : List JobHistory) (taken : Taken)
-    (fault : ScriptFault)
+module _ (law : HaveOneReading) (run : RunData) (history : List JobHistory) (given_up : ℕ)
+    (taken : Taken) (fault : ScriptFault)
     (is : run.reads ≡ reads_of taken) (faulty : FaultsScript taken.script fault) where
   abbrev rest : List Read
   rest = plan_reads taken.plan ++ map input_read taken.inputs
@@ -47,7 +47,7 @@ module _ (law : HaveOneReading) (run : RunData) (history : List JobHistory) (tak
   nothing_next name (inr (inl next)) = no_script next.bytes [] next.script next.is next.is_script
   nothing_next name (inr (inr next)) = none next.0 next.1 next.2 next.3
 
-  tells_fault_here : (status : Status) → Ends run history status
+  tells_fault_here : (status : Status) → Ends run history given_up status
       → IsUnlessMemory (statuses.Script fault) status
   tells_fault_here statuses.Done ends = absurd
       (none ends.work.script ends.work.plan ends.work.inputs ends.read.read)
@@ -74,15 +74,15 @@ module _ (law : HaveOneReading) (run : RunData) (history : List JobHistory) (tak
   tells_fault_here (statuses.NotText name) ends =
       absurd (none ends.script ends.plan (ends.inputs ++ (name, ends.bytes) ∷ []) ends.read)
 
-pub tells_fault : HaveOneReading → (run : RunData) (history : List JobHistory) (status : Status)
-    → Ends run history status → TellsFault run.reads status
-tells_fault law run history status ends = λ taken fault is faulty.
-    tells_fault_here law run history taken fault is faulty status ends
+pub tells_fault : HaveOneReading → (run : RunData) (history : List JobHistory) (given_up : ℕ)
+    (status : Status) → Ends run history given_up status → TellsFault run.reads status
+tells_fault law run history given_up status ends = λ taken fault is faulty.
+    tells_fault_here law run history given_up taken fault is faulty status ends
 
 -- ---- a fault of the plan
 
 module _ (law : PlansHaveOneReading) (run : RunData) (history : List JobHistory)
-    (command : Command) (taken : Taken)
+    (given_up : ℕ) (command : Command) (taken : Taken)
     (bytes : List ℕ) (fault : PlanFault) (is_command : command_of run.words ≡ Some command)
     (is : run.reads ≡ reads_of taken) (has : taken.plan ≡ Some bytes)
     (faulty : FaultsPlan command.limits.executors bytes fault) where
@@ -104,7 +104,7 @@ module _ (law : PlansHaveOneReading) (run : RunData) (history : List JobHistory)
   no_name_next name (inr (inr next)) = no_plan next.0 next.1 next.2 next.3
 
   -- a fault that a run ends for is this one
-  this_fault : (f : PlanFault) → EndsForPlan run history f → f ≡ fault
+  this_fault : (f : PlanFault) → EndsForPlan run history given_up f → f ≡ fault
   this_fault f ends =
       let same = one_command run.words ends.command command ends.is_command is_command in
       let read = (same_behind run.reads ends.bytes taken.script (Some ends.plan_bytes) taken.plan []
@@ -115,7 +115,7 @@ module _ (law : PlansHaveOneReading) (run : RunData) (history : List JobHistory)
       (subst (λ (c : Command). FaultsPlan c.limits.executors ends.plan_bytes f) same ends.faults) in
       one_plan_fault law command.limits.executors bytes f fault there faulty
 
-  tells_plan_here : (status : Status) → Ends run history status
+  tells_plan_here : (status : Status) → Ends run history given_up status
       → IsUnlessMemory (statuses.Plan fault) status
   tells_plan_here statuses.Done ends =
       absurd (no_plan ends.work.script ends.work.plan ends.work.inputs ends.read.read)
@@ -139,9 +139,12 @@ module _ (law : PlansHaveOneReading) (run : RunData) (history : List JobHistory)
       absurd (no_plan ends.script ends.plan (ends.inputs ++ (name, ends.bytes) ∷ []) ends.read)
 
 pub tells_plan_fault : PlansHaveOneReading → (run : RunData) (history : List JobHistory)
-    (status : Status) → Ends run history status → TellsPlanFault run.words run.reads status
-tells_plan_fault law run history status ends = λ command taken bytes fault is_command is has faulty.
-    tells_plan_here law run history command taken bytes fault is_command is has faulty status ends
+    (given_up : ℕ) (status : Status) → Ends run history given_up status
+    → TellsPlanFault run.words run.reads status
+tells_plan_fault law run history given_up status ends =
+    λ command taken bytes fault is_command is has faulty.
+    tells_plan_here law run history given_up command taken bytes fault is_command is has faulty
+    status ends
 
 -- ---- an input that isn't text
 
@@ -164,7 +167,8 @@ text_or_last (x ∷ inputs) last zero input all h e =
 text_or_last (x ∷ inputs) last (suc k) input all h e =
     text_or_last inputs last k input all.1 (omega arith) e
 
-module _ (run : RunData) (history : List JobHistory) (taken : Taken) (name content : List ℕ)
+module _ (run : RunData) (history : List JobHistory) (given_up : ℕ) (taken : Taken)
+    (name content : List ℕ)
     (is : run.reads ≡ reads_of taken) (has : Contains taken.inputs (name, content))
     (no_text : IsUtf8 content → ⊥) where
   -- not all inputs that were read are texts
@@ -207,7 +211,7 @@ module _ (run : RunData) (history : List JobHistory) (taken : Taken) (name conte
       here (inl utf8) = absurd (no_text utf8)
       here (inr e) = ap (λ (i : List ℕ × List ℕ). i.0) e
 
-  tells_not_text_here : (status : Status) → Ends run history status
+  tells_not_text_here : (status : Status) → Ends run history given_up status
       → IsUnlessMemory (statuses.NotText name) status
   tells_not_text_here statuses.Done ends =
       absurd (no_texts ends.work.script ends.work.plan ends.work.inputs ends.read.read
@@ -238,8 +242,7 @@ module _ (run : RunData) (history : List JobHistory) (taken : Taken) (name conte
       inl (ap (λ (n : List ℕ). statuses.NotText n)
       (only_last ends.script ends.plan ends.inputs last ends.bytes ends.read ends.is_next.texts))
 
-pub tells_not_text : (run : RunData) (history : List JobHistory) (status : Status)
-    → Ends run history status
-    → TellsNotText run.reads status
-tells_not_text run history status ends = λ taken name content is has no_text.
-    tells_not_text_here run history taken name content is has no_text status ends
+pub tells_not_text : (run : RunData) (history : List JobHistory) (given_up : ℕ) (status : Status)
+    → Ends run history given_up status → TellsNotText run.reads status
+tells_not_text run history given_up status ends = λ taken name content is has no_text.
+    tells_not_text_here run history given_up taken name content is has no_text status ends

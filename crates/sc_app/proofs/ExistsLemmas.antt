@@ -125,11 +125,11 @@ module _ (laws : SavesAreLawful) (names : NamesLieWithin) (work : WorkData) (ope
       laws.apart work i dir opening apart saves staging.1 in
       absurd (true≢false (sym staging.2 ∙ bare.dirs (staging_path dir) (names.staging dir)))
 
-  pub refused : (before after : FilesState) (history : List JobHistory) (i : ℕ) (path : Path)
-      → before.shown ≡ Some opening
-      → EndsOver work before after history i (Fault (faults.Exists path))
+  pub refused : (before after : FilesState) (history : List JobHistory) (given_up i : ℕ)
+      (path : Path) → before.shown ≡ Some opening
+      → EndsOver work before after history given_up i (Fault (faults.Exists path))
       → SavesAt work i path × (has_dir (behind i) path ≡ true)
-  refused before after history i path shown ends =
+  refused before after history given_up i path shown ends =
       by (dir_of_job work (goals.Action i)) refl ends.over
     where
       by : (d : Option Path) → dir_of_job work (goals.Action i) ≡ d
@@ -145,8 +145,8 @@ module _ (laws : SavesAreLawful) (names : NamesLieWithin) (work : WorkData) (ope
           subst (λ d. SavesAt work i d × (has_dir (behind i) d ≡ true)) (sym way.0) (saves, way.1)
 
 module _ (law : HaveOneReading) (plans : PlansHaveOneReading) (laws : SavesAreLawful)
-    (names : NamesLieWithin) (run : RunData) (history : List JobHistory) (work : WorkData) (k : ℕ)
-    (dir : Path) (read : HasReadWork run.words run.reads work)
+    (names : NamesLieWithin) (run : RunData) (history : List JobHistory) (given_up : ℕ)
+    (work : WorkData) (k : ℕ) (dir : Path) (read : HasReadWork run.words run.reads work)
     (way : IsFirstInTheWay run work k dir) where
   abbrev Told : Status → Type 0
   Told status = TellsAbort status ⊎ (IsUnlessMemory (statuses.OutputExists dir) status
@@ -176,20 +176,21 @@ module _ (law : HaveOneReading) (plans : PlansHaveOneReading) (laws : SavesAreLa
 
   -- a directory that stopped the run is this one
   told-exists : (other : WorkData) → HasReadWork run.words run.reads other → (i : ℕ) (path : Path)
-      → EndsOver other run.files_before run.files_after history i (Fault (faults.Exists path))
-      → path ≡ dir
+      → EndsOver other run.files_before run.files_after history given_up i
+      (Fault (faults.Exists path)) → path ≡ dir
   told-exists other was i path ends = by (in_order i k)
     where
-      here : EndsOver work run.files_before run.files_after history i (Fault (faults.Exists path))
+      here : EndsOver work run.files_before run.files_after history given_up i
+          (Fault (faults.Exists path))
       here =
-          subst (λ (w : WorkData). EndsOver w run.files_before run.files_after history i
+          subst (λ (w : WorkData). EndsOver w run.files_before run.files_after history given_up i
           (Fault (faults.Exists path))) (this other was) ends
 
       found : SavesAt work i path
           × (has_dir (saved_by work i way.opening) path ≡ true)
       found =
-          refused laws names work way.opening way.apart run.files_before run.files_after history i
-          path way.shown here
+          refused laws names work way.opening way.apart run.files_before run.files_after history
+          given_up i path way.shown here
 
       by : (i < k) ⊎ ((i ≡ k) ⊎ (k < i)) → path ≡ dir
       by (inl less) = absurd (true≢false (sym found.1 ∙ way.first i path less found.0))
@@ -217,16 +218,16 @@ module _ (law : HaveOneReading) (plans : PlansHaveOneReading) (laws : SavesAreLa
       by (inr (inr more)) =
           undone other was (i + 1) run.files_after history over (omega (arith, more))
 
-  told : (status : Status) → Ends run history status
+  told : (status : Status) → Ends run history given_up status
       → (status ≡ statuses.Done → RanAllJobs run history) → Told status
   told statuses.Done ends jobs = absurd (told-done (jobs refl))
-  told statuses.Usage ends jobs = absurd (not_refused law plans run history work read ends)
+  told statuses.Usage ends jobs = absurd (not_refused law plans run history given_up work read ends)
   told (statuses.Script f) ends jobs =
-      absurd (not_faulty law plans run history work read f ends)
+      absurd (not_faulty law plans run history given_up work read f ends)
   told (statuses.Plan f) ends jobs =
-      absurd (not_planless law plans run history work read f ends)
+      absurd (not_planless law plans run history given_up work read f ends)
   told (statuses.Input name missing) ends jobs =
-      absurd (not_next law plans run history work read name ends.is_next)
+      absurd (not_next law plans run history given_up work read name ends.is_next)
   told (statuses.Aborted abort) ends jobs = inl (abort, refl)
   told (statuses.DriverFault i f) ends jobs =
       absurd (told-driver ends.work ends.read i ends.jobs ends.stops.action ends.stops.is_action
@@ -238,10 +239,10 @@ module _ (law : HaveOneReading) (plans : PlansHaveOneReading) (laws : SavesAreLa
   told statuses.WriteFault ends jobs = inr (inr (inl refl))
   told statuses.OutOfMemory ends jobs = inr (inl (inr refl))
   told (statuses.NotText name) ends jobs =
-      absurd (not_bad law plans run history work read name ends)
+      absurd (not_bad law plans run history given_up work read name ends)
 
 pub tells_exists : HaveOneReading → PlansHaveOneReading → SavesAreLawful → NamesLieWithin
-    → (run : RunData) (history : List JobHistory) (status : Status) → IsRun run history status
-    → TellsExists run status
-tells_exists law plans laws names run history status is = λ work k dir read way.
-    told law plans laws names run history work k dir read way status is.ends is.jobs
+    → (run : RunData) (history : List JobHistory) (given_up : ℕ) (status : Status)
+    → IsRun run history given_up status → TellsExists run status
+tells_exists law plans laws names run history given_up status is = λ work k dir read way.
+    told law plans laws names run history given_up work k dir read way status is.ends is.jobs

@@ -73,7 +73,7 @@ HasPlace work before after =
     ⊎ ((opening : Tree) × (before.shown ≡ Some opening) × CanSaveAll work.script opening)
 
 module _ (laws : SavesAreLawful) (names : NamesLieWithin) (work : WorkData)
-    (before after : FilesState) (history : List JobHistory) (k : ℕ) where
+    (before after : FilesState) (history : List JobHistory) (given_up k : ℕ) where
   -- where all can be saved, the directory of the next save isn't there, nor anything under it
   next-apart : (opening : Tree) (dir : Path) → CanSaveAll work.script opening
       → dir_of_job work (goals.Action k) ≡ Some dir → IsApart dir (saved_by work k opening)
@@ -92,7 +92,7 @@ module _ (laws : SavesAreLawful) (names : NamesLieWithin) (work : WorkData)
 
   -- no directory is in the way
   pub none-exists : (path : Path)
-      → EndsOver work before after history k (Fault (faults.Exists path))
+      → EndsOver work before after history given_up k (Fault (faults.Exists path))
       → HasPlace work before after → ⊥
   none-exists path ends place = by (dir_of_job work (goals.Action k)) refl ends.over
     where
@@ -111,7 +111,8 @@ module _ (laws : SavesAreLawful) (names : NamesLieWithin) (work : WorkData)
               (in-the-way ends.mid.shown after.shown dir path (saved_by work k room.0)
               (ends.done.saved room.0 room.1 room.2.apart) over.1.2)
 
-module _ (work : WorkData) (before after : FilesState) (history : List JobHistory) (k : ℕ) where
+module _ (work : WorkData) (before after : FilesState) (history : List JobHistory)
+    (given_up k : ℕ) where
   -- a call that wasn't done shows in the faults
   not-done : (mid : FilesState) → IsLaterFiles before mid
       → (Rose before.faults after.faults → ⊥) → HasPlace work before after
@@ -125,7 +126,7 @@ module _ (work : WorkData) (before after : FilesState) (history : List JobHistor
 
   -- no call on the files failed
   pub none-fails : (path : Path)
-      → EndsOver work before after history k (Fault (faults.Device path))
+      → EndsOver work before after history given_up k (Fault (faults.Device path))
       → (Rose before.faults after.faults → ⊥) → HasPlace work before after → ⊥
   none-fails path ends no_fault place = by (dir_of_job work (goals.Action k)) ends.over
     where

@@ -56,34 +56,34 @@ has_place run work was good = by_room good.room
         inr (room.opening, room.shown, room.free taken work.script read.is read.is_script)
 
 module _ (laws : SavesAreLawful) (names : NamesLieWithin) where
-  pub ends_well : (run : RunData) (history : List JobHistory) (status : Status)
-      → Ends run history status → IsGood run → EndsWell status
-  ends_well run history statuses.Done ends good = tt
-  ends_well run history statuses.Usage ends good = good.command ends.no_command
-  ends_well run history (statuses.Script fault) ends good =
+  pub ends_well : (run : RunData) (history : List JobHistory) (given_up : ℕ) (status : Status)
+      → Ends run history given_up status → IsGood run → EndsWell status
+  ends_well run history given_up statuses.Done ends good = tt
+  ends_well run history given_up statuses.Usage ends good = good.command ends.no_command
+  ends_well run history given_up (statuses.Script fault) ends good =
       good.script (record { script = ends.bytes; plan = None; inputs = [] }) fault ends.is
       ends.faults
-  ends_well run history (statuses.Plan fault) ends good =
+  ends_well run history given_up (statuses.Plan fault) ends good =
       let taken : Taken =
       record { script = ends.bytes; plan = Some ends.plan_bytes; inputs = [] } in
       good.plan ends.command taken ends.plan_bytes fault ends.is_command ends.is refl ends.faults
-  ends_well run history (statuses.Input name true) ends good = by_there good.there
+  ends_well run history given_up (statuses.Input name true) ends good = by_there good.there
     where
       by_there : (Rose run.before.source.misses run.after.source.misses → ⊥) ⊎ AreAllThere run → ⊥
       by_there (inl no_miss) = no_miss ends.cause.0
       by_there (inr all) = there run name all ends.is_next ends.cause.2
-  ends_well run history (statuses.Input name false) ends good = good.no_fault ends.cause.0
-  ends_well run history (statuses.Aborted abort) ends good = tt
-  ends_well run history (statuses.DriverFault k fault) ends good = tt
-  ends_well run history (statuses.OutputExists dir) ends good =
-      none-exists laws names ends.work run.files_before run.files_after history ends.k dir ends.over
-      (has_place run ends.work ends.read good)
-  ends_well run history (statuses.Device path) ends good =
-      none-fails ends.work run.files_before run.files_after history ends.k path ends.over
+  ends_well run history given_up (statuses.Input name false) ends good = good.no_fault ends.cause.0
+  ends_well run history given_up (statuses.Aborted abort) ends good = tt
+  ends_well run history given_up (statuses.DriverFault k fault) ends good = tt
+  ends_well run history given_up (statuses.OutputExists dir) ends good =
+      none-exists laws names ends.work run.files_before run.files_after history given_up ends.k dir
+      ends.over (has_place run ends.work ends.read good)
+  ends_well run history given_up (statuses.Device path) ends good =
+      none-fails ends.work run.files_before run.files_after history given_up ends.k path ends.over
       good.no_file_fault (has_place run ends.work ends.read good)
-  ends_well run history statuses.WriteFault ends good = good.no_write_fault ends.stops.rose
-  ends_well run history statuses.OutOfMemory ends good = tt
-  ends_well run history (statuses.NotText name) ends good =
+  ends_well run history given_up statuses.WriteFault ends good = good.no_write_fault ends.stops.rose
+  ends_well run history given_up statuses.OutOfMemory ends good = tt
+  ends_well run history given_up (statuses.NotText name) ends good =
       ends.no_text (AreTexts-last ends.inputs name ends.bytes
       (good.texts (record {
         script = ends.read.bytes;
@@ -92,6 +92,7 @@ module _ (laws : SavesAreLawful) (names : NamesLieWithin) where
       }) ends.read.is))
 
 -- and one that is done has printed the meaning
-pub zero_means_text : (run : RunData) (history : List JobHistory) (status : Status)
-    → Ends run history status → ZeroMeansText run status
-zero_means_text run history status ends = λ done. subst (λ s. Ends run history s) done ends
+pub zero_means_text : (run : RunData) (history : List JobHistory) (given_up : ℕ)
+    (status : Status) → Ends run history given_up status → ZeroMeansText run status
+zero_means_text run history given_up status ends = λ done.
+    subst (λ s. Ends run history given_up s) done ends

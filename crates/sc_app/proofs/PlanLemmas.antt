@@ -17,6 +17,7 @@ use Rattle.sc_read.proofs.ReadLemmas.{asked-more, quiet-more, unreadable-since}
 use Rattle.sc_script.specs.Scripts.{ReadsScript}
 use Rattle.sc_app.specs.declared.ran.Status.{Status}
 use Rattle.sc_app.specs.declared.ran.Status.TheVariants as statuses
+use Rattle.sc_app.specs.Ends.{NothingRan}
 use Rattle.sc_app.specs.Handed.{IsRun}
 use Rattle.sc_app.specs.Runs.{RunData, AreReads, AsksOnce, name_missed, run_of}
 use Rattle.sc_app.specs.Statuses.{is_missing, status_of_plan}
@@ -26,7 +27,7 @@ use Rattle.sc_app.proofs.AskedLemmas.{told_cause, usage-none, asks}
 
 module _ (words : List (List ℕ)) (command : Command)
     (is_command : command_of words ≡ Some command) (history : List JobHistory)
-    (none_ran : history ≡ []) where
+    (given_up : ℕ) (none_ran : NothingRan history given_up) where
   abbrev name : List ℕ
   name = command.script
 
@@ -84,7 +85,7 @@ module _ (words : List (List ℕ)) (command : Command)
         (more : List Read) (stop : OrMemory PlanStop) (named : List ℕ) → plan_name ≡ Some named
         → TakesAsNamedPlan mid after named command.limits.executors first more (Err stop)
         → IsRun (run_of words more (outside_of start sink) (outside_of after sink) files files)
-        history (status_of_plan stop)
+        history given_up (status_of_plan stop)
     named-stops after sink files more (refusals.Fault (plan_stops.Faulty fault)) named is_named x =
         let run = run_of words more (outside_of start sink) (outside_of after sink) files files in
         record {
@@ -170,12 +171,12 @@ module _ (words : List (List ℕ)) (command : Command)
         (more : List Read) (stop : OrMemory PlanStop)
         → TakesAsPlan mid after plan_name command.limits.executors first more (Err stop)
         → IsRun (run_of words more (outside_of start sink) (outside_of after sink) files files)
-        history (status_of_plan stop)
+        history given_up (status_of_plan stop)
     plan-stops after sink files more stop x = by_name plan_name refl x
       where
         by_name : (named : Option (List ℕ)) → plan_name ≡ named
             → TakesAsPlan mid after named command.limits.executors first more (Err stop)
             → IsRun (run_of words more (outside_of start sink) (outside_of after sink) files files)
-            history (status_of_plan stop)
+            history given_up (status_of_plan stop)
         by_name None is y = absurd y
         by_name (Some n) is y = named-stops after sink files more stop n is y

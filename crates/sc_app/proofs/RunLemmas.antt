@@ -20,6 +20,7 @@ use Rattle.sc_read.specs.Reads.{AreFirstInputs, input_read, names_of_reads, read
 use Rattle.sc_read.proofs.ReadLemmas.{asked-more, quiet-more, unreadable-since}
 use Rattle.sc_app.specs.declared.ran.Status.{Status}
 use Rattle.sc_app.specs.declared.ran.Status.TheVariants as statuses
+use Rattle.sc_app.specs.Ends.{NothingRan}
 use Rattle.sc_app.specs.Handed.{IsRun, RanAllJobs}
 use Rattle.sc_app.specs.Promises.{Ends}
 use Rattle.sc_app.specs.Runs.{RunData, AreReads, AsksOnce, HasRead, HasReadWork, name_missed, run_of}
@@ -115,12 +116,13 @@ module _ (words : List (List ℕ)) (command : Command)
           (sym none)
 
       -- the reading of the inputs stops the run
-      pub inputs-stop : (history : List JobHistory) → history ≡ [] → (after : SourceState)
-          (sink : SinkState) (files : FilesState) (more : List Read) (stop : OrMemory InputStop)
+      pub inputs-stop : (history : List JobHistory) (given_up : ℕ) → NothingRan history given_up
+          → (after : SourceState) (sink : SinkState) (files : FilesState) (more : List Read)
+          (stop : OrMemory InputStop)
           → TakesAsWork script plan command.limits before after reads more (Err stop)
           → IsRun (run_of words more (outside_of start sink) (outside_of after sink) files files)
-          history (status_of_input stop)
-      inputs-stop history none_ran after sink files more
+          history given_up (status_of_input stop)
+      inputs-stop history given_up none_ran after sink files more
           (refusals.Fault (inputs_stops.Unreadable n why)) x =
           let run = run_of words more (outside_of start sink) (outside_of after sink) files files in
           let status = statuses.Input n (is_missing why) in
@@ -144,7 +146,7 @@ module _ (words : List (List ℕ)) (command : Command)
             jobs = λ e. absurd cc;
             usage = usage-none status words command is_command (λ e. cc);
           }
-      inputs-stop history none_ran after sink files more
+      inputs-stop history given_up none_ran after sink files more
           (refusals.Fault (inputs_stops.NotText n)) x =
           let run = run_of words more (outside_of start sink) (outside_of after sink) files files in
           let inputs = x.inputs ++ (n, x.bytes) ∷ [] in
@@ -168,7 +170,7 @@ module _ (words : List (List ℕ)) (command : Command)
             usage = usage-none (statuses.NotText n) words command is_command
                 (λ e. cc);
           }
-      inputs-stop history none_ran after sink files more refusals.OutOfMemory x =
+      inputs-stop history given_up none_ran after sink files more refusals.OutOfMemory x =
           let run = run_of words more (outside_of start sink) (outside_of after sink) files files in
           record {
             reads = in_order run x.0 refl refl x.1.kept x.1.first;
@@ -201,14 +203,14 @@ module _ (words : List (List ℕ)) (command : Command)
         quiet = quiet-more start before after began.quiet inputs.quiet
 
         -- a run that read all, with how its jobs went and with what its end says
-        module _ (histories : List JobHistory) (sink sink' : SinkState)
+        module _ (histories : List JobHistory) (given_up : ℕ) (sink sink' : SinkState)
             (files files' : FilesState) where
           abbrev ran : RunData
           ran = run_of words more (outside_of start sink) (outside_of after sink') files files'
 
           all_read : (status : Status) → name_missed status ≡ [] → (status ≡ statuses.Usage → ⊥)
-              → (status ≡ statuses.Done → RanAllJobs ran histories) → Ends ran histories status
-              → IsRun ran histories status
+              → (status ≡ statuses.Done → RanAllJobs ran histories)
+              → Ends ran histories given_up status → IsRun ran histories given_up status
           all_read status none other jobs ends =
               record {
                 reads = in_order ran work.inputs refl refl inputs.kept inputs.first;
@@ -221,7 +223,7 @@ module _ (words : List (List ℕ)) (command : Command)
           -- all actions were printed
           pub run-done : PrintsAll work sink sink'
               → HasDoneOver work files files' histories (length work.script.actions)
-              → IsRun ran histories statuses.Done
+              → IsRun ran histories given_up statuses.Done
           run-done prints jobs =
               all_read statuses.Done refl (λ e. cc) (λ e. (work, has_work, jobs)) (record {
                 work = work;
@@ -234,8 +236,8 @@ module _ (words : List (List ℕ)) (command : Command)
 
           -- the printing stops the run
           pub printing-stops : (stop : OrMemory PrintFault)
-              → Prints work sink sink' files files' (Err stop) histories
-              → IsRun ran histories (status_of_print stop)
+              → Prints work sink sink' files files' (Err stop) histories given_up
+              → IsRun ran histories given_up (status_of_print stop)
           printing-stops (refusals.Fault (print_faults.Aborted k abort)) x =
               all_read (statuses.Aborted abort) refl (λ e. cc) (λ e. absurd cc) (record {
                 work = work;
@@ -296,7 +298,7 @@ module _ (words : List (List ℕ)) (command : Command)
 pub no-command : (words : List (List ℕ)) (source : SourceState) (sink : SinkState)
     (files : FilesState) → (AreTaken words → ⊥) → command_of words ≡ None
     → IsRun (run_of words [] (outside_of source sink) (outside_of source sink) files files) []
-    statuses.Usage
+    0 statuses.Usage
 no-command words source sink files refused none =
     record {
       reads = inl refl;
@@ -305,7 +307,7 @@ no-command words source sink files refused none =
         refused = refused;
         no_command = none;
         nothing_read = refl;
-        nothing_ran = refl;
+        nothing_ran = (refl, refl);
         untouched = refl;
         nothing_saved = refl;
       };
@@ -317,14 +319,14 @@ no-command words source sink files refused none =
 pub no-memory : (words : List (List ℕ)) (source : SourceState) (sink : SinkState)
     (files : FilesState)
     → IsRun (run_of words [] (outside_of source sink) (outside_of source sink) files files) []
-    statuses.OutOfMemory
+    0 statuses.OutOfMemory
 no-memory words source sink files =
     record {
       reads = inl refl;
       asked = λ command e. asked-none source;
       ends = record {
         quiet = record { faults = refl; misses = refl };
-        stands = inl ((refl, refl), refl);
+        stands = inl ((refl, refl), (refl, refl));
       };
       jobs = λ e. absurd cc;
       usage = ((λ e. absurd cc), (λ r. inr refl));

@@ -107,26 +107,26 @@ module _ (law : HaveOneReading) (plans : PlansHaveOneReading) (run : RunData) (w
       (number, same, cc)
 
 module _ (law : HaveOneReading) (plans : PlansHaveOneReading) (run : RunData)
-    (history : List JobHistory) (work : WorkData)
+    (history : List JobHistory) (given_up : ℕ) (work : WorkData)
     (k : ℕ) (action : ActionData)
     (read : HasReadWork run.words run.reads work) (first : IsFirstWithout work k action)
     (is : action_outcome work action ≡ never) where
   no_text : HasText work action → ⊥
   no_text = never_without work action is
 
-  tells_never_here : (status : Status) → Ends run history status
+  tells_never_here : (status : Status) → Ends run history given_up status
       → TellsAbort status ⊎ ((status ≡ statuses.OutOfMemory) ⊎ TellsOutside status)
   tells_never_here statuses.Done ends =
       absurd (not_all law plans run work k action read first no_text ends.work ends.read
       ends.prints.texts)
   tells_never_here statuses.Usage ends =
-      absurd (not_refused law plans run history work read ends)
+      absurd (not_refused law plans run history given_up work read ends)
   tells_never_here (statuses.Script f) ends =
-      absurd (not_faulty law plans run history work read f ends)
+      absurd (not_faulty law plans run history given_up work read f ends)
   tells_never_here (statuses.Plan f) ends =
-      absurd (not_planless law plans run history work read f ends)
+      absurd (not_planless law plans run history given_up work read f ends)
   tells_never_here (statuses.Input name missing) ends =
-      absurd (not_next law plans run history work read name ends.is_next)
+      absurd (not_next law plans run history given_up work read name ends.is_next)
   tells_never_here (statuses.Aborted abort) ends = inl (abort, refl)
   tells_never_here (statuses.DriverFault i f) ends =
       let x = stopped law plans run work k action read first no_text ends.work i ends.stops.action
@@ -141,16 +141,16 @@ module _ (law : HaveOneReading) (plans : PlansHaveOneReading) (run : RunData)
   tells_never_here statuses.WriteFault ends = inr (inr (inl refl))
   tells_never_here statuses.OutOfMemory ends = inr (inl refl)
   tells_never_here (statuses.NotText name) ends =
-      absurd (not_bad law plans run history work read name ends)
+      absurd (not_bad law plans run history given_up work read name ends)
 
 pub tells_never : HaveOneReading → PlansHaveOneReading → (run : RunData)
-    (history : List JobHistory) (status : Status) → Ends run history status
+    (history : List JobHistory) (given_up : ℕ) (status : Status) → Ends run history given_up status
     → TellsNever run.words run.reads status
-tells_never law plans run history status ends = λ work k action read first is.
-    tells_never_here law plans run history work k action read first is status ends
+tells_never law plans run history given_up status ends = λ work k action read first is.
+    tells_never_here law plans run history given_up work k action read first is status ends
 
 module _ (law : HaveOneReading) (plans : PlansHaveOneReading) (run : RunData)
-    (history : List JobHistory) (work : WorkData)
+    (history : List JobHistory) (given_up : ℕ) (work : WorkData)
     (k : ℕ) (action : ActionData)
     (fault : DriverFault) (read : HasReadWork run.words run.reads work)
     (first : IsFirstWithout work k action)
@@ -158,19 +158,19 @@ module _ (law : HaveOneReading) (plans : PlansHaveOneReading) (run : RunData)
   no_text_either : HasText work action → ⊥
   no_text_either = faults_without work action fault is
 
-  tells_driver_here : (status : Status) → Ends run history status
+  tells_driver_here : (status : Status) → Ends run history given_up status
       → TellsAbort status ⊎ IsUnlessEarlier (statuses.DriverFault k fault) status
   tells_driver_here statuses.Done ends =
       absurd (not_all law plans run work k action read first no_text_either ends.work ends.read
       ends.prints.texts)
   tells_driver_here statuses.Usage ends =
-      absurd (not_refused law plans run history work read ends)
+      absurd (not_refused law plans run history given_up work read ends)
   tells_driver_here (statuses.Script f) ends =
-      absurd (not_faulty law plans run history work read f ends)
+      absurd (not_faulty law plans run history given_up work read f ends)
   tells_driver_here (statuses.Plan f) ends =
-      absurd (not_planless law plans run history work read f ends)
+      absurd (not_planless law plans run history given_up work read f ends)
   tells_driver_here (statuses.Input name missing) ends =
-      absurd (not_next law plans run history work read name ends.is_next)
+      absurd (not_next law plans run history given_up work read name ends.is_next)
   tells_driver_here (statuses.Aborted abort) ends = inl (abort, refl)
   tells_driver_here (statuses.DriverFault i f) ends =
       let x = stopped law plans run work k action read first no_text_either ends.work i
@@ -187,10 +187,10 @@ module _ (law : HaveOneReading) (plans : PlansHaveOneReading) (run : RunData)
   tells_driver_here statuses.WriteFault ends = inr (inr (inl refl))
   tells_driver_here statuses.OutOfMemory ends = inr (inl (inr refl))
   tells_driver_here (statuses.NotText name) ends =
-      absurd (not_bad law plans run history work read name ends)
+      absurd (not_bad law plans run history given_up work read name ends)
 
 pub tells_driver_fault : HaveOneReading → PlansHaveOneReading → (run : RunData)
-    (history : List JobHistory) (status : Status) → Ends run history status
+    (history : List JobHistory) (given_up : ℕ) (status : Status) → Ends run history given_up status
     → TellsDriverFault run.words run.reads status
-tells_driver_fault law plans run history status ends = λ work k action fault read first is.
-    tells_driver_here law plans run history work k action fault read first is status ends
+tells_driver_fault law plans run history given_up status ends = λ work k action fault read first is.
+    tells_driver_here law plans run history given_up work k action fault read first is status ends

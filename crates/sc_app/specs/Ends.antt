@@ -34,36 +34,37 @@ NothingSaved run = run.files_after ≡ run.files_before
 abbrev pub NothingWritten : RunData → Type 0
 NothingWritten run = (run.after.sink ≡ run.before.sink) × NothingSaved run
 
--- no job was begun
-abbrev pub NothingRan : List JobHistory → Type 0
-NothingRan history = history ≡ []
+-- no job was begun, and so none was given up
+abbrev pub NothingRan : List JobHistory → ℕ → Type 0
+NothingRan history given_up = (history ≡ []) × (given_up ≡ 0)
 
 -- no count of the source rose
 abbrev pub NothingMissed : RunData → Type 0
 NothingMissed run = IsQuietSource run.before.source run.after.source
 
 -- the words are refused, so they are no command, and nothing was touched
-pub record EndsForUsage (run : RunData) (history : List JobHistory) : Type 0 where
+pub record EndsForUsage (run : RunData) (history : List JobHistory) (given_up : ℕ)
+    : Type 0 where
   pub refused : AreTaken run.words → ⊥
   pub no_command : command_of run.words ≡ None
   pub nothing_read : run.reads ≡ []
-  pub nothing_ran : NothingRan history
+  pub nothing_ran : NothingRan history given_up
   pub untouched : run.after ≡ run.before
   pub nothing_saved : NothingSaved run
 
 -- the bytes read as the script have this fault
-pub record EndsForScript (run : RunData) (history : List JobHistory) (fault : ScriptFault)
-    : Type 0 where
+pub record EndsForScript (run : RunData) (history : List JobHistory) (given_up : ℕ)
+    (fault : ScriptFault) : Type 0 where
   pub bytes : List ℕ
   pub is : run.reads ≡ script_read bytes ∷ []
   pub faults : FaultsScript bytes fault
   pub quiet : NothingMissed run
   pub nothing_written : NothingWritten run
-  pub nothing_ran : NothingRan history
+  pub nothing_ran : NothingRan history given_up
 
 -- the bytes read as the plan, behind a script without a fault, have this fault
-pub record EndsForPlan (run : RunData) (history : List JobHistory) (fault : PlanFault)
-    : Type 0 where
+pub record EndsForPlan (run : RunData) (history : List JobHistory) (given_up : ℕ)
+    (fault : PlanFault) : Type 0 where
   pub command : Command
   pub bytes : List ℕ
   pub script : ScriptData
@@ -74,7 +75,7 @@ pub record EndsForPlan (run : RunData) (history : List JobHistory) (fault : Plan
   pub faults : FaultsPlan command.limits.executors plan_bytes fault
   pub quiet : NothingMissed run
   pub nothing_written : NothingWritten run
-  pub nothing_ran : NothingRan history
+  pub nothing_ran : NothingRan history given_up
 
 -- why a name gave no bytes, as the status tells it
 abbrev pub why_of : Bool → Unreadable
@@ -82,16 +83,16 @@ why_of true = Missing
 why_of false = Failed
 
 -- the next name is missing, or couldn't be read
-pub record EndsForInput (run : RunData) (history : List JobHistory) (name : List ℕ) (missing : Bool)
-    : Type 0 where
+pub record EndsForInput (run : RunData) (history : List JobHistory) (given_up : ℕ)
+    (name : List ℕ) (missing : Bool) : Type 0 where
   pub is_next : IsNextName run name
   pub cause : IsUnreadable run.before.source run.after.source name (why_of missing)
   pub nothing_written : NothingWritten run
-  pub nothing_ran : NothingRan history
+  pub nothing_ran : NothingRan history given_up
 
 -- the input read last isn't text, and those before it are
-pub record EndsForText (run : RunData) (history : List JobHistory) (name : List ℕ)
-    : Type 0 where
+pub record EndsForText (run : RunData) (history : List JobHistory) (given_up : ℕ)
+    (name : List ℕ) : Type 0 where
   pub script : ScriptData
   pub plan : List PlanLine
   pub inputs : Files
@@ -101,12 +102,12 @@ pub record EndsForText (run : RunData) (history : List JobHistory) (name : List 
   pub no_text : IsUtf8 bytes → ⊥
   pub quiet : NothingMissed run
   pub nothing_written : NothingWritten run
-  pub nothing_ran : NothingRan history
+  pub nothing_ran : NothingRan history given_up
 
 -- All was read, and a job for an action was aborted, the last that was begun, which shows why. The
 -- texts of the actions before it stand, and what they saved; of its own save, where it has one, its
 -- directory stands at most.
-pub record EndsForAbort (run : RunData) (history : List JobHistory) (abort : Abort)
+pub record EndsForAbort (run : RunData) (history : List JobHistory) (given_up : ℕ) (abort : Abort)
     : Type 0 where
   pub work : WorkData
   pub read : HasReadWork run.words run.reads work
@@ -114,7 +115,7 @@ pub record EndsForAbort (run : RunData) (history : List JobHistory) (abort : Abo
   pub k : ℕ
   pub printed : HasPrinted work run.before.sink run.after.sink k
   pub aborted : IsAborted work k history abort
-  pub over : EndsOver work run.files_before run.files_after history k
+  pub over : EndsOver work run.files_before run.files_after history given_up k
       (Fault (job_faults.Aborted abort))
 
 -- all was read, and the results of an action have no value
@@ -129,7 +130,7 @@ pub record EndsForDriver (run : RunData) (history : List JobHistory) (k : ℕ) (
 -- All was read, and this directory is there already, to which an action saves, or which is its
 -- staging area: a count of the files rose, and nothing in it has changed. The texts of the actions
 -- before it stand, and what they saved.
-pub record EndsForExists (run : RunData) (history : List JobHistory) (dir : Path)
+pub record EndsForExists (run : RunData) (history : List JobHistory) (given_up : ℕ) (dir : Path)
     : Type 0 where
   pub work : WorkData
   pub read : HasReadWork run.words run.reads work
@@ -137,13 +138,13 @@ pub record EndsForExists (run : RunData) (history : List JobHistory) (dir : Path
   pub k : ℕ
   pub printed : HasPrinted work run.before.sink run.after.sink k
   pub jobs : HasDone work history k
-  pub over : EndsOver work run.files_before run.files_after history k
+  pub over : EndsOver work run.files_before run.files_after history given_up k
       (Fault (job_faults.Exists dir))
 
 -- All was read, and a call on the files of an action that saves failed where these were opened,
 -- committed or aborted: a count of the files rose. The texts of the actions before it stand, and
 -- what they saved.
-pub record EndsForDevice (run : RunData) (history : List JobHistory) (path : Path)
+pub record EndsForDevice (run : RunData) (history : List JobHistory) (given_up : ℕ) (path : Path)
     : Type 0 where
   pub work : WorkData
   pub read : HasReadWork run.words run.reads work
@@ -151,7 +152,7 @@ pub record EndsForDevice (run : RunData) (history : List JobHistory) (path : Pat
   pub k : ℕ
   pub printed : HasPrinted work run.before.sink run.after.sink k
   pub jobs : IsHalted work k history
-  pub over : EndsOver work run.files_before run.files_after history k
+  pub over : EndsOver work run.files_before run.files_after history given_up k
       (Fault (job_faults.Device path))
 
 -- all was read, and the sink failed
@@ -163,14 +164,17 @@ pub record EndsForWrite (run : RunData) (history : List JobHistory) : Type 0 whe
   pub jobs : HasDoneOver work run.files_before run.files_after history (stops.k + 1)
 
 -- behind the texts of some actions, whose jobs are done, and perhaps jobs of one more
-pub record StandsBehind (run : RunData) (history : List JobHistory) : Type 0 where
+pub record StandsBehind (run : RunData) (history : List JobHistory) (given_up : ℕ)
+    : Type 0 where
   pub work : WorkData
   pub read : HasReadWork run.words run.reads work
   pub stands : CutsShort work run.before.sink run.after.sink run.files_before run.files_after
-      history
+      history given_up
 
 -- memory ran out before the first job, or behind the texts of some actions; no count of the source
 -- or the sink rose
-pub record EndsForMemory (run : RunData) (history : List JobHistory) : Type 0 where
+pub record EndsForMemory (run : RunData) (history : List JobHistory) (given_up : ℕ)
+    : Type 0 where
   pub quiet : NothingMissed run
-  pub stands : (NothingWritten run × NothingRan history) ⊎ StandsBehind run history
+  pub stands : (NothingWritten run × NothingRan history given_up)
+      ⊎ StandsBehind run history given_up

@@ -59,44 +59,51 @@ ZeroShowsJobs run history status = status ≡ statuses.Done
 
 -- ---- what histories show
 
--- Authorised alone: in each state of a job at most one attempt of a partition is granted that it
--- may commit, and each winner was granted it, then moved its part, and then told its success, with
--- its grant held from the first to the last.
+-- in each state of a job at most one attempt of a partition is granted that it may commit
+abbrev pub GrantsOneAlone : JobHistory → Type 0
+GrantsOneAlone h =
+    (first more : List Entry) (c : CoreData) (a b : AttemptId)
+    → h.entries.items ≡ first ++ more → Replays h.opening first c
+    → HoldsGrant c a → HoldsGrant c b → a.partition ≡ b.partition → a ≡ b
+
+-- Authorised alone: no two attempts of a partition are granted at a time that they may commit, and
+-- each winner was granted it, then moved its part, and then told its success, with its grant held
+-- from the first to the last.
 pub record IsAuthorisedAlone (h : JobHistory) : Type 0 where
-  pub sole : (first more : List Entry) (c : CoreData) (a b : AttemptId)
-      → h.entries.items ≡ first ++ more → Replays h.opening first c
-      → HoldsGrant c a → HoldsGrant c b → a.partition ≡ b.partition → a ≡ b
+  pub sole : GrantsOneAlone h
   pub winners : (p : ℕ) (winner : AttemptId) → winner_of h.end.committers p ≡ Some winner
       → WasCommitted h.opening h.entries.items winner
 
 -- ---- what each other status means, and what stands then
 
--- each status has its cause, and this is what stands; the history shows why a job was aborted
-abbrev pub Ends : RunData → List JobHistory → Status → Type 0
-Ends run history statuses.Done = PrintsMeaning run
+-- each status has its cause, and this is what stands, where so many jobs were given up; the history
+-- shows why a job was aborted
+abbrev pub Ends : RunData → List JobHistory → ℕ → Status → Type 0
+Ends run history given_up statuses.Done = PrintsMeaning run
 -- 2: the words are no command, and nothing was touched
-Ends run history statuses.Usage = EndsForUsage run history
+Ends run history given_up statuses.Usage = EndsForUsage run history given_up
 -- 3 and 4: the bytes that were read as the script or the plan have this fault; nothing was written,
 -- to the sink or to files
-Ends run history (statuses.Script fault) = EndsForScript run history fault
-Ends run history (statuses.Plan fault) = EndsForPlan run history fault
+Ends run history given_up (statuses.Script fault) = EndsForScript run history given_up fault
+Ends run history given_up (statuses.Plan fault) = EndsForPlan run history given_up fault
 -- 5: a name is missing or couldn't be read, and its count rose; nothing was written
-Ends run history (statuses.Input name missing) = EndsForInput run history name missing
+Ends run history given_up (statuses.Input name missing) =
+    EndsForInput run history given_up name missing
 -- 6, 7, 8 and 14: the last job was aborted, and its history shows why; the texts before it stand,
 -- and what was saved
-Ends run history (statuses.Aborted abort) = EndsForAbort run history abort
+Ends run history given_up (statuses.Aborted abort) = EndsForAbort run history given_up abort
 -- 9: the results of an action have no value together; the texts before it stand, and what was saved
-Ends run history (statuses.DriverFault k fault) = EndsForDriver run history k fault
+Ends run history given_up (statuses.DriverFault k fault) = EndsForDriver run history k fault
 -- 10: a directory is there already that an action was to make; likewise
-Ends run history (statuses.OutputExists dir) = EndsForExists run history dir
+Ends run history given_up (statuses.OutputExists dir) = EndsForExists run history given_up dir
 -- 11: a call on the files of an action that saves failed; likewise
-Ends run history (statuses.Device path) = EndsForDevice run history path
+Ends run history given_up (statuses.Device path) = EndsForDevice run history given_up path
 -- 12: the sink failed; the texts before stand, and a prefix of one more, and what was saved
-Ends run history statuses.WriteFault = EndsForWrite run history
+Ends run history given_up statuses.WriteFault = EndsForWrite run history
 -- 13: memory ran out; the texts of some actions stand, and what these saved
-Ends run history statuses.OutOfMemory = EndsForMemory run history
+Ends run history given_up statuses.OutOfMemory = EndsForMemory run history given_up
 -- 15: the input that was read last isn't UTF-8; nothing was written
-Ends run history (statuses.NotText name) = EndsForText run history name
+Ends run history given_up (statuses.NotText name) = EndsForText run history given_up name
 
 -- ---- what comes of a good run
 

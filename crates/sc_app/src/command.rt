@@ -1,20 +1,24 @@
 //! The run.
 #![tactic(auto)]
 
-ghost use Rattle.std.specs.Prelude.{◌≡◌, ◌≤◌, [], map};
-ghost use Rattle.std.specs.List.{All};
+ghost use Rattle.std.specs.Prelude.{◌≡◌, ◌≤◌, [], length, map};
+ghost use Rattle.std.specs.List.{All, AllZip};
 ghost use Rattle.std.specs.String.{string_bytes};
 ghost use Rattle.sc_base.specs.Outside.{IsLaterFiles, IsLaterSource, outside_of};
 ghost use Rattle.sc_app.specs.Exactly.{TellsDriverFault, TellsExists, TellsFault, TellsNever, TellsNoFailure, TellsNotText, TellsPlanFault, TellsUsage};
+ghost use Rattle.sc_app.specs.Ends.{NothingRan};
 ghost use Rattle.sc_app.specs.Handed.{IsRun};
-ghost use Rattle.sc_app.specs.Promises.{Ends, GoodRunsEndWell, IsAuthorisedAlone, ZeroMeansText, ZeroShowsJobs};
+ghost use Rattle.sc_app.specs.Promises.{Ends, GoodRunsEndWell, GrantsOneAlone, IsAuthorisedAlone, ZeroMeansText, ZeroShowsJobs};
 ghost use Rattle.sc_app.specs.Runs.{AreReads, AsksOnce, run_of};
 ghost use Rattle.sc_app.specs.Sources.{Over};
+ghost use Rattle.sc_context.specs.Records.{AreKept, IsGivenUp, IsLogged};
 
 use crate::ran::{Ran, Status};
 use crate::workloads::run_command;
 use sc_base::OrMemory;
-use sc_core::JobHistory;
+use sc_clock::Clock;
+use sc_context::Records;
+use sc_exec::Gate;
 use sc_files::Files;
 use sc_history::grants_are_sole;
 use sc_input::Source;
@@ -26,6 +30,9 @@ use sc_script::scripts_have_one_reading;
 use sc_sink::Sink;
 use sc_words::read_words;
 use std::alloc::Global;
+use std::sync::{Mutex, Wait};
+use std::thread::Threads;
+use std::time;
 
 /// Runs the script that the words name, as `run SCRIPT` and options, or the generator's script over
 /// the lines that it makes, as `gen --seed S --size N`. The second is the same run over files that
@@ -39,19 +46,35 @@ use std::alloc::Global;
 /// > from one attempt authorised alone; an abort is answered only where the returned history shows
 /// > its limit, loss, script fault or device fault.
 ///
-/// One thread runs the actions, each by its jobs: the executors take turns, and lose what the fault
-/// plan says. There is no clock yet. `read` of the answer is the script, the plan where one is
-/// named, and then the inputs, as they were read, which shows a script's fault and a plan's;
-/// `history` has the jobs, of which the last shows an abort; and `files` are those that it was
-/// given to save to.
-pub fn run<R, S: Source, K: Sink, F: Files>(
-    _rt: &R,
+/// The actions are run in order, each by its jobs. The executors of a job are threads, where these
+/// can be had: they share the driver's desk, they pass the gate with each task that they take, and
+/// they lose what the fault plan says. Where one of them meets what can't be, the job is given up,
+/// and the calling thread runs it again alone. Where `--speculation` is given the clock is asked
+/// each time before an executor asks for a task. No clause has a premise on what the clock gives,
+/// nor on the order in which executors took the locks.
+///
+/// `read` of the answer is the script, the plan where one is named, and then the inputs, as they
+/// were read, which shows a script's fault and a plan's; `history` has the jobs, of which the last
+/// shows an abort, and `logs` what their executors wrote down; `gave_up` has the jobs that were
+/// given up; and `files` are those that it was given to save to. That threads ran, and that the
+/// logs are theirs, isn't promised.
+pub fn run<
+    S: Source,
+    K: Sink,
+    F: Files + Send,
+    G: Gate + Sync,
+    C: Clock + Send,
+    R: Threads + Wait + time::Clock + Sync,
+>(
+    rt: &R,
     alloc: Global,
     words: &[String],
     source: &mut S,
     sink: &mut K,
     files: F,
-) -> Ran<F>
+    gate: &G,
+    clock: C,
+) -> Ran<F, C>
     // The source shows what it showed, and no count has fallen.
     ensures later { IsLaterSource (S.state source.old) (S.state source.new) }
     ensures sink_later { (K.state sink.old).faults ≤ (K.state sink.new).faults }
@@ -93,12 +116,25 @@ pub fn run<R, S: Source, K: Sink, F: Files>(
     // may commit, and each winner was granted it, then moved its part, then told its success.
     ensures alone { All IsAuthorisedAlone result.history.items }
 
+    // In a job that was given up at most one attempt of a partition at a time was granted that too.
+    ensures grants { All (λ g. GrantsOneAlone g.history) result.gave_up.items }
+
+    // Each history is an interleaving of its executors' logs: no call was dropped, doubled or made
+    // up, and what no executor did is the driver's.
+    ensures logged { AllZip (λ h logs. IsLogged h logs.items) result.history.items
+        result.logs.items }
+
+    // A job was given up only where its logs disagree with its history, or an executor found its
+    // attempt out twice, something of another work, a report of what can't be yet, or no block.
+    ensures given_up { All IsGivenUp result.gave_up.items }
+
     // Each status has its cause, and this is what stands.
     ensures ends { Over (map string_bytes words.now) (λ before after.
         Ends (run_of (map string_bytes words.now) result.read.items
         (outside_of before (K.state sink.old)) (outside_of after (K.state sink.new))
         (F.state files) (F.state result.files))
-        result.history.items result.status) (S.state source.old) (S.state source.new) }
+        result.history.items (length result.gave_up.items) result.status)
+        (S.state source.old) (S.state source.new) }
 
     // Usage comes only where `clap` refuses the words, and there unless memory runs out.
     ensures usage { TellsUsage (map string_bytes words.now) result.status }
@@ -147,40 +183,76 @@ pub fn run<R, S: Source, K: Sink, F: Files>(
     meaning_is_lawful();
     laws_of_names();
     grants_are_sole();
+    let clock = Mutex::new(clock);
     let mut read = Vec::new(alloc);
-    let mut history = Vec::new(alloc);
-    let (status, files) = run_words(alloc, words, source, sink, files, &mut read, &mut history);
+    let mut records = Records::new(alloc);
+    let (status, files) = run_words(
+        rt,
+        alloc,
+        words,
+        source,
+        sink,
+        files,
+        gate,
+        &clock,
+        &mut read,
+        &mut records,
+    );
+    let Records {
+        histories,
+        logs,
+        gave_up,
+    } = records;
     Ran {
         status,
         read,
-        history,
+        history: histories,
+        logs,
+        gave_up,
         files,
+        clock: clock.into_inner(),
     }
 }
 
 /// Runs the script that the words name, if they name one.
-fn run_words<S: Source, K: Sink, F: Files>(
+fn run_words<
+    S: Source,
+    K: Sink,
+    F: Files + Send,
+    G: Gate + Sync,
+    C: Clock + Send,
+    R: Threads + Wait + time::Clock + Sync,
+>(
+    rt: &R,
     alloc: Global,
     words: &[String],
     source: &mut S,
     sink: &mut K,
     files: F,
+    gate: &G,
+    clock: &Mutex<C>,
     reads: &mut Vec<Read>,
-    history: &mut Vec<JobHistory>,
+    records: &mut Records,
 ) -> (Status, F)
     requires empty { reads.old.items ≡ [] }
-    requires none { history.old.items ≡ [] }
+    requires none_ran { NothingRan records.old.histories.items
+        (length records.old.gave_up.items) }
+    requires kept { AreKept records.old }
     ensures later { IsLaterSource (S.state source.old) (S.state source.new) }
     ensures sink_later { (K.state sink.old).faults ≤ (K.state sink.new).faults }
     ensures files_later { IsLaterFiles (F.state files) (F.state result.1) }
+    ensures kept { AreKept records.new }
     ensures run { Over (map string_bytes words.now) (λ before after.
         IsRun (run_of (map string_bytes words.now) reads.new.items
         (outside_of before (K.state sink.old)) (outside_of after (K.state sink.new))
-        (F.state files) (F.state result.1)) history.new.items result.0)
+        (F.state files) (F.state result.1)) records.new.histories.items
+        (length records.new.gave_up.items) result.0)
         (S.state source.old) (S.state source.new) }
 {
     match read_words(alloc, words) {
-        Ok(command) => run_command(alloc, command, source, sink, files, reads, history),
+        Ok(command) => run_command(
+            rt, alloc, command, source, sink, files, gate, clock, reads, records,
+        ),
         Err(refusal) => match refusal {
             OrMemory::Fault(_) => (Status::Usage, files),
             OrMemory::OutOfMemory => (Status::OutOfMemory, files),

@@ -7,9 +7,10 @@
 //! and saved exactly its directories, and every other [`Status`] comes only with its cause, and
 //! with what then stands. `specs/Promises.antt` has that on two pages.
 //!
-//! It runs on the thread that calls it, and it returns. The command comes from `sc_words`, what is
-//! read from `sc_read`, and the actions are run and printed by `sc_print`; the program that calls
-//! it is `spark_run`.
+//! The executors of a job are threads, which are joined before `run` answers; `logs` and `gave_up`
+//! of its answer tell what they did. The command comes from `sc_words`, what is read from
+//! `sc_read`, and the actions are run and printed by `sc_print`; the program that calls it is
+//! `spark_run`.
 #![tactic(auto)]
 
 mod command;

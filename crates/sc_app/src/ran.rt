@@ -4,9 +4,11 @@
 ghost use Rattle.std.specs.Prelude.{◌≡◌};
 ghost use Rattle.sc_app.specs.Statuses.{number_of, number_of_abort};
 
+use sc_context::GaveUp;
 use sc_core::{Abort, JobHistory};
 use sc_files::Files;
 use sc_lineage::DriverFault;
+use sc_logs::ExecLog;
 use sc_plan::PlanFault;
 use sc_read::Read;
 use sc_script::ScriptFault;
@@ -96,7 +98,7 @@ fn number_of_abort(abort: Abort) -> u8
 
 /// What a run did: how it ended, what it read, and how its jobs went, in order.
 #[derive(Drop)]
-pub struct Ran<F: Files> {
+pub struct Ran<F: Files, C> {
     /// How it ended.
     pub status: Status,
     /// The script, the plan where one is named, and then the inputs, as far as they were read.
@@ -104,6 +106,13 @@ pub struct Ran<F: Files> {
     /// How the jobs went: for each action that was begun those that found bounds, and its own. All
     /// but the last are done.
     pub history: Vec<JobHistory>,
+    /// What the executors of each of these jobs wrote down; nothing where the job was run by the
+    /// calling thread alone.
+    pub logs: Vec<Vec<ExecLog>>,
+    /// The jobs that their executors gave up.
+    pub gave_up: Vec<GaveUp>,
     /// The files that it was given to save to.
     pub files: F,
+    /// The clock that it was given.
+    pub clock: C,
 }

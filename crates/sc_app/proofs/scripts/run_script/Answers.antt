@@ -1,4 +1,4 @@
-use Rattle.std.proofs.Common.{List, Result, Err, Ok, subst}
+use Rattle.std.proofs.Common.{List, Result, Err, Ok, length, subst}
 use Rattle.sc_base.specs.declared.refusals.OrMemory.{OrMemory}
 use Rattle.sc_print.specs.declared.faults.PrintFault.{PrintFault}
 use Rattle.sc_print.specs.Printing.{Prints}
@@ -16,8 +16,9 @@ returns-in-Err-clause-run g c =
     let taken = subst (λ (rs : List Read). TakesAsScript before after c.args.command.script rs
     c.read_script.new.reads.items (Err c.in-Err.stop)) c.requires.empty c.in-Err.ensures.script in
     rw c.status_of_script.ensures (λ words is. script-stops words c.args.command is
-    c.args.history.now.items c.requires.none before after (g.K.Sink.state c.args.sink.now)
-    (g.F.Files.state c.args.files) c.read_script.new.reads.items c.in-Err.stop taken)
+    c.args.records.now.histories.items (length c.args.records.now.gave_up.items) c.requires.none_ran
+    before after (g.K.Sink.state c.args.sink.now) (g.F.Files.state c.args.files)
+    c.read_script.new.reads.items c.in-Err.stop taken)
 
 pub returns-in-Err-read_plan-clause-run : goal.returns-in-Err-read_plan-clause-run
 returns-in-Err-read_plan-clause-run g c =
@@ -27,10 +28,10 @@ returns-in-Err-read_plan-clause-run g c =
     let taken = subst (λ (rs : List Read). TakesAsScript start mid c.args.command.script rs
     c.read_script.new.reads.items (Ok c.in-Ok.script)) c.requires.empty c.in-Ok.ensures.script in
     rw c.status_of_plan.ensures (λ words is. plan-stops words c.args.command is
-    c.args.history.now.items c.requires.none start mid c.in-Ok.ensures.later
-    c.read_script.new.reads.items taken.0 taken.1 c.in-Ok.script taken.2 after
-    (g.K.Sink.state c.args.sink.now) (g.F.Files.state c.args.files) c.read_plan.new.reads.items
-    c.in-Err-read_plan.stop c.in-Err-read_plan.ensures.plan)
+    c.args.records.now.histories.items (length c.args.records.now.gave_up.items) c.requires.none_ran
+    start mid c.in-Ok.ensures.later c.read_script.new.reads.items taken.0 taken.1 c.in-Ok.script
+    taken.2 after (g.K.Sink.state c.args.sink.now) (g.F.Files.state c.args.files)
+    c.read_plan.new.reads.items c.in-Err-read_plan.stop c.in-Err-read_plan.ensures.plan)
 
 pub returns-in-Err-read_work-clause-run : goal.returns-in-Err-read_work-clause-run
 returns-in-Err-read_work-clause-run g c =
@@ -46,8 +47,9 @@ returns-in-Err-read_work-clause-run g c =
     let after = g.S.Source.state c.read_work.new.source in
     rw c.status_of_input.ensures (λ words is. inputs-stop words c.args.command is start before
     c.read_plan.new.reads.items c.in-Ok.script c.in-Ok-read_plan.plan began
-    c.args.history.now.items c.requires.none after (g.K.Sink.state c.args.sink.now)
-    (g.F.Files.state c.args.files) c.read_work.new.reads.items c.in-Err-read_work.stop
+    c.args.records.now.histories.items (length c.args.records.now.gave_up.items) c.requires.none_ran
+    after (g.K.Sink.state c.args.sink.now) (g.F.Files.state c.args.files)
+    c.read_work.new.reads.items c.in-Err-read_work.stop
     c.in-Err-read_work.ensures.work)
 
 pub returns-in-Ok-end-clause-run : goal.returns-in-Ok-end-clause-run
@@ -67,14 +69,15 @@ returns-in-Ok-end-clause-run g c =
     let files = g.F.Files.state c.args.files in
     let files' = g.F.Files.state c.print_work-end.result.files in
     let work = c.in-Ok-read_work.work in
-    let histories = c.print_work-end.result.histories.items in
+    let histories = c.print_work-end.result.records.histories.items in
+    let given_up = length c.print_work-end.result.records.gave_up.items in
     let prints = subst (λ (r : Result (Unit {0}) (OrMemory PrintFault)). Prints work sink sink'
-    files files' r histories) c.in-Ok-end.is c.print_work-end.ensures.prints in
+    files files' r histories given_up) c.in-Ok-end.is c.print_work-end.ensures.prints in
     λ words is. run-done words c.args.command is start before c.read_plan.new.reads.items
     c.in-Ok.script c.in-Ok-read_plan.plan began after c.read_work.new.reads.items work
     c.in-Ok-read_work.ensures.work.0 c.in-Ok-read_work.ensures.work.1
     c.in-Ok-read_work.ensures.work.2 c.in-Ok-read_work.ensures.work.3 c.is_sound.ensures histories
-    sink sink' files files' prints.0 prints.1
+    given_up sink sink' files files' prints.0 prints.1
 
 pub returns-clause-run : goal.returns-clause-run
 returns-clause-run g c =
@@ -93,12 +96,13 @@ returns-clause-run g c =
     let files = g.F.Files.state c.args.files in
     let files' = g.F.Files.state c.print_work-end.result.files in
     let work = c.in-Ok-read_work.work in
-    let histories = c.print_work-end.result.histories.items in
+    let histories = c.print_work-end.result.records.histories.items in
+    let given_up = length c.print_work-end.result.records.gave_up.items in
     let prints = subst (λ (r : Result (Unit {0}) (OrMemory PrintFault)). Prints work sink sink'
-    files files' r histories) c.in-Err-end.is c.print_work-end.ensures.prints in
+    files files' r histories given_up) c.in-Err-end.is c.print_work-end.ensures.prints in
     rw c.status_of_print.ensures (λ words is. printing-stops words c.args.command is start before
     c.read_plan.new.reads.items c.in-Ok.script c.in-Ok-read_plan.plan began after
     c.read_work.new.reads.items work c.in-Ok-read_work.ensures.work.0
     c.in-Ok-read_work.ensures.work.1 c.in-Ok-read_work.ensures.work.2
-    c.in-Ok-read_work.ensures.work.3 c.is_sound.ensures histories sink sink' files files'
+    c.in-Ok-read_work.ensures.work.3 c.is_sound.ensures histories given_up sink sink' files files'
     c.in-Err-end.stop prints)
