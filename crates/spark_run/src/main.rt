@@ -6,6 +6,8 @@
 #![tactic(auto)]
 
 use sc_app::{Status, fault_text, run};
+use sc_clock::HostClock;
+use sc_exec::OpenGate;
 use sc_files::HostFiles;
 use sc_input::HostSource;
 use sc_sink::StdSink;
@@ -14,25 +16,59 @@ use std::rt::Runtime;
 use std::{env, io};
 
 fn main(rt: HostRuntime) -> ExitCode {
-    let status = match start(&rt) {
-        Ok(status) => status,
+    let status = match System::reach(&rt) {
+        Ok(system) => {
+            let System {
+                words,
+                mut source,
+                mut sink,
+                files,
+                clock,
+            } = system;
+            run(
+                &rt,
+                rt.alloc(),
+                &words,
+                &mut source,
+                &mut sink,
+                files,
+                &OpenGate,
+                clock,
+            )
+            .status
+        }
         Err(error) => status_of(error.kind()),
     };
     report(&rt, &status);
     ExitCode::from(status.number())
 }
 
-/// Runs what the words of the process ask for.
-fn start<R: Runtime + AllocGlobal>(rt: &R) -> io::Result<Status> {
-    let mut words = Vec::new(rt.alloc());
-    for word in env::args(rt)?.skip(1) {
-        words.push(word)?;
+/// What a run is given of the system.
+#[derive(Drop)]
+struct System<R: Runtime + AllocGlobal> {
+    /// The words of the process, behind its name.
+    words: Vec<String>,
+    source: HostSource<R>,
+    sink: StdSink<R>,
+    files: HostFiles<R>,
+    clock: HostClock<R>,
+}
+
+impl<R: Runtime + AllocGlobal> System<R> {
+    /// The system that this handle reaches.
+    fn reach(rt: &R) -> io::Result<System<R>> {
+        let mut words = Vec::new(rt.alloc());
+        for word in env::args(rt)?.skip(1) {
+            words.push(word)?;
+        }
+        Ok(System {
+            words,
+            source: HostSource::new(rt.clone()?),
+            sink: StdSink::new(rt.clone()?),
+            files: HostFiles::new(rt.clone()?),
+            clock: HostClock::new(rt.clone()?),
+        })
     }
-    let mut source = HostSource::new(rt.clone()?);
-    let mut sink = StdSink::new(rt.clone()?);
-    let files = HostFiles::new(rt.clone()?);
-    let ran = run(rt, rt.alloc(), &words, &mut source, &mut sink, files);
-    Ok(ran.status)
 }
 
 /// How a run ends that could not begin: for want of memory, or since its words aren't text.
