@@ -22,13 +22,20 @@ first_ready work desk (passed, begins) =
     ready_opening work (new_stores work) passed None (goals.Action 0) desk (fresh_ready work) begins
 
 -- and the files of that job stand, where both directories of a save were just made
+pub begun_stands : FilesGoOn → (work : WorkData) (desk : DeskData) (dir : Option Path)
+    (files : FilesState) → IsFirstDesk work desk → dir ≡ dir_of_job work (goals.Action 0)
+    → IfSome dir (λ d. IfSome files.shown (IsNewlyOpened d)) → FilesStand work desk dir files
+begun_stands laws work desk dir files (passed, begins) same opened =
+    laws.begun work passed None (goals.Action 0) desk dir files begins same opened
+
+-- in its world too
 pub first_stands : FilesGoOn → (work : WorkData) (desk : DeskData) (stores : List StoreData)
     (w : WorldData) (dir : Option Path) (files : FilesState) → IsFirstDesk work desk
     → w ≡ idle_world work desk stores → dir ≡ dir_of_job work (goals.Action 0)
     → IfSome dir (λ d. IfSome files.shown (IsNewlyOpened d)) → FilesStand work w.desk dir files
-first_stands laws work desk stores w dir files (passed, begins) idle same opened =
+first_stands laws work desk stores w dir files first idle same opened =
     subst (λ (x : WorldData). FilesStand work x.desk dir files) (sym idle)
-    (laws.begun work passed None (goals.Action 0) desk dir files begins same opened)
+    (begun_stands laws work desk dir files first same opened)
 
 -- both directories of a save that was opened were made, where they show
 pub newly_opened : (dir own : Path) (before after : Option Tree) → own ≡ dir

@@ -122,9 +122,9 @@ fail 0 1 0
 2 | failed: planned
 ==== a plan fails attempts of each attempt of a stage
 collect c
--- words
+-- words --executors=1
 fail 0 0 0
-drop 1 3
+drop 0 3
 -- end
 (b,2)
 (a,1)
@@ -132,7 +132,7 @@ drop 1 3
 1 | post 0.0.0.0 failed: planned: again
 1 | post 0.1.0.0 failed: planned: again
 2 | failed: planned
-1 | failed: gone 1@0 found 1: resubmitted
+1 | failed: gone 0@0 found 1: resubmitted
 ==== four raises abort
 l = parallelize 2 1 0
 m = map l (/ 10 x)
@@ -249,7 +249,7 @@ late 1 1 0 9
 4 | take: task
 ==== all reports may come twice, and the last one ends the job before its second copy is told
 count c
--- words
+-- words --executors=1
 twice 0 0 0
 twice 0 1 0
 twice 1 0 0

@@ -2,10 +2,14 @@
 #![tactic(auto)]
 
 use crate::claims::assert_text;
+use crate::given::{Row, Seen};
 use sc_gen::{Generated, gen_script, workload};
 use sc_input::{ReadAnswer, Source};
 use sc_value::Name;
 use std::process::Abort;
+use std::sync::Wait;
+use std::thread::Threads;
+use std::time;
 
 /// A seed, how many lines, and the lines.
 const WORKLOADS: [(u32, u32, &str); 4] = [
@@ -44,4 +48,22 @@ fn a_workload_has_two_files(rt: HostRuntime) {
     for (name, want) in &[("s", gen_script()), ("gen", "k12 817\n"), ("t", "no file")] {
         assert_text(&rt, given(&rt, &mut files, name).as_str(), *want, "");
     }
+}
+
+/// What is seen of the run of a large workload by so many executors.
+fn seen_by<R: Abort + AllocGlobal + Threads + Wait + time::Clock + Sync>(
+    rt: &R,
+    executors: &str,
+) -> Seen {
+    let words = ["gen", "--seed", "7", "--size", "100000", "--executors"];
+    let seen = Row::of_words(rt, &words).words(rt, &[executors]).run(rt);
+    assert_eq!(rt; seen.given_up(), 0);
+    assert!(rt; seen.text().ends_with("\n100000\n"), "{executors}");
+    seen
+}
+
+#[test]
+fn a_workload_gives_the_same_by_one_executor_and_by_four(rt: HostRuntime) {
+    let alone = seen_by(&rt, "1");
+    assert_text(&rt, seen_by(&rt, "4").text(), alone.text(), "");
 }

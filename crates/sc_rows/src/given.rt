@@ -1,21 +1,30 @@
 //! A run to be, and what was seen of it.
 #![tactic(auto)]
 
-use sc_app::{Ran, fault_text, run};
+use sc_app::{Ran, Status, fault_text, run};
+use sc_clock::{Clock, StepClock};
+use sc_context::GaveUp;
 use sc_core::JobHistory;
+use sc_exec::{Gate, OpenGate};
 use sc_files::{Files, MemFiles};
 use sc_input::MemSource;
+use sc_logs::ExecLog;
 use sc_sink::MemSink;
 use sc_value::{Name, Octets};
 use std::alloc::{AllocError, Global};
 use std::process::Abort;
-use std::str;
+use std::sync::Wait;
+use std::thread::Threads;
+use std::{str, time};
 
 /// The name of the script.
 pub const SCRIPT: &str = "job.spark";
 
 /// The name of the fault plan.
 pub const PLAN: &str = "plan.txt";
+
+/// A clock that stands still.
+pub const STILL: StepClock = StepClock { time: 0, step: 0 };
 
 /// A run to be: the words, the files, and the calls outside that are to fail.
 #[derive(Drop)]
@@ -108,7 +117,17 @@ impl Row {
     }
 
     /// Runs.
-    pub fn run<R>(self, rt: &R) -> Seen {
+    pub fn run<R: Threads + Wait + time::Clock + Sync>(self, rt: &R) -> Seen {
+        self.run_by(rt, &OpenGate, STILL)
+    }
+
+    /// Runs, where each attempt passes a gate, and a clock tells how long it takes.
+    pub fn run_by<G: Gate + Sync, C: Clock + Send + Drop, R: Threads + Wait + time::Clock + Sync>(
+        self,
+        rt: &R,
+        gate: &G,
+        clock: C,
+    ) -> Seen {
         let Row {
             alloc,
             words,
@@ -116,10 +135,32 @@ impl Row {
             mut sink,
             saved,
         } = self;
-        let ran = run(rt, alloc, &words, &mut source, &mut sink, saved);
+        let Ran {
+            status,
+            read,
+            history,
+            logs,
+            gave_up,
+            files,
+            clock: _,
+        } = run(
+            rt,
+            alloc,
+            &words,
+            &mut source,
+            &mut sink,
+            saved,
+            gate,
+            clock,
+        );
         Seen {
             alloc,
-            ran,
+            status,
+            reads: read.len(),
+            histories: history,
+            logs,
+            gave_up,
+            saved: files,
             source,
             sink,
         }
@@ -139,7 +180,12 @@ pub fn words_of(alloc: Global, words: &[&str]) -> Result<Vec<String>, AllocError
 #[derive(Drop)]
 pub struct Seen {
     alloc: Global,
-    ran: Ran<MemFiles>,
+    status: Status,
+    reads: usize,
+    histories: Vec<JobHistory>,
+    logs: Vec<Vec<ExecLog>>,
+    gave_up: Vec<GaveUp>,
+    saved: MemFiles,
     source: MemSource,
     sink: MemSink,
 }
@@ -152,23 +198,43 @@ impl Seen {
 
     /// The number of how the run ended.
     pub fn number(&self) -> u8 {
-        self.ran.status.number()
+        self.status.number()
     }
 
     /// The directories and files that stand.
     pub fn saved(&self) -> &MemFiles {
-        &self.ran.files
+        &self.saved
     }
 
     /// How its jobs went, in order.
     pub fn histories(&self) -> &[JobHistory] {
-        self.ran.history.as_slice()
+        self.histories.as_slice()
+    }
+
+    /// What the executors of each job wrote down.
+    pub fn logs(&self) -> &[Vec<ExecLog>] {
+        self.logs.as_slice()
+    }
+
+    /// The same, with how its jobs went.
+    pub fn into_logs(self) -> (Vec<JobHistory>, Vec<Vec<ExecLog>>) {
+        let Seen {
+            histories,
+            logs,
+            ..
+        } = self;
+        (histories, logs)
+    }
+
+    /// How many jobs their executors gave up.
+    pub fn given_up(&self) -> usize {
+        self.gave_up.len()
     }
 
     /// What was written, and on a last line what is told of how the run ended, if anything is.
     pub fn all(&self) -> Result<String, AllocError> {
         let text = self.text();
-        let told = fault_text(self.alloc, &self.ran.status)?;
+        let told = fault_text(self.alloc, &self.status)?;
         let end = if told.is_empty() { "" } else { "\n" };
         format!(in self.alloc; "{text}{told}{end}")
     }
@@ -179,7 +245,7 @@ impl Seen {
     pub fn end(&self) -> Result<String, AllocError> {
         let number = self.number();
         let asked = self.asked()?;
-        let reads = self.ran.read.len();
+        let reads = self.reads;
         let writes = self.sink.pieces(self.alloc)?.len();
         let all = self.all()?;
         format!(in self.alloc;

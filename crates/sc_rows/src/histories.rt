@@ -8,17 +8,24 @@
 //!
 //! An entry of a history is looked at as the line that its journal writes. What is wanted of it is
 //! how many lines of each job have a text: `4 2 | take: task` says four lines of the first job and
-//! two of the second, so it says too how many jobs there were. Or it is the whole history, with an
-//! empty line between two jobs.
+//! two of the second, so it says too how many jobs there were; `*` stands for any number. Or it is
+//! the whole history, with an empty line between two jobs.
+//!
+//! Executors are threads, so where there are more than one, a row says only what is so whichever of
+//! them does what. What hangs on that is said of one executor, or of worlds step by step.
 #![tactic(auto)]
 
+use crate::given::STILL;
 use crate::works::{INPUT, halves, source_of, words_of};
 use sc_app::{Status, fault_text, run};
 use sc_core::JobHistory;
+use sc_exec::OpenGate;
 use sc_files::MemFiles;
 use sc_sink::MemSink;
 use std::process::Abort;
-use std::str;
+use std::sync::Wait;
+use std::thread::Threads;
+use std::{str, time};
 
 /// A count of words in two partitions: stage 0 makes two map outputs, and stage 1 reads them for
 /// two results.
@@ -37,7 +44,10 @@ struct Seen {
 }
 
 /// Sees that each case of a table holds.
-pub fn assert_runs<R: Abort + AllocGlobal>(rt: &R, table: &str) {
+pub fn assert_runs<R: Abort + AllocGlobal + Threads + Wait + time::Clock + Sync>(
+    rt: &R,
+    table: &str,
+) {
     for case in table.split("==== ") {
         if !case.is_empty() {
             assert_case(rt, case);
@@ -46,7 +56,7 @@ pub fn assert_runs<R: Abort + AllocGlobal>(rt: &R, table: &str) {
 }
 
 /// Sees that a case holds.
-fn assert_case<R: Abort + AllocGlobal>(rt: &R, case: &str) {
+fn assert_case<R: Abort + AllocGlobal + Threads + Wait + time::Clock + Sync>(rt: &R, case: &str) {
     let (label, rest) = halves(case, "\n");
     let (given, want) = halves(rest, "-- end\n");
     let (script, rest) = halves(given, "-- words");
@@ -59,7 +69,7 @@ fn assert_case<R: Abort + AllocGlobal>(rt: &R, case: &str) {
 }
 
 /// Sees that it holds under a plan.
-fn assert_plan<R: Abort + AllocGlobal>(
+fn assert_plan<R: Abort + AllocGlobal + Threads + Wait + time::Clock + Sync>(
     rt: &R,
     script: &str,
     plan: &str,
@@ -76,12 +86,27 @@ fn assert_plan<R: Abort + AllocGlobal>(
 }
 
 /// What is seen of a run.
-fn seen_of<R: Abort + AllocGlobal>(rt: &R, script: &str, plan: &str, words: &str) -> Seen {
+fn seen_of<R: Abort + AllocGlobal + Threads + Wait + time::Clock + Sync>(
+    rt: &R,
+    script: &str,
+    plan: &str,
+    words: &str,
+) -> Seen {
     let mut source = source_of(rt, script, plan, INPUT);
     let mut sink = MemSink::new(rt.alloc());
     let words = words_of(rt, words);
     let files = MemFiles::new(rt.alloc());
-    let ran = run(rt, rt.alloc(), &words, &mut source, &mut sink, files);
+    let ran = run(
+        rt,
+        rt.alloc(),
+        &words,
+        &mut source,
+        &mut sink,
+        files,
+        &OpenGate,
+        STILL,
+    );
+    assert_eq!(rt; ran.gave_up.len(), 0, "given up");
     Seen {
         end: end_of(rt, sink.bytes(), &ran.status),
         history: history_of(rt, ran.history.as_slice()),
@@ -110,17 +135,39 @@ fn history_of<R: Abort + AllocGlobal>(rt: &R, histories: &[JobHistory]) -> Strin
     out
 }
 
+/// Sees that so many entries of jobs have a text, as lines of a table want it.
+pub fn assert_counts<R: Abort + AllocGlobal>(
+    rt: &R,
+    histories: &[JobHistory],
+    want: &str,
+    label: &str,
+) {
+    assert_history(rt, history_of(rt, histories).as_str(), want, label);
+}
+
 /// Sees that a history is as it is wanted.
 fn assert_history<R: Abort + AllocGlobal>(rt: &R, history: &str, want: &str, label: &str) {
     if want.contains(" | ") {
         for line in want.lines() {
-            let (count, text) = halves(line, " | ");
+            let (want, text) = halves(line, " | ");
             let counts = counts_of(rt, history, text);
-            assert_eq!(rt; counts.as_str(), count, "{label}: {text}");
+            assert!(rt;
+                are_counts(counts.as_str(), want),
+                "{label}: {text}: {counts} of {want}"
+            );
         }
     } else {
         assert_eq!(rt; history, want, "{label}");
     }
+}
+
+/// Whether these are as many numbers as wanted, and each is the one that is wanted or any is.
+fn are_counts(seen: &str, want: &str) -> bool {
+    let many = seen.split(" ").count() == want.split(" ").count();
+    many && seen
+        .split(" ")
+        .zip(want.split(" "))
+        .all(|(count, wanted)| wanted == "*" || count == wanted)
 }
 
 /// For each job how many of its lines have a text, which no line has twice.

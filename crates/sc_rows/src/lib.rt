@@ -26,9 +26,15 @@ mod clocks;
 #[cfg(test)]
 mod committing;
 #[cfg(test)]
+mod copies;
+#[cfg(test)]
+mod crews;
+#[cfg(test)]
 mod failures;
 #[cfg(test)]
 mod files;
+#[cfg(test)]
+mod gates;
 #[cfg(test)]
 mod generated;
 #[cfg(test)]

@@ -5,9 +5,9 @@
 use crate::histories::assert_runs;
 
 const WIPES: &str =
-    r#"==== one wipe is found by a fetch of the second stage, and one map task runs again
+    r#"==== one wipe is found by a fetch of the second stage, and all of that store is made again
 collect c
--- words
+-- words --executors=1
 drop 0 1
 -- end
 (b,2)
@@ -15,23 +15,10 @@ drop 0 1
 -- history
 1 | post 1.0.0.0 failed: gone 0@0 found 1: resubmitted
 1 | failed
-3 | take: task 0.
+4 | take: task 0.
 1 | take: task 0.1.0.0, epoch 1
 2 | take: task 1.1.
-6 | take: task
-==== the other executor is wiped too, and told lost once the first wipe was found
-collect c
--- words
-drop 0 1
-lose 1 2 3
--- end
-(b,2)
-(a,1)
--- history
-1 | lost 1: told
-1 | failed: gone 0@0 found 1: resubmitted
-4 | take: task 0.
-3 | take: task 1.
+7 | take: task
 ==== few wipes leave the text as it was
 collect c
 -- words --executors=2 or --executors=3 or --executors=8
@@ -73,7 +60,7 @@ lose 1 2 3
 2 | : finished
 ==== one wipe is too many where one attempt is allowed
 collect c
--- words --stage-attempts=1
+-- words --executors=1 --stage-attempts=1
 drop 0 1
 -- end
 stage limit: stage 1
@@ -83,36 +70,37 @@ stage limit: stage 1
 0 | take: task 0.1.
 ==== one failed attempt of a stage is survived where two are allowed
 collect c
--- words --stage-attempts=2
+-- words --executors=1 --stage-attempts=2
 drop 0 1
 -- end
 (b,2)
 (a,1)
 -- history
 1 | failed: gone
-==== both stores are wiped before the second stage reads them, and one attempt is allowed
+==== a store is wiped twice before the second stage reads it, and one attempt is allowed
 collect c
--- words --stage-attempts=1
+-- words --executors=1 --stage-attempts=1
 drop 0 1
-drop 1 4
+drop 0 2
 -- end
 stage limit: stage 1
 -- history
-1 | failed: gone
+1 | failed: gone 0@0 found 2: aborted
+1 | failed
 ==== the second failed attempt of a stage is too many where two are allowed
 collect c
--- words --stage-attempts=2
+-- words --executors=1 --stage-attempts=2
 drop 0 1
-drop 1 4
+drop 0 5
 -- end
 stage limit: stage 1
 -- history
 2 | failed: gone
 ==== a stage has its third attempt where three are allowed
 collect c
--- words --stage-attempts=3
+-- words --executors=1 --stage-attempts=3
 drop 0 1
-drop 1 4
+drop 0 5
 -- end
 (b,2)
 (a,1)
@@ -121,7 +109,7 @@ drop 1 4
 ==== a wipe between two actions is found by the second, which had skipped the map stage
 collect c
 count c
--- words
+-- words --executors=1
 drop 0 4
 -- end
 (b,2)
@@ -129,9 +117,30 @@ drop 0 4
 2
 -- history
 0 1 | failed: gone 0@0 found 1: resubmitted
-2 1 | take: task 0.
+2 2 | take: task 0.
 2 0 | take: task 1.
 0 3 | take: task 2.
+==== inputs are read in the order of node and side: those of a, which are younger, before those of b
+l = parallelize 2 1 2
+p = map l (pair x x)
+a = reduceByKey p 1 (+ a b)
+b = reduceByKey p 1 (+ a b)
+u = union a b
+collect b
+collect u
+-- words --executors=1
+drop 0 3
+drop 0 5
+-- end
+(1,1)
+(2,2)
+(1,1)
+(2,2)
+(1,1)
+(2,2)
+-- history
+0 1 | failed: gone 0@1 found 2: resubmitted
+0 1 | failed
 "#;
 
 #[test]
@@ -149,7 +158,7 @@ no executor
 -- history
 1 | lost 0: told
 1 | lost 1: aborted: no executor
-0 | take
+0 | take: task
 ==== one executor is all that a run has, whenever it is lost
 collect c
 -- words --executors=1
@@ -159,7 +168,7 @@ lose 0 1 3
 -- end
 no executor
 -- history
-1 | driver lost
+1 | lost 0: aborted: no executor
 ==== the last of four reports ends the job before a loss behind it can be told
 collect c
 -- words --executors=1
@@ -168,7 +177,7 @@ lose 0 4 4
 (b,2)
 (a,1)
 -- history
-0 | driver lost
+0 | lost 0
 ==== one executor of two is enough
 collect c
 -- words --executors=2
@@ -177,7 +186,8 @@ lose 1 0 0
 (b,2)
 (a,1)
 -- history
-1 | driver lost
+1 | lost 1: told
+0 | 1 take: task
 ==== one executor of three is enough
 collect c
 -- words --executors=3
@@ -187,7 +197,10 @@ lose 2 0 0
 (b,2)
 (a,1)
 -- history
-2 | driver lost
+1 | lost 0: told
+1 | lost 2: told
+4 | 1 take: task
+4 | take: task
 ==== none of three executors is too few
 collect c
 -- words --executors=3
@@ -197,8 +210,10 @@ lose 2 0 0
 -- end
 no executor
 -- history
-3 | driver lost
-==== an executor is lost once for all jobs, and its output isn't made on it again
+1 | lost 0: told
+1 | lost 1: told
+1 | lost 2: aborted: no executor
+==== an executor is lost once for all jobs, and does no more tasks
 collect c
 count c
 count c
@@ -211,14 +226,12 @@ lose 0 4 4
 2
 -- history
 0 1 0 | lost 0: told
-0 1 0 | failed: missing -0@0: resubmitted
-2 1 0 | take: task 0.
-1 0 0 | map at 0@
-1 1 0 | map at 1@
+* 0 0 | 0 take: task
+* 0 0 | map at 0@
 ==== an abort in the second job leaves the history of the first
 collect c
 count c
--- words --task-failures=1
+-- words --executors=1 --task-failures=1
 fail 2 1 0
 -- end
 (b,2)
@@ -238,7 +251,8 @@ lose 1 4 4
 (a,1)
 no executor
 -- history
-0 2 | driver lost
+0 1 | lost 0: told
+0 1 | lost 1: aborted: no executor
 "#;
 
 #[test]

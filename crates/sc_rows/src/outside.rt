@@ -7,6 +7,9 @@
 use crate::claims::assert_end;
 use crate::given::Row;
 use std::process::Abort;
+use std::sync::Wait;
+use std::thread::Threads;
+use std::time;
 
 /// The words that run a script, and those that run it under a plan.
 const RUN: [&str; 2] = ["run", "job.spark"];
@@ -622,7 +625,7 @@ const ROWS: [(&[&str], &[(&str, &[u8])], u64, (u64, usize), &str); 63] = [
 ];
 
 /// Sees that a run of words over files ends so, where a read and a write fail.
-fn assert_run<R: Abort + AllocGlobal>(
+fn assert_run<R: Abort + AllocGlobal + Threads + Wait + time::Clock + Sync>(
     rt: &R,
     words: &[&str],
     files: &[(&str, &[u8])],

@@ -8,6 +8,9 @@
 use crate::files::standing;
 use crate::given::Row;
 use std::process::Abort;
+use std::sync::Wait;
+use std::thread::Threads;
+use std::time;
 
 /// Five numbers in three parts.
 const THREE: &str = r#"
@@ -122,10 +125,16 @@ const ROWS: [(&str, &str, &str, &[u8]); 9] = [
 ];
 
 /// Sees what a run told, and what stands behind it.
-fn assert_saved<R: Abort + AllocGlobal>(rt: &R, row: Row, want: (&str, &[u8]), label: &str) {
+fn assert_saved<R: Abort + AllocGlobal + Threads + Wait + time::Clock + Sync>(
+    rt: &R,
+    row: Row,
+    want: (&str, &[u8]),
+    label: &str,
+) {
     let seen = row.run(rt);
     let all = seen.all().expect(rt, "memory");
     assert_eq!(rt; all.as_str(), want.0, "{label}");
+    assert_eq!(rt; seen.given_up(), 0, "{label}");
     let stands = standing(rt, seen.saved());
     assert!(rt; stands.as_slice() == want.1, "{label}: {stands:?}");
 }
@@ -215,12 +224,13 @@ fn a_failing_call_leaves_what_the_table_says(rt: HostRuntime) {
 }
 
 /// Plans over a save of two parts, and what stands in the end of all of them.
-const PLANS: [&str; 6] = [
+const PLANS: [&str; 7] = [
     "fail 0 0 0\nfail 0 1 0\n",
     "late 0 0 0 1\n",
     "twice 0 0 0\ntwice 0 1 0\n",
-    // The holder's report is late, and its executor is told lost before it.
+    // The holder's report is late, and an executor, which may be its own, is told lost before it.
     "late 0 0 0 9\nlose 0 1 1\n",
+    "fail 0 0 0\ntwice 0 0 1\nlate 0 1 0 3\nlose 0 1 2\n",
     "lose 1 0 0\n",
     "drop 0 1\ndrop 1 1\n",
 ];
@@ -231,11 +241,24 @@ l = parallelize 2 1 2 3 4
 save l "out"
 "#;
 
+/// What stands of these.
+const TWO_SAVED: &[u8] = b"out/ out/part-00000=1\n2\n out/part-00001=3\n4\n out/_SUCCESS= ";
+
+/// Sees that so many executors leave the same under a plan.
+fn assert_planned<R: Abort + AllocGlobal + Threads + Wait + time::Clock + Sync>(
+    rt: &R,
+    plan: &str,
+    executors: &str,
+) {
+    let row = Row::planned(rt, TWO, plan.as_bytes()).words(rt, &["--executors", executors]);
+    assert_saved(rt, row, ("", TWO_SAVED), plan);
+}
+
 #[test]
 fn saves_are_the_same_under_plans(rt: HostRuntime) {
-    let left: &[u8] = b"out/ out/part-00000=1\n2\n out/part-00001=3\n4\n out/_SUCCESS= ";
     for plan in PLANS {
-        let row = Row::planned(&rt, TWO, plan.as_bytes());
-        assert_saved(&rt, row, ("", left), plan);
+        for executors in ["2", "4", "64"] {
+            assert_planned(&rt, plan, executors);
+        }
     }
 }

@@ -8,25 +8,43 @@ use crate::histories::assert_runs;
 const JOBS: &str = r#"==== each job tells its tasks and their reports
 collect c
 count c
--- words
+-- words --executors=1
 -- end
 (b,2)
 (a,1)
 2
 -- history
-driver take: task 0.0.0.0, epoch 0
-driver post 0.0.0.0 map at 0@0: registered
-driver take: task 0.0.1.0, epoch 0
-driver post 0.0.1.0 map at 1@0: registered
-driver take: task 1.0.0.0, epoch 0, from 0@0 1@0
-driver post 1.0.0.0 result: finished
-driver take: task 1.0.1.0, epoch 0, from 0@0 1@0
-driver post 1.0.1.0 result: finished
+0 take: task 0.0.0.0, epoch 0
+0 post 0.0.0.0 map at 0@0: registered
+0 take: task 0.0.1.0, epoch 0
+0 post 0.0.1.0 map at 0@0: registered
+0 take: task 1.0.0.0, epoch 0, from 0@0 0@0
+0 post 1.0.0.0 result: finished
+0 take: task 1.0.1.0, epoch 0, from 0@0 0@0
+0 post 1.0.1.0 result: finished
+0 take: ended
 
-driver take: task 2.0.0.0, epoch 0, from 0@0 1@0
-driver post 2.0.0.0 result: finished
-driver take: task 2.0.1.0, epoch 0, from 0@0 1@0
-driver post 2.0.1.0 result: finished
+0 take: task 2.0.0.0, epoch 0, from 0@0 0@0
+0 post 2.0.0.0 result: finished
+0 take: task 2.0.1.0, epoch 0, from 0@0 0@0
+0 post 2.0.1.0 result: finished
+0 take: ended
+==== the time is entered before a task is asked for, where slow ones get copies
+l = parallelize 2 1 2
+collect l
+-- words --executors=1 --speculation
+-- end
+1
+2
+-- history
+0 tick 0: ticked
+0 take: task 0.0.0.0, epoch 0
+0 post 0.0.0.0 result: finished
+0 tick 0: ticked
+0 take: task 0.0.1.0, epoch 0
+0 post 0.0.1.0 result: finished
+0 tick 0: ignored
+0 take: ended
 ==== the bounds of a sort are found once by a job
 l = parallelize 2 9 2 1 3 2
 p = map l (pair x 0)

@@ -8,7 +8,8 @@ use sc_words::{Command, Workload, read_words};
 use std::process::Abort;
 
 /// What words ask for: the script, how many executors, failures of a task, attempts of a stage and
-/// blocks of cached nodes there may be, and the plan, or seed and size of a workload.
+/// blocks of cached nodes there may be, whether a slow task may get a second copy, and the plan, or
+/// seed and size of a workload.
 fn asked<R: Abort + AllocGlobal>(rt: &R, words: &[&str]) -> String {
     let alloc = rt.alloc();
     let words = words_of(alloc, words).expect(rt, "memory");
@@ -28,22 +29,27 @@ fn told<R: Abort + AllocGlobal>(rt: &R, command: &Command) -> String {
     let failures = command.limits.task_failures;
     let attempts = command.limits.stage_attempts;
     let cache = command.limits.cache;
+    let copies = if command.limits.speculation {
+        " copies"
+    } else {
+        ""
+    };
     if let Some(Workload { seed, size }) = command.workload {
-        return format!(in rt.alloc(); "{script} {executors} from {seed} lines {size}").expect(
-            rt, "memory",
-        );
+        return format!(in rt.alloc();
+            "{script} {executors}{copies} from {seed} lines {size}"
+        ).expect(rt, "memory");
     }
     let plan = match &command.plan {
         Some(name) => name.as_str(),
         None => "(no plan)",
     };
-    format!(in rt.alloc(); "{script} {executors} {failures} {attempts} {cache} {plan}").expect(
-        rt, "memory",
-    )
+    format!(in rt.alloc();
+        "{script} {executors} {failures} {attempts} {cache}{copies} {plan}"
+    ).expect(rt, "memory")
 }
 
 /// Words that are a command, and what they ask for.
-const COMMANDS: [(&[&str], &str); 30] = [
+const COMMANDS: [(&[&str], &str); 36] = [
     (&["run", "a.spark"], "a.spark 2 4 4 64 (no plan)"),
     (
         &["run", "--executors", "3", "a.spark"],
@@ -129,6 +135,30 @@ const COMMANDS: [(&[&str], &str); 30] = [
     (
         &["run", "a.spark", "--plan=--plan"],
         "a.spark 2 4 4 64 --plan",
+    ),
+    (
+        &["run", "a.spark", "--speculation"],
+        "a.spark 2 4 4 64 copies (no plan)",
+    ),
+    (
+        &["run", "--speculation", "a.spark"],
+        "a.spark 2 4 4 64 copies (no plan)",
+    ),
+    (
+        &["run", "--cache=7", "--speculation", "--", "a.spark"],
+        "a.spark 2 4 4 7 copies (no plan)",
+    ),
+    (
+        &["run", "--plan=p.txt", "a.spark", "--speculation"],
+        "a.spark 2 4 4 64 copies p.txt",
+    ),
+    (
+        &["run", "a.spark", "--plan=--speculation"],
+        "a.spark 2 4 4 64 --speculation",
+    ),
+    (
+        &["run", "--", "--speculation"],
+        "--speculation 2 4 4 64 (no plan)",
     ),
     (&["run", ""], " 2 4 4 64 (no plan)"),
     (&["run", "-"], "- 2 4 4 64 (no plan)"),

@@ -46,7 +46,7 @@ collect c
 
 /// A world, and the files of its job.
 #[derive(Drop)]
-struct Going<W: Naming, F: Files> {
+pub struct Going<W: Naming, F: Files> {
     world: World<W>,
     output: Output<F>,
 }
@@ -64,8 +64,17 @@ impl<W: Naming, F: Files> Model for Going<W, F> {
     ghost invariant = { λ g. OutputStands W.work g.world F.state g.output };
 }
 
+impl<W: Naming, F: Files> Going<W, F> {
+    /// The desk, and the files of its job.
+    pub fn into_parts(self) -> (Desk<W>, Output<F>) {
+        let Going { world, output } = self;
+        let (desk, _) = world.into_parts();
+        (desk, output)
+    }
+}
+
 /// The world of the first action of a work, which reads no sort, and the files of its job.
-fn world_of<W: Naming, F: Files, R: Abort + AllocGlobal>(
+pub fn world_of<W: Naming, F: Files, R: Abort + AllocGlobal>(
     rt: &R,
     work: Work,
     files: F,
@@ -85,7 +94,7 @@ fn world_of<W: Naming, F: Files, R: Abort + AllocGlobal>(
 }
 
 /// The files of the job of the first action: where that saves, its directory is made.
-fn output_of<W: Naming, F: Files, R: Abort + AllocGlobal>(
+pub fn output_of<W: Naming, F: Files, R: Abort + AllocGlobal>(
     rt: &R,
     work: &SharedWork<W>,
     files: F,
@@ -187,6 +196,10 @@ fn step_of(words: &str, numbers: &[u32]) -> Step {
         Step::Post { exec }
     } else if words.starts_with("lose ") {
         Step::TellLost { exec }
+    } else if words.starts_with("tick ") {
+        Step::Tick {
+            now: u64::from(exec),
+        }
     } else {
         Step::Wipe(Order {
             exec,
@@ -256,7 +269,7 @@ fn answers_of<W: Naming, R: Abort + AllocGlobal>(rt: &R, work: Work, lines: Stri
 }
 
 /// The lines as they are answered, one after the other.
-fn replayed<W: Naming, F: Files, R: Abort + AllocGlobal>(
+pub fn replayed<W: Naming, F: Files, R: Abort + AllocGlobal>(
     rt: &R,
     going: &mut Going<W, F>,
     lines: &str,

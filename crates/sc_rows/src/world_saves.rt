@@ -3,7 +3,18 @@
 //! A case has one more word, a plan, and the steps with their answers; behind them what stands.
 #![tactic(auto)]
 
-use crate::world_lines::assert_world_of;
+ghost use Rattle.std.specs.Prelude.{◌≡◌};
+
+use crate::files::standing;
+use crate::works::work_of;
+use crate::world_lines::{assert_world_of, replayed, world_of};
+use sc_desk::{Desk, Passed, Taken};
+use sc_files::MemFiles;
+use sc_ids::Mark;
+use sc_lineage::Work;
+use sc_work::Naming;
+use std::marker::Brand;
+use std::process::Abort;
 
 /// A line that is saved.
 const SAVE: &str = r#"
@@ -63,11 +74,112 @@ out/ out/_temporary/ out/_temporary/s-0-0-0-0=a
  out/_temporary/c-0-0-0-1=a
  "#;
 
-#[test]
-fn worlds_of_saves_go_as_their_steps_say(rt: HostRuntime) {
-    for case in SAVES.split("==== ") {
+/// Two lines that are saved to two parts.
+const SAVE_TWO: &str = r#"
+l = text "in.txt" 2
+save l "out"
+"#;
+
+const COPIES: &str =
+    r#"==== a slow attempt is denied by its copy, which asks first, and its part is not committed
+--executors=2 --speculation
+----
+tick 0: driver tick 0: ticked
+take 0: driver take: task 0.0.0.0, epoch 0
+take 1: driver take: task 0.0.1.0, epoch 0
+compute 1: done
+stage 1: driver stage 0.0.1.0: staged
+ask 1: driver ask 0.0.1.0: granted
+move 1: driver move 0.0.1.0: moved
+post 1: driver post 0.0.1.0 result: finished
+tick 100: driver tick 100: ticked
+take 1: driver take: wait for 0.0.0.0
+tick 50: driver tick 50: ticked
+take 1: driver take: wait for 0.0.0.0
+tick 101: driver tick 101: ticked
+take 1: driver take: task 0.0.0.1, epoch 0
+compute 0: done
+compute 1: done
+stage 0: driver stage 0.0.0.0: staged
+stage 1: driver stage 0.0.0.1: staged
+ask 1: driver ask 0.0.0.1: granted
+ask 0: driver ask 0.0.0.0: denied by 0.0.0.1
+move 0: not enabled
+move 1: driver move 0.0.0.1: moved
+post 0: driver post 0.0.0.0 failed: denied: again
+take 0: driver take: wait for 0.0.0.1
+post 1: driver post 0.0.0.1 result: finished
+tick 500: driver tick 500: ignored
+take 0: driver take: ended
+----
+out/ out/_temporary/ out/_temporary/c-0-0-1-0=b
+ out/_temporary/s-0-0-0-0=a
+ out/_temporary/c-0-0-0-1=a
+ "#;
+
+/// Sees that each case of a table holds of the world of a script that saves, over this text.
+fn assert_worlds<R: Abort + AllocGlobal>(rt: &R, script: &str, input: &str, table: &str) {
+    for case in table.split("==== ") {
         if !case.is_empty() {
-            assert_world_of(&rt, SAVE, "a\n", case);
+            assert_world_of(rt, script, input, case);
         }
     }
+}
+
+#[test]
+fn worlds_of_saves_go_as_their_steps_say(rt: HostRuntime) {
+    assert_worlds(&rt, SAVE, "a\n", SAVES);
+    assert_worlds(&rt, SAVE_TWO, "a\nb\n", COPIES);
+}
+
+/// Three lines in three parts, of which one is staged when the job is given up.
+const STAGED: &str = "take 0: driver take: task 0.0.0.0, epoch 0\ncompute 0: done\n\
+    stage 0: driver stage 0.0.0.0: staged\n";
+
+/// What stands behind that: nothing of it is committed. And with what the job begins again.
+const AGAIN: &str = "2 entries, then 0\n\
+    out/ out/_temporary/ out/_temporary/s-0-0-0-0=1\n task 0.0.0.0 of 1 entry\n";
+
+/// The desk of a job behind these steps, given up, at which the job begins again; and what stands.
+fn again<W: Naming, R: Abort + AllocGlobal>(rt: &R, work: Work, told: &mut String) -> Desk<W>
+    requires { work ≡ W.work }
+{
+    let mut going = world_of::<W, MemFiles, R>(rt, work, MemFiles::new(rt.alloc()));
+    let seen = replayed(rt, &mut going, STAGED);
+    assert_eq!(rt; seen.as_str(), STAGED);
+    let (desk, output) = going.into_parts();
+    let work = desk.work();
+    work.is_named();
+    work.get().is_sound();
+    let passed = Passed::first(rt.alloc(), work.get()).expect(rt, "memory");
+    let again = desk.again(rt.alloc(), None, passed.ordered);
+    let desk = again.begun.ok().expect(rt, "memory");
+    let (before, now) = (again.history.entries.len(), desk.entries().len());
+    writeln!(told, "{before} entries, then {now}").expect(rt, "memory");
+    let stands = String::from_utf8(standing(rt, &output.close())).ok();
+    told.push_str(stands.expect(rt, "a text").as_str())
+        .expect(rt, "memory");
+    desk
+}
+
+/// What the first executor gets at the desk of a job that begins again.
+fn told_again<W: Naming, R: Abort + AllocGlobal>(rt: &R, work: Work) -> String
+    requires { work ≡ W.work }
+{
+    let mut told = String::new(rt.alloc());
+    let mut desk = again::<W, R>(rt, work, &mut told);
+    let Taken::Task(task) = desk.take(Mark::Driver, 0).expect(rt, "memory") else {
+        panic!(rt; "no task")
+    };
+    let (attempt, now) = (task.attempt(), desk.entries().len());
+    writeln!(told, "task {attempt} of {now} entry").expect(rt, "memory");
+    told
+}
+
+#[test]
+fn what_was_staged_is_left_where_a_job_begins_again(rt: HostRuntime) {
+    let script = "l = parallelize 3 1 2 3 4 5\nsave l \"out\"\n";
+    let work = work_of(&rt, script, "", "", "");
+    let told = told_again::<Brand, HostRuntime>(&rt, work);
+    assert_eq!(&rt; told.as_str(), AGAIN);
 }

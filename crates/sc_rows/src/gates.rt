@@ -1,0 +1,162 @@
+//! Gates that keep an attempt back, and what the others do meanwhile.
+#![tactic(auto)]
+
+use crate::given::{Row, STILL, Seen};
+use sc_core::{Answer, Event, JobHistory};
+use sc_exec::Gate;
+use sc_ids::{AttemptId, ExecId};
+use sc_logs::{ExecLog, agree};
+use std::alloc::Global;
+use std::process::Abort;
+use std::sync::{Mutex, Wait};
+use std::thread;
+
+/// How often an attempt that is kept back looks whether it may go, at most: where no threads can be
+/// had nobody else enters meanwhile.
+const TURNS: u32 = 10_000_000;
+
+/// The first attempt of the first task.
+const FIRST: AttemptId = AttemptId {
+    stage: 0,
+    stage_attempt: 0,
+    partition: 0,
+    nth: 0,
+};
+
+/// Which attempt a gate keeps back.
+#[derive(Clone, Copy, Debug, PartialEq, Eq)]
+pub enum Kept {
+    /// The first that enters.
+    First,
+    /// The first of the first task.
+    FirstTask,
+}
+
+/// A gate that keeps an attempt back until so many have entered, itself among them, for so many
+/// turns at most, and writes down who entered.
+#[derive(Drop)]
+pub struct Keeper {
+    kept: Kept,
+    until: usize,
+    entered: Mutex<Vec<(ExecId, AttemptId)>>,
+}
+
+impl Keeper {
+    /// One that nobody has entered.
+    pub fn new(alloc: Global, kept: Kept, until: usize) -> Keeper {
+        Keeper {
+            kept,
+            until,
+            entered: Mutex::new(Vec::new(alloc)),
+        }
+    }
+
+    /// Writes down that an executor enters with an attempt, and tells how many did before.
+    fn note<R: Wait>(&self, rt: &R, exec: ExecId, attempt: AttemptId) -> usize {
+        let mut entered = self.entered.lock(rt);
+        let before = entered.len();
+        let _ = entered.push((exec, attempt));
+        before
+    }
+
+    /// Whether an attempt is kept back, before which so many entered.
+    fn keeps(&self, before: usize, attempt: AttemptId) -> bool {
+        match self.kept {
+            Kept::First => before == 0,
+            Kept::FirstTask => attempt == FIRST,
+        }
+    }
+
+    /// Whether so many have entered that whoever is kept back may go.
+    fn is_open<R: Wait>(&self, rt: &R) -> bool {
+        self.entered.lock(rt).len() >= self.until
+    }
+
+    /// Who entered, in order.
+    fn into_entered(self) -> Vec<(ExecId, AttemptId)> {
+        let Keeper { entered, .. } = self;
+        entered.into_inner()
+    }
+}
+
+impl Gate for Keeper {
+    fn enter<R: Wait>(&self, rt: &R, exec: ExecId, attempt: AttemptId) {
+        let before = self.note(rt, exec, attempt);
+        if !self.keeps(before, attempt) {
+            return;
+        }
+        for _ in 0..TURNS {
+            if self.is_open(rt) {
+                return;
+            }
+            thread::yield_now();
+        }
+    }
+}
+
+/// The attempts that an executor entered with, in order.
+fn entered_by<R: Abort + AllocGlobal>(
+    rt: &R,
+    entered: &[(ExecId, AttemptId)],
+    exec: ExecId,
+) -> String {
+    let mut out = String::new(rt.alloc());
+    for (by, attempt) in entered {
+        if *by == exec {
+            writeln!(out, "{attempt}").expect(rt, "memory");
+        }
+    }
+    out
+}
+
+/// The attempts that an executor was handed, in order.
+fn handed_to<R: Abort + AllocGlobal>(rt: &R, log: &ExecLog) -> String {
+    let mut out = String::new(rt.alloc());
+    for entry in &log.entries {
+        if let (Event::Take { .. }, Answer::Task(hand_out)) = (&entry.event, &entry.answer) {
+            let attempt = hand_out.attempt();
+            writeln!(out, "{attempt}").expect(rt, "memory");
+        }
+    }
+    out
+}
+
+/// Sees that each executor of the only job was handed what it entered with: the first that entered
+/// one task, and the other one three.
+fn assert_divided<R: Abort + AllocGlobal>(rt: &R, seen: &Seen, entered: &[(ExecId, AttemptId)]) {
+    let logs = seen.logs();
+    assert_eq!(rt; logs.len(), 1);
+    assert_eq!(rt; entered.len(), 4);
+    for log in &logs[0] {
+        let handed = handed_to(rt, log);
+        let tasks = if log.exec == entered[0].0 { 1 } else { 3 };
+        assert_eq!(rt; handed.as_str().lines().count(), tasks);
+        assert_eq!(rt; handed.as_str(), entered_by(rt, entered, log.exec).as_str());
+    }
+}
+
+/// Sees that logs agree with the history of their job, and not where an entry of one is exchanged
+/// with one of the other.
+fn assert_exchanged<R: Abort>(rt: &R, history: &JobHistory, logs: &mut Vec<ExecLog>) {
+    assert!(rt; agree(history, logs.as_slice()));
+    assert_eq!(rt; logs.len(), 2);
+    let one = logs[0].entries.pop().expect(rt, "an entry");
+    let other = logs[1].entries.pop().expect(rt, "an entry");
+    logs[0].entries.push(other).expect(rt, "memory");
+    logs[1].entries.push(one).expect(rt, "memory");
+    assert!(rt; !agree(history, logs.as_slice()));
+}
+
+#[test]
+fn an_executor_that_is_kept_leaves_its_tasks_to_the_other(rt: HostRuntime) {
+    let gate = Keeper::new(rt.alloc(), Kept::First, 4);
+    let row = Row::of(&rt, "l = parallelize 4 1 2 3 4\ncollect l\n");
+    let seen = row.run_by(&rt, &gate, STILL);
+    let all = seen.all().expect(&rt, "memory");
+    assert_eq!(&rt; all.as_str(), "1\n2\n3\n4\n");
+    assert_eq!(&rt; seen.given_up(), 0);
+    assert_divided(&rt, &seen, gate.into_entered().as_slice());
+    let (histories, mut logs) = seen.into_logs();
+    assert!(&rt; histories.len() == 1 && logs.len() == 1);
+    assert_exchanged(&rt, &histories[0], &mut logs[0]);
+}
