@@ -108,6 +108,6 @@ if command -v python3 >/dev/null 2>&1; then
   python3 "$top/tools/check_guide.py" || result=1
   python3 "$top/tools/check_cases.py" || result=1
 else
-  echo "skipped: tools/check_guide.py, tools/check_cases.py (no python3)"
+  echo "skipped: the checks of tools/ that are written in Python (no python3)"
 fi
 exit $result

@@ -38,7 +38,14 @@ PLAN_FAULTS = (
     ("lose 0 5 4", "Limit"),
     ("fail 0 0 1000001", "Limit"),
 )
-BAD_WORDS = (("--executors", "65"), ("--executors=0",), ("--cache", "0"), ("--task-failures=x",))
+BAD_WORDS = (
+    ("--executors", "65"),
+    ("--executors=0",),
+    ("--cache", "0"),
+    ("--task-failures=x",),
+    ("--speculation=x",),
+    ("--speculation", "--speculation"),
+)
 
 
 @dataclass
@@ -173,6 +180,8 @@ def random_case(seed: int) -> Case:
         if number != usual[name] or rng.random() < 0.1:
             joint = rng.random() < 0.3
             case.words += [f"--{name}={number}"] if joint else [f"--{name}", str(number)]
+    if rng.random() < 0.2:
+        case.words.append("--speculation")
     if case.plan or rng.random() < 0.2:
         case.files["plan.txt"] = plan_text(rng, case.plan).encode()
         case.words += ["--plan", "plan.txt"]
