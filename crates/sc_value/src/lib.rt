@@ -35,7 +35,7 @@ pub use cuts::cut_in;
 pub use held::{Held, kept_items, picked_items};
 pub use keys::{Key, keys_are_ordered, order};
 pub use laws::{laws_of_lines, laws_of_numbers, laws_of_words};
-pub use line_ends::{NotText, lines};
+pub use line_ends::{NotText, line_spans, lines};
 pub use name::Name;
 pub use numbers::{NumberFault, is_digits, is_number, parse_int};
 pub use octets::Octets;
