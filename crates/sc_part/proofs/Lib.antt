@@ -5,3 +5,4 @@ pub mod FrontLemmas
 pub mod PairLemmas
 pub mod BoundLemmas
 mod RangeLemmas
+mod SelectLemmas

@@ -16,6 +16,7 @@ mod ends;
 mod fronts;
 mod laws;
 mod ranges;
+mod selecting;
 mod sorting;
 
 pub use ends::{bounds_of_ints, bounds_of_keys, bounds_of_texts};
