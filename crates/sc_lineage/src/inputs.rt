@@ -1,14 +1,11 @@
 //! Inputs.
 #![tactic(auto)]
 
-ghost use Rattle.std.specs.Prelude.{◌≡◌, Err, IfOk};
-ghost use Rattle.sc_base.specs.declared.refusals.OrMemory.TheVariants.{Fault};
+ghost use Rattle.std.specs.Prelude.{◌≡◌};
 ghost use Rattle.std.specs.Str.{IsUtf8};
-ghost use Rattle.sc_value.specs.Lines.{not_text, text_lines};
+ghost use Rattle.sc_value.specs.Lines.{text_lines};
 
-use sc_base::OrMemory;
-use sc_value::{Name, NotText, Octets, Texts, lines};
-use std::alloc::Global;
+use sc_value::{Name, Octets, Texts};
 use std::marker::Model;
 
 /// A text that a script reads, with its lines, which are found once.
@@ -34,18 +31,13 @@ impl Model for Input {
 }
 
 impl Input {
-    /// An input of these bytes.
-    ///
-    /// # Errors
-    ///
-    /// `NotText` exactly where the bytes aren't UTF-8, unless memory runs out.
-    pub fn new(alloc: Global, name: Name, bytes: Octets) -> Result<Input, OrMemory<NotText>>
-        ensures input { IfOk result (λ i. i ≡ (name, bytes)) }
-        ensures text { IfOk result (λ i. IsUtf8 bytes) }
-        ensures not_text { result ≡ Err (Fault not_text) → ¬ (IsUtf8 bytes) }
+    /// An input of these bytes, which are text, with its lines.
+    pub fn new(name: Name, bytes: Octets, lines: Texts) -> Input
+        requires lines { lines ≡ text_lines bytes }
+        requires text { IsUtf8 bytes }
+        ensures { result ≡ (name, bytes) }
     {
-        let lines = lines(alloc, &bytes)?;
-        Ok(Input { name, bytes, lines })
+        Input { name, bytes, lines }
     }
 
     /// The name under which the script reads it.
