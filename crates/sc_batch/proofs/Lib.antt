@@ -5,6 +5,8 @@ pub mod ArgumentLemmas
 pub mod ChoiceLemmas
 pub mod ValueLemmas
 pub mod NumberLemmas
+pub mod PlaceLemmas
+pub mod DivisorLemmas
 pub mod TextLemmas
 pub mod ListLemmas
 pub mod WordLemmas

@@ -1,7 +1,7 @@
 -- Columns of items of one type, and what heads make of two numbers.
-use Rattle.std.specs.Prelude.{ℤ, pos, Bool, true, false, ◌||◌, List, Option, Some, None, Ok, Err, int_lt, replicate}
+use Rattle.std.specs.Prelude.{ℤ, pos, Bool, true, false, ◌||◌, List, Option, Some, None, Ok, Err, int_lt, int_rem, replicate}
 use Rattle.std.specs.Ordering.{int_eq}
-use Rattle.std.specs.Int.{w64, int_wrapping_add, int_wrapping_sub, int_wrapping_mul}
+use Rattle.std.specs.Int.{w64, int_wrapping_add, int_wrapping_sub, int_wrapping_mul, int_wrapping_div}
 use Rattle.sc_value.specs.Datum.{number}
 use Rattle.sc_expr.specs.Heads.{Outcome, quotient, remainder}
 use Rattle.sc_expr.specs.declared.exprs.Head.{Head}
@@ -33,6 +33,11 @@ int_test h m n = false
 abbrev pub division : Bool → ℤ → ℤ → Outcome
 division true m n = remainder m n
 division false m n = quotient m n
+
+-- the remainder of two numbers or else their quotient, where the second isn't zero
+unfoldable pub divided : Bool → ℤ → ℤ → ℤ
+divided true m n = int_rem m n
+divided false m n = int_wrapping_div w64 m n
 
 -- a number, or the raise of a division by zero
 abbrev pub divided_outcome : Option ℤ → Outcome

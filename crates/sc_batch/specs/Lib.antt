@@ -2,6 +2,7 @@ pub mod Outcomes
 pub mod Made
 pub mod Choices
 pub mod Items
+pub mod Divisors
 pub mod Texts
 pub mod Cuts
 pub mod Lists

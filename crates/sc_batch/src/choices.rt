@@ -39,7 +39,7 @@ fn each_mark(alloc: Global, rows: &Rows) -> Result<Vec<bool>, AllocError>
 }
 
 /// The truth value that a value is, or else false.
-fn truth_in(value: &Value) -> bool
+pub(crate) fn truth_in(value: &Value) -> bool
     ensures { result ≡ truth_of (datum_of value.now) }
 {
     match value {

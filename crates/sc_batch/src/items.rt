@@ -1,7 +1,7 @@
 //! Columns of numbers and of truth values.
 #![tactic(auto)]
 
-ghost use Rattle.std.specs.Prelude.{◌≡◌, ◌<◌, IfOk, IfSome, Some, length, map, slice_get};
+ghost use Rattle.std.specs.Prelude.{◌≡◌, ◌<◌, ◌≤◌, IfOk, IfSome, Some, length, map, slice_get, take};
 ghost use Rattle.sc_value.specs.Datum.{number, truth};
 ghost use Rattle.sc_value.specs.Views.{datum_of};
 ghost use Rattle.sc_batch.specs.Items.{list_in};
@@ -94,6 +94,19 @@ impl<T: Copy> Items<'_, T> {
         match self {
             Items::Each(all) => item_at(all, i),
             Items::Same(item, _) => *item,
+        }
+    }
+}
+
+impl Items<'_, i64> {
+    /// The first so many numbers, written out.
+    pub(crate) fn first(self, alloc: Global, count: usize) -> Result<Vec<i64>, AllocError>
+        requires { count ≤ length (list_in self) }
+        ensures { IfOk result (λ v. v.items ≡ take count (list_in self.entry)) }
+    {
+        match self {
+            Items::Each(all) => Ok(Vec::from_slice(alloc, &all[..count])?),
+            Items::Same(item, _) => Ok(vec![in alloc; *item; count]?),
         }
     }
 }

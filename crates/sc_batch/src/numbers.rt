@@ -1,12 +1,15 @@
 //! Heads over columns of numbers.
 #![tactic(auto)]
 
-ghost use Rattle.std.specs.Prelude.{◌≡◌, IfOk, IfSome, map};
+ghost use Rattle.std.specs.Prelude.{◌≡◌, ◌≤◌, pos, IfOk, IfSome, length, map, take};
 ghost use Rattle.sc_value.specs.Datum.{number, truth};
 ghost use Rattle.sc_columns.specs.Columns.{zip_with};
-ghost use Rattle.sc_batch.specs.Items.{divided_outcome, division, int_test, int_value, list_in};
+ghost use Rattle.sc_batch.specs.Divisors.{IsDivisor};
+ghost use Rattle.sc_batch.specs.Items.{divided, divided_outcome, division, int_test, int_value, list_in};
 ghost use Rattle.sc_batch.specs.Outcomes.{of_two, until_raise};
 
+use crate::divisors::{Divisor, divide_each, divisor_of};
+use crate::in_place::put_beside;
 use crate::items::{Items, ints, truths};
 use sc_expr::{Head, Raise};
 use sc_lineage::Stream;
@@ -50,11 +53,28 @@ fn arithmetic(
       raise = end;
     }) }
 {
-    let count = m.len().min(n.len());
-    let mut out = Vec::with_capacity(alloc, count)?;
-    for i in 0..count {
-        out.push(value_of(head, m.at(i), n.at(i)))?;
-    }
+    put_together(alloc, head, m, n, m.len().min(n.len()), end)
+}
+
+/// The numbers of a head that never raises, where there are so many on both sides.
+fn put_together(
+    alloc: Global,
+    head: Head,
+    m: Items<'_, i64>,
+    n: Items<'_, i64>,
+    count: usize,
+    end: Option<Raise>,
+) -> Result<Stream, AllocError>
+    requires within { count ≤ length (list_in m) }
+    requires beside { count ≤ length (list_in n) }
+    ensures { IfOk result (λ s. s ≡ record {
+      rows = map number
+          (zip_with (int_value head) (take count (list_in m.entry)) (list_in n.entry));
+      raise = end;
+    }) }
+{
+    let mut out = m.first(alloc, count)?;
+    put_beside(head, out.as_mut_slice(), n);
     ints(alloc, out, end)
 }
 
@@ -91,29 +111,56 @@ fn divisions(
     ensures { IfOk result (λ s. s
         ≡ until_raise (zip_with (division rest) (list_in m.entry) (list_in n.entry)) end) }
 {
+    match n {
+        Items::Same(number, _) => match divisor_of(*number) {
+            Some(by) => quotients(alloc, rest, m, by, m.len().min(n.len()), end),
+            None => each_division(alloc, rest, m, n, end),
+        },
+        Items::Each(_) => each_division(alloc, rest, m, n, end),
+    }
+}
+
+/// The remainders of the first so many numbers by a divisor or else the quotients.
+fn quotients(
+    alloc: Global,
+    rest: bool,
+    m: Items<'_, i64>,
+    by: Divisor,
+    count: usize,
+    end: Option<Raise>,
+) -> Result<Stream, AllocError>
+    requires divisor { IsDivisor by }
+    requires within { count ≤ length (list_in m) }
+    ensures { IfOk result (λ s. s ≡ record {
+      rows = map number (map (λ x. divided rest x (pos by.number)) (take count (list_in m.entry)));
+      raise = end;
+    }) }
+{
+    let mut out = m.first(alloc, count)?;
+    divide_each(rest, out.as_mut_slice(), by);
+    ints(alloc, out, end)
+}
+
+/// The same as [`divisions`], row by row.
+fn each_division(
+    alloc: Global,
+    rest: bool,
+    m: Items<'_, i64>,
+    n: Items<'_, i64>,
+    end: Option<Raise>,
+) -> Result<Stream, AllocError>
+    ensures { IfOk result (λ s. s
+        ≡ until_raise (zip_with (division rest) (list_in m.entry) (list_in n.entry)) end) }
+{
     let count = m.len().min(n.len());
     let mut out = Vec::with_capacity(alloc, count)?;
     for i in 0..count {
-        match divided(rest, m.at(i), n.at(i)) {
+        match quotient_of(rest, m.at(i), n.at(i)) {
             Some(q) => out.push(q)?,
             None => return ints(alloc, out, Some(Raise::DivideByZero)),
         }
     }
     ints(alloc, out, end)
-}
-
-/// The number that a head gives of two numbers.
-#[inline(always)]
-#[tactic(auto, unfolding(crate::specs::Items::int_value))]
-fn value_of(head: Head, m: i64, n: i64) -> i64
-    ensures { result ≡ int_value head m n }
-{
-    match head {
-        Head::Add => m.wrapping_add(n),
-        Head::Sub => m.wrapping_sub(n),
-        Head::Mul => m.wrapping_mul(n),
-        _ => 0,
-    }
 }
 
 /// The truth value that a head gives of two numbers.
@@ -132,7 +179,7 @@ fn test_of(head: Head, m: i64, n: i64) -> bool
 
 /// The remainder of two numbers or else the quotient, unless the divisor is zero.
 #[inline(always)]
-fn divided(rest: bool, m: i64, n: i64) -> Option<i64>
+fn quotient_of(rest: bool, m: i64, n: i64) -> Option<i64>
     ensures { divided_outcome result ≡ division rest m n }
 {
     if n == 0 {
