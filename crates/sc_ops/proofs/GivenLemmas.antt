@@ -89,55 +89,49 @@ joined_streams-append (s ∷ ss) ts =
         ap (with_rows rows) is ∙ with_rows-unless_raised rows first.rows first.raise rest
     behind rows (Some r) first rest whole is = refl
 
--- rows in front of others
-rest_of : (given : Datum → Datum → List Datum) (f : Datum → Outcome) (rows run rest : List Datum)
-    (end : Option Raise)
-    → rows ≡ run ++ rest
-    → each_gives given f rows end
-    ≡ unless_raised (each_gives given f run None).rows (each_gives given f run None).raise
-    (each_gives given f rest end)
-rest_of given f rows run rest end are =
-    ap (λ ds. each_gives given f ds end) are ∙ each_gives-append given f run rest end
-
 raise_or_none : (end : Option Raise) (P : Option Raise → Type 0) → is_some end ≡ false → P None
     → P end
 raise_or_none None P no_raise at = at
 raise_or_none (Some r) P no_raise at = absurd (false≢true (sym no_raise))
-
--- rows in front of others raise nothing
-pub run-more : (given : Datum → Datum → List Datum) (f : Datum → Outcome)
-    (rows run rest out after : List Datum) (end : Option Raise) (s whole : Stream)
-    → rows ≡ run ++ rest → s ≡ each_gives given f run None → is_some s.raise ≡ false
-    → after ≡ out ++ s.rows
-    → whole ≡ with_rows out (each_gives given f rows end)
-    → whole ≡ with_rows after (each_gives given f rest end)
-run-more given f rows run rest out after end s whole are is none added so_far =
-    let behind = each_gives given f rest end in
-    so_far ∙ ap (with_rows out) (rest_of given f rows run rest end are)
-    ∙ ap (λ (t : Stream). with_rows out (unless_raised t.rows t.raise behind)) (sym is)
-    ∙ raise_or_none s.raise (λ o. with_rows out (unless_raised s.rows o behind)
-    ≡ with_rows (out ++ s.rows) behind) none
-    (with_rows-unless_raised out s.rows None behind)
-    ∙ ap (λ ds. with_rows ds behind) (sym added)
 
 raise_stays : (end : Option Raise) (before rows : List Datum) (rest : Stream) → is_some end ≡ true
     → with_rows before (unless_raised rows end rest) ≡ record { rows = before ++ rows; raise = end }
 raise_stays None before rows rest raised = absurd (false≢true raised)
 raise_stays (Some r) before rows rest raised = refl
 
--- rows in front of others raise
-pub run-raised : (given : Datum → Datum → List Datum) (f : Datum → Outcome)
+-- what two runs of rows give is what the first gives, and behind it what the second gives, unless
+-- the first raises
+abbrev pub GivesInRuns : (List Datum → Option Raise → Stream) → Type 0
+GivesInRuns gives = (xs ys : List Datum) (end : Option Raise) → gives (xs ++ ys) end
+    ≡ unless_raised (gives xs None).rows (gives xs None).raise (gives ys end)
+
+-- Rows of which the first run is done.
+module _ (gives : List Datum → Option Raise → Stream) (in_runs : GivesInRuns gives)
     (rows run rest out after : List Datum) (end : Option Raise) (s whole : Stream)
-    → rows ≡ run ++ rest → s ≡ each_gives given f run None → is_some s.raise ≡ true
-    → after ≡ out ++ s.rows
-    → whole ≡ with_rows out (each_gives given f rows end)
-    → record { rows = after; raise = s.raise } ≡ whole
-run-raised given f rows run rest out after end s whole are is some added so_far =
-    let behind = each_gives given f rest end in
-    sym (so_far ∙ ap (with_rows out) (rest_of given f rows run rest end are)
-    ∙ ap (λ (t : Stream). with_rows out (unless_raised t.rows t.raise behind)) (sym is)
-    ∙ raise_stays s.raise out s.rows behind some
-    ∙ ap (λ ds. record { rows = ds; raise = s.raise }) (sym added))
+    (are : rows ≡ run ++ rest) (is : s ≡ gives run None) (added : after ≡ out ++ s.rows)
+    (so_far : whole ≡ with_rows out (gives rows end)) where
+  abbrev pub behind : Stream
+  behind = gives rest end
+
+  both : whole ≡ with_rows out (unless_raised s.rows s.raise behind)
+  both =
+      so_far ∙ ap (with_rows out) (ap (λ ds. gives ds end) are ∙ in_runs run rest end)
+      ∙ ap (λ (t : Stream). with_rows out (unless_raised t.rows t.raise behind)) (sym is)
+
+  -- it raises nothing
+  pub run-more : is_some s.raise ≡ false → whole ≡ with_rows after behind
+  run-more none =
+      both
+      ∙ raise_or_none s.raise (λ o. with_rows out (unless_raised s.rows o behind)
+      ≡ with_rows (out ++ s.rows) behind) none
+      (with_rows-unless_raised out s.rows None behind)
+      ∙ ap (λ ds. with_rows ds behind) (sym added)
+
+  -- it raises
+  pub run-raised : is_some s.raise ≡ true → record { rows = after; raise = s.raise } ≡ whole
+  run-raised some =
+      sym (both ∙ raise_stays s.raise out s.rows behind some
+      ∙ ap (λ ds. record { rows = ds; raise = s.raise }) (sym added))
 
 -- the first half of some streams raises
 pub joined-raised : (ss : List Stream) (i : ℕ) (first : Stream) → first ≡ joined_streams (take i ss)

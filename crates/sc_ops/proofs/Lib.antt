@@ -1,4 +1,5 @@
 pub mod BatchLemmas
+pub mod ChainLemmas
 pub mod FoldLemmas
 pub mod GivenLemmas
 pub mod KindLemmas

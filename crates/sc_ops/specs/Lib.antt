@@ -1,3 +1,4 @@
+pub mod Chains
 pub mod Folds
 pub mod Given
 pub mod Slices

@@ -12,6 +12,7 @@ ghost use Rattle.sc_lineage.specs.declared.nodes.Elementwise.TheVariants.{Filter
 
 use crate::batches::{BATCH_ROWS, RUN_ROWS, batches};
 use crate::keyed::{flat_map_values, map_values};
+use crate::streams::finished;
 use sc_batch::eval_rows;
 use sc_columns::{Rows, RowsBuilder};
 use sc_expr::{Expr, Raise};
@@ -63,18 +64,8 @@ fn is_call(expr: &Expr) -> bool {
     }
 }
 
-/// Rows that are done, with what ended them.
-fn finished(alloc: Global, rows: RowsBuilder, raise: Option<Raise>) -> Result<Stream, AllocError>
-    ensures { IfOk result (λ s. s ≡ record { rows = rows; raise = raise }) }
-{
-    Ok(Stream {
-        rows: rows.finish(alloc)?,
-        raise,
-    })
-}
-
 /// An operation on each row of a batch, which ends with this raise or none.
-fn each_batch(
+pub fn each_batch(
     alloc: Global,
     kind: Elementwise,
     expr: &Expr,

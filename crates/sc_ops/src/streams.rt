@@ -1,10 +1,10 @@
-//! Streams that nothing is done with.
+//! Streams that nothing is done with any more.
 #![tactic(auto)]
 
 ghost use Rattle.std.specs.Prelude.{◌≡◌, IfOk};
 ghost use Rattle.sc_lineage.specs.Streams.{ended_stream};
 
-use sc_columns::Rows;
+use sc_columns::{Rows, RowsBuilder};
 use sc_expr::Raise;
 use sc_lineage::Stream;
 use std::alloc::{AllocError, Global};
@@ -25,6 +25,20 @@ pub fn ended(alloc: Global, raise: Option<Raise>) -> Result<Stream, AllocError>
 {
     Ok(Stream {
         rows: Rows::of(alloc, Vec::new(alloc))?,
+        raise,
+    })
+}
+
+/// Rows that are done, with what ended them.
+pub fn finished(
+    alloc: Global,
+    rows: RowsBuilder,
+    raise: Option<Raise>,
+) -> Result<Stream, AllocError>
+    ensures { IfOk result (λ s. s ≡ record { rows = rows; raise = raise }) }
+{
+    Ok(Stream {
+        rows: rows.finish(alloc)?,
         raise,
     })
 }
