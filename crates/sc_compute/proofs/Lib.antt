@@ -18,3 +18,4 @@ pub mod SettleLemmas
 pub mod ResultLemmas
 pub mod AskingLemmas
 pub mod AsksLemmas
+pub mod ChainLemmas

@@ -5,7 +5,7 @@ use Rattle.std.proofs.lemmas.List.Elements.{All-append, All-cons, All-contains, 
 use Rattle.sc_lineage.specs.Dependencies.{PlaceData, place}
 use Rattle.sc_lineage.specs.ScriptData.{WorkData}
 use Rattle.sc_compute.specs.Keeping.{Keeps, Lessens, is_kept, is_known}
-use Rattle.sc_compute.specs.Needs.{AreFresh, AreNoted, HasFresh, IsFresh, KeepsNone, KnowsJust, LeadsPast, MayBeNoted, Notes, NotesOne, is_among, is_place, places_in, places_known, places_noted}
+use Rattle.sc_compute.specs.Needs.{AreFresh, AreNoted, HasFresh, IsFresh, KeepsNone, KnowsJust, LeadsPast, MayBeNoted, Notes, NotesOne, NotesReads, is_among, is_place, places_in, places_known, places_noted}
 use Rattle.sc_compute.specs.Reading.{direct_reads}
 use Rattle.sc_compute.specs.declared.caching.Caching.{Caching}
 use Rattle.sc_compute.specs.declared.kept.KeptStreams.{KeptStreams}
@@ -24,7 +24,7 @@ never b is not = absurd (is-not b is not)
     is-not true is not = cc
     is-not false is not = cc
 
-or_none : (a b : Bool) → (a || b) ≡ false → a ≡ false
+pub or_none : (a b : Bool) → (a || b) ≡ false → a ≡ false
 or_none true b is = is
 or_none false b is = refl
 
@@ -81,18 +81,7 @@ all_fresh work known noted after at reads more here p fresh =
           whole = fresh.whole;
         }))
 
--- what was noted since a partition is computed, of which some reads were computed
-pub record SoFar (work : WorkData) (at : PlaceData) (first now : Caching) (reads : List PlaceData)
-    : Type 0 where
-  pub known : now.known.now ≡ first.known.now
-  pub kept : (p : PlaceData) → is_among (places_noted first) p ≡ true
-      → is_among (places_noted now) p ≡ true
-  pub all : All (HasFresh work (places_known first) (places_noted now)) reads
-  pub only : (p : PlaceData) → is_among (places_noted now) p ≡ true
-      → (is_among (places_noted first) p ≡ true)
-      ⊎ IsFresh work (is_among (places_known first)) at p
-
-pub so_far_none : (work : WorkData) (at : PlaceData) (c : Caching) → SoFar work at c c []
+pub so_far_none : (work : WorkData) (at : PlaceData) (c : Caching) → NotesReads work at c c []
 so_far_none work at c = record {
   known = refl;
   kept = λ p is. is;
@@ -102,10 +91,10 @@ so_far_none work at c = record {
 
 -- one more was computed
 pub so_far_more : (work : WorkData) (at : PlaceData) (first now after : Caching)
-    (reads : List PlaceData) (via : PlaceData) → SoFar work at first now reads
+    (reads : List PlaceData) (via : PlaceData) → NotesReads work at first now reads
     → is_among (places_known first) at ≡ false
     → Contains (direct_reads work at.node at.partition) via
-    → Notes work via now after → SoFar work at first after (reads ++ via ∷ [])
+    → Notes work via now after → NotesReads work at first after (reads ++ via ∷ [])
 so_far_more work at first now after reads via far lacks has notes =
     let known = places_known first in
     let same : places_known now ≡ known = ap places_in far.known in
@@ -133,7 +122,7 @@ so_far_more work at first now after reads via far lacks has notes =
 
 -- a partition isn't had itself, all its reads were computed, and it is noted where it may be
 pub so_far_done : (work : WorkData) (at : PlaceData) (first now after : Caching)
-    → SoFar work at first now (direct_reads work at.node at.partition)
+    → NotesReads work at first now (direct_reads work at.node at.partition)
     → is_among (places_known first) at ≡ false
     → NotesOne work at now after → Notes work at first after
 so_far_done work at first now after far lacks one = record {
@@ -192,6 +181,12 @@ module _ (work : WorkData) (kept : KeptStreams) (c : Caching) (noted : AreNoted 
       by (inl known) =
           nothing_fresh work (places_known c) (places_noted c) at (sym (just at) ∙ known)
       by (inr again) = noted at again
+
+-- a partition isn't known
+pub known_among : (kept : KeptStreams) (c : Caching) (at : PlaceData)
+    → KnowsJust kept c.known.now → is_known kept at ≡ false
+    → is_among (places_known c) at ≡ false
+known_among kept c at just not = sym (just at) ∙ not
 
 -- a partition isn't had
 pub lacks_known : (kept : KeptStreams) (c : Caching) (at : PlaceData)

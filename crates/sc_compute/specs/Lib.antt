@@ -9,3 +9,4 @@ pub mod Tasks
 pub mod Caching
 pub mod Needs
 pub mod Asking
+pub mod Chains

@@ -1,7 +1,7 @@
 -- Which partitions are computed for another, and which are only taken, where some are had already.
 use Rattle.std.specs.Prelude.{ℕ, ◌≡◌, ◌⊎◌, ◌↔◌, Bool, true, false, List, [], ◌∷◌, Contains, Option, None, is_some, map}
 use Rattle.std.specs.HashMap.{get}
-use Rattle.std.specs.List.{list_any}
+use Rattle.std.specs.List.{All, list_any}
 use Rattle.sc_value.specs.Datum.{Datum}
 use Rattle.sc_lineage.specs.Dependencies.{PlaceData}
 use Rattle.sc_lineage.specs.Meaning.{local_stream}
@@ -76,6 +76,18 @@ pub record Notes (work : WorkData) (from : PlaceData) (before after : Caching) :
   pub kept : (at : PlaceData) → is_among (places_noted before) at ≡ true
       → is_among (places_noted after) at ≡ true
   pub all : HasFresh work (places_known before) (places_noted after) from
+  pub only : (at : PlaceData) → is_among (places_noted after) at ≡ true
+      → (is_among (places_noted before) at ≡ true)
+      ⊎ IsFresh work (is_among (places_known before)) from at
+
+-- what is noted while a partition is computed, of which some reads were computed: all that is fresh
+-- for these, and nothing but what is fresh for the partition
+pub record NotesReads (work : WorkData) (from : PlaceData) (before after : Caching)
+    (reads : List PlaceData) : Type 0 where
+  pub known : after.known.now ≡ before.known.now
+  pub kept : (at : PlaceData) → is_among (places_noted before) at ≡ true
+      → is_among (places_noted after) at ≡ true
+  pub all : All (HasFresh work (places_known before) (places_noted after)) reads
   pub only : (at : PlaceData) → is_among (places_noted after) at ≡ true
       → (is_among (places_noted before) at ≡ true)
       ⊎ IsFresh work (is_among (places_known before)) from at

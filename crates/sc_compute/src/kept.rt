@@ -1,7 +1,7 @@
 //! Streams that several dependencies read.
 #![tactic(auto)]
 
-ghost use Rattle.std.specs.Prelude.{◌≡◌, ◌||◌, All, IfOk, IfSome, OnOk, is_some, true};
+ghost use Rattle.std.specs.Prelude.{◌≡◌, ◌||◌, All, IfOk, IfSome, IsTrue, OnOk, false, is_some, true};
 ghost use Rattle.std.specs.HashMap.{get};
 ghost use Rattle.sc_lineage.specs.Meaning.{local_stream};
 ghost use Rattle.sc_lineage.specs.ScriptData.{WorkData};
@@ -64,6 +64,13 @@ impl KeptStreams {
             || is_kept self.now (place_data_of at)) }
     {
         self.knows(at) || self.streams.contains_key(&(at.node, at.partition))
+    }
+
+    /// Whether a partition is read by one dependency alone, and isn't known.
+    pub fn passes(&self, at: Place) -> bool
+        ensures { IsTrue result → is_known self.now (place_data_of at) ≡ false }
+    {
+        self.readers_of(at.node) < 2 && !self.has(at)
     }
 
     /// Whether the rows of a partition are known.

@@ -10,7 +10,8 @@
 //! `sc_lineage`: a map side by bucket, or the result of a partition. It follows what the partition
 //! reads down to the sources and to what was handed in, computes each partition that is needed
 //! once, and lets a stream go as soon as nothing is left to read it. Streams that several
-//! dependencies read are kept in between.
+//! dependencies read are kept in between. Operations row by row that follow one another, each read
+//! by the next alone, are done batch by batch: no stream is made between them.
 //!
 //! A [`TaskResult`] is what the task of a partition hands over of its result: the rows, for a
 //! `count` their number alone, or of a save, whose rows stand in a part, that it is saved.
@@ -22,6 +23,7 @@
 
 mod asking;
 mod caching;
+mod chains;
 mod counting;
 mod directs;
 mod evaluation;
