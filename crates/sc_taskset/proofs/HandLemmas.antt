@@ -1,14 +1,16 @@
 -- What a hand-out keeps.
-use Rattle.std.proofs.Common.{◌≡◌, ℕ, ◌+◌, ◌<◌, ◌≤◌, Bool, true, false, cond, List, [], ◌∷◌, ◌++◌, length, Option, Some, None, IfSome, refl, sym, ◌∙◌, arith}
-use Rattle.std.specs.List.{find}
+use Rattle.std.proofs.Common.{◌≡◌, ℕ, ◌+◌, ◌*◌, ◌<◌, ◌≤◌, Bool, true, false, cond, List, [], ◌∷◌, ◌++◌, length, Option, Some, None, IfSome, refl, sym, ◌∙◌, arith}
+use Rattle.std.specs.List.{All, find}
 use Rattle.std.specs.Option.{option_map}
 use Rattle.std.proofs.lemmas.List.{length-append}
+use Rattle.std.proofs.lemmas.List.Elements.{All-head, All-tail}
 use Rattle.sc_taskset.specs.declared.rows.Row.{Row}
 use Rattle.sc_taskset.specs.declared.rows.Failure.{Failure}
+use Rattle.sc_taskset.specs.declared.tasks.RunningCopy.{RunningCopy}
 use Rattle.sc_taskset.specs.TaskSetData.{TaskData, TaskSetData}
 use Rattle.sc_taskset.specs.Lookups.{task_at, with_task, is_task_of, is_finished}
 use Rattle.sc_taskset.specs.Offers.{handed, handed_task, may_be_given, running}
-use Rattle.sc_taskset.specs.Sound.{IsSoundTask}
+use Rattle.sc_taskset.specs.Sound.{AreApart, IsSoundTask}
 use Rattle.sc_taskset.specs.Rows.{IsHeld, copies_of, is_row_of, running_count, task_of, tasks_of}
 use Rattle.sc_taskset.proofs.ChangeLemmas.{map_kept, length_kept, tests_kept, all_kept}
 use Rattle.sc_taskset.proofs.OfferLemmas.{joins_given, joins_short}
@@ -74,6 +76,50 @@ held_handed s partition exec now taken' kept' may more longer held =
         );
       };
     }
+
+-- at most two attempts of each task run
+few_run :
+    (tasks : List TaskData) → All IsSoundTask tasks → running_count tasks ≤ 2 * length tasks
+few_run [] sound = omega arith
+few_run (t ∷ tasks) sound =
+    omega (
+      arith,
+      few t.copies (All-head IsSoundTask t tasks sound).apart,
+      few_run tasks (All-tail IsSoundTask t tasks sound),
+    )
+  where
+    few : (copies : List RunningCopy) → AreApart copies → length copies ≤ 2
+    few [] apart = omega arith
+    few (c ∷ []) apart = omega arith
+    few (c ∷ d ∷ []) apart = omega arith
+    few (c ∷ d ∷ e ∷ copies) apart = absurd apart
+
+-- the same where there is room for two attempts of each task
+pub held_roomy :
+    {failed taken timed kept : ℕ} (s : TaskSetData) (partition exec now taken' kept' : ℕ)
+    → may_be_given s exec now partition ≡ true
+    → failed + 2 * length s.tasks ≤ taken' → timed + 2 * length s.tasks ≤ kept'
+    → IsHeld s failed taken timed kept
+    → IsHeld (handed s partition exec now) failed taken' timed kept'
+held_roomy {failed = failed} {taken = taken} {timed = timed} {kept = kept} s partition exec now
+    taken' kept' may more longer held =
+    record {
+      sound = after.sound;
+      room = record {
+        failures_fit = omega (arith, more, few_run tasks after.sound.tasks, many);
+        durations_fit = omega (arith, longer, few_run tasks after.sound.tasks, many);
+      };
+    }
+  where
+    tasks : List TaskData
+    tasks = with_task partition (handed_task exec now) s.tasks
+
+    after : IsHeld (handed s partition exec now) failed (taken + 1) timed (kept + 1)
+    after = held_handed s partition exec now (taken + 1) (kept + 1) may (omega arith)
+        (omega arith) held
+
+    many : length tasks ≡ length s.tasks
+    many = length_kept (is_task_of partition) (handed_task exec now) s.tasks
 
 -- the row of what may be handed out has room
 pub row_room :

@@ -10,4 +10,6 @@ pub mod SuccessLemmas
 pub mod DurationLemmas
 pub mod RoomLemmas
 pub mod TableLemmas
+pub mod FlagLemmas
+pub mod MarkLemmas
 pub mod LawLemmas

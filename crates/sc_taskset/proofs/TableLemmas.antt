@@ -15,7 +15,9 @@ use Rattle.sc_taskset.specs.Offers.{is_pending_task}
 use Rattle.sc_taskset.specs.Rooms.{AreFresh, row_partitions}
 use Rattle.sc_taskset.specs.Rows.{is_row_of, task_of, tasks_of}
 use Rattle.sc_taskset.specs.Sound.{AreRising}
-use Rattle.sc_taskset.specs.Tables.{IsIndexed, NonePendingBelow, is_open_row, is_pending_row}
+use Rattle.sc_taskset.specs.declared.marks.Marks.{Marks}
+use Rattle.sc_taskset.specs.Marks.{AreMarked, MarksFit, is_pending_row}
+use Rattle.sc_taskset.specs.Tables.{IsIndexed, NonePendingBelow, is_open_row}
 use Rattle.sc_taskset.proofs.FindLemmas.{found_passes}
 
 -- ---- counts
@@ -197,6 +199,18 @@ rows_above rows rising i j d lt l =
       get_or-map (λ r. r.partition) rows j d 0 l,
     )
 
+-- where it stands at a place that was guessed
+pub guessed : (rows : List Row) (p place : ℕ) (d : Row) → AreRising (row_partitions rows)
+    → place < length rows → (get_or rows place d).partition ≡ p
+    → place ≡ position_or_len (is_row_of p) rows
+guessed rows p place d rising l here =
+    first_is (is_row_of p) rows place (omega (arith, l))
+    (λ k e m. (let up = rows_above rows rising k place e m l in
+    let same = ap (λ r. r.partition) (get_same rows place e d l) in
+    grind (arith, nat_tests, up, same, here)))
+    (λ e m. (let same = ap (λ r. r.partition) (get_same rows place e d l) in
+    grind (arith, nat_tests, same, here)))
+
 -- or there is none
 pub unsought : (rows : List Row) (p place : ℕ) → AreRising (row_partitions rows)
     → IsParted rows p place
@@ -336,12 +350,15 @@ partitions_seen f rows others keeps is =
     kept (t ∷ ts) = rw (keeps t) (ap (λ ps. t.partition ∷ ps) (kept ts))
 
 -- fresh rows are all open, and the first one is to be handed out
-pub fresh_indexed : (rows : List Row) → AreFresh rows → IsIndexed rows (length rows) 0
-fresh_indexed rows fresh =
+pub fresh_indexed : (rows : List Row) (marks : Marks) → AreFresh rows → AreMarked marks rows
+    → MarksFit marks (length rows) → IsIndexed rows (length rows) 0 marks
+fresh_indexed rows marks fresh marked fit =
     record {
       rising = fresh.rising;
       counted = sym (all rows fresh.fresh);
       first = first rows fresh.fresh;
+      marked = marked;
+      fit = fit;
     }
   where
     all : (xs : List Row) → tasks_of [] xs ≡ map fresh_task (row_partitions xs)

@@ -8,4 +8,6 @@ pub mod Accounting
 pub mod Laws
 pub mod Rows
 pub mod Rooms
+pub mod Flags
+pub mod Marks
 pub mod Tables

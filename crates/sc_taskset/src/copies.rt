@@ -3,6 +3,7 @@
 
 ghost use Rattle.std.specs.Prelude.{◌≡◌, ◌++◌};
 ghost use Rattle.std.specs.Option.{option_to_list};
+ghost use Rattle.sc_taskset.specs.Accounting.{is_single};
 ghost use Rattle.sc_taskset.specs.Lookups.{copy_at, is_one_elsewhere, without_copy, without_exec};
 
 use crate::tasks::RunningCopy;
@@ -27,6 +28,16 @@ pub fn unless_on(copy: Option<RunningCopy>, exec: ExecId) -> Option<RunningCopy>
     ensures { option_to_list result ≡ without_exec exec (option_to_list copy) }
 {
     copy.filter(|c| c.exec != exec)
+}
+
+/// Whether exactly one attempt runs.
+pub fn is_one(first: Option<RunningCopy>, second: Option<RunningCopy>) -> bool
+    ensures { result ≡ is_single (option_to_list first ++ option_to_list second) }
+{
+    match first {
+        None => second.is_some(),
+        Some(_) => second.is_none(),
+    }
 }
 
 /// Whether exactly one attempt runs, on another executor.

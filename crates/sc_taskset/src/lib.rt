@@ -21,7 +21,9 @@
 
 mod changes;
 mod copies;
+mod flags;
 mod laws;
+mod marks;
 mod notes;
 mod paces;
 mod rooms;

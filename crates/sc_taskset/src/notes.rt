@@ -1,7 +1,7 @@
 //! What a set notes down: failures that count, and how long its tasks took.
 #![tactic(auto)]
 
-ghost use Rattle.std.specs.Prelude.{◌≡◌, ◌↔◌, ◌<◌, ◌≤◌, ◌+◌, ◌&&◌, IfSome, OnOk, List, length, true, if◌then◌else◌, nat_le, vec_capacity, vec_len};
+ghost use Rattle.std.specs.Prelude.{◌≡◌, ◌↔◌, ◌<◌, ◌≤◌, ◌+◌, ◌*◌, ◌&&◌, IfSome, OnOk, List, length, true, if◌then◌else◌, nat_le, vec_capacity, vec_len};
 ghost use Rattle.std.specs.List.{filter};
 ghost use Rattle.std.specs.List.Sorted.{IsNonDecreasing};
 ghost use Rattle.std.specs.Option.{option_to_list};
@@ -13,16 +13,16 @@ use crate::scans::failure_count;
 use crate::tasks::Verdict;
 use std::alloc::AllocError;
 
-/// Takes room for one more element beside those that there is room for already.
-pub fn reserve_one<T>(items: &mut Vec<T>) -> Result<(), AllocError>
+/// Takes room for what may come of two attempts of each of so many tasks, where there isn't any. It
+/// is kept for them from the first hand-out on, so later ones move nothing.
+pub fn reserve_for<T>(items: &mut Vec<T>, tasks: usize) -> Result<(), AllocError>
     ensures items { items.new.items ≡ items.old.items }
     ensures kept { vec_capacity items.old ≤ vec_capacity items.new }
     ensures len { vec_len items.new ≡ vec_len items.old }
-    ensures ok { OnOk result (vec_capacity items.old + 1 ≤ vec_capacity items.new) }
+    ensures ok { OnOk result (vec_len items.old + 2 * tasks ≤ vec_capacity items.new) }
 {
-    let spare = items.capacity() - items.len();
-    match spare.checked_add(1) {
-        Some(more) => items.reserve_exact(more),
+    match tasks.checked_mul(2) {
+        Some(attempts) => items.reserve(attempts),
         None => Err(AllocError),
     }
 }

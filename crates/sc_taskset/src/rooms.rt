@@ -7,6 +7,7 @@ ghost use Rattle.sc_taskset.specs.Rooms.{room_of};
 ghost use Rattle.sc_taskset.specs.Sound.{AreRising};
 ghost use Rattle.sc_taskset.specs.TaskSetData.{fresh_set};
 
+use crate::marks::Marks;
 use crate::rows::{Failure, Row};
 use crate::tables::Table;
 use crate::task_sets::TaskSet;
@@ -19,12 +20,14 @@ use std::marker::Model;
 #[derive(Drop)]
 pub struct SetRoom {
     rows: Vec<Row>,
+    marks: Marks,
     failures: Vec<Failure>,
     durations: Vec<u64>,
 }
 
 impl Model for SetRoom {
     ghost use Rattle.std.specs.Prelude.{◌≡◌, ◌-◌, [], vec_capacity, vec_len};
+    ghost use Rattle.sc_taskset.specs.Marks.{AreMarked, MarksFit};
     ghost use Rattle.sc_taskset.specs.Rooms.{AreFresh, RoomData, room_of, row_partitions};
 
     ghost Value = { RoomData };
@@ -33,7 +36,8 @@ impl Model for SetRoom {
         (vec_capacity r.rows - vec_len r.rows) };
 
     ghost invariant = { λ r. AreFresh r.rows.items × (r.failures.items ≡ [])
-        × (r.durations.items ≡ []) };
+        × (r.durations.items ≡ []) × AreMarked r.marks r.rows.items
+        × MarksFit r.marks (vec_capacity r.rows) };
 }
 
 impl SetRoom {
@@ -41,8 +45,11 @@ impl SetRoom {
     pub fn new(alloc: Global, tasks: usize) -> Result<SetRoom, AllocError>
         ensures { IfOk result (λ r. r ≡ room_of [] tasks) }
     {
+        let rows = Vec::with_capacity(alloc, tasks)?;
+        let marks = Marks::new(alloc, tasks)?;
         Ok(SetRoom {
-            rows: Vec::with_capacity(alloc, tasks)?,
+            rows,
+            marks,
             failures: Vec::new(alloc),
             durations: Vec::new(alloc),
         })
@@ -55,7 +62,9 @@ impl SetRoom {
         ensures { self.new
             ≡ room_of (self.old.partitions ++ partition ∷ []) (self.old.spare - 1) }
     {
-        self.rows.push_reserved(Row::new(partition));
+        let row = Row::new(partition);
+        self.marks.put(self.rows.len(), row);
+        self.rows.push_reserved(row);
     }
 
     /// The set of the partitions that were named, of which nothing was handed out. It takes no
@@ -65,7 +74,7 @@ impl SetRoom {
         ensures { result ≡ fresh_set self.partitions is_map limits born }
     {
         TaskSet {
-            rows: Table::new(self.rows),
+            rows: Table::new(self.rows, self.marks),
             failures: self.failures,
             durations: self.durations,
             is_map,

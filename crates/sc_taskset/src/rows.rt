@@ -5,13 +5,14 @@ ghost use Rattle.std.specs.Prelude.{◌≡◌, ◌<◌, ◌+◌, ◌++◌, ◌&&
 ghost use Rattle.std.specs.Option.{option_to_list};
 ghost use Rattle.sc_taskset.specs.declared.rows.Failure.{Failure};
 ghost use Rattle.sc_taskset.specs.Lookups.{copy_at, is_finish, is_finish_on, is_one_elsewhere, is_running, without_copy, without_exec};
+ghost use Rattle.sc_taskset.specs.Marks.{is_single_row};
 ghost use Rattle.sc_taskset.specs.Offers.{handed_task, is_copyable_task, is_pending_task};
 ghost use Rattle.sc_taskset.specs.Paces.{slow_at};
 ghost use Rattle.sc_taskset.specs.Reports.{ended_task, held_task, is_first_success, lost_task, succeeded_task, task_duration};
 ghost use Rattle.sc_taskset.specs.Rows.{copies_of, task_of};
 ghost use Rattle.sc_taskset.specs.TaskSetData.{fresh_task};
 
-use crate::copies::{is_one_elsewhere, nth_of, unless_nth, unless_on};
+use crate::copies::{is_one, is_one_elsewhere, nth_of, unless_nth, unless_on};
 use crate::paces::Pace;
 use crate::tasks::{Finish, RunningCopy};
 use sc_ids::ExecId;
@@ -80,6 +81,13 @@ impl Row {
         ensures { result ≡ is_pending_task (task_of [] self) }
     {
         !self.is_finished() && self.first.is_none() && self.second.is_none() && !self.denied
+    }
+
+    /// Whether one attempt of it runs alone, and a second one may be wanted.
+    pub fn is_single(self) -> bool
+        ensures { result ≡ is_single_row self }
+    {
+        !self.is_finished() && is_one(self.first, self.second) && !self.denied
     }
 
     /// Whether a second attempt may run on an executor, at a pace of its set.

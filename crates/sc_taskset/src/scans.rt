@@ -39,10 +39,7 @@ fn first_copyable(rows: &Table, exec: ExecId, pace: Pace<'_>) -> Option<Row>
         → option_map (task_of failures) result
         ≡ find (is_copyable_task (slow_at pace.entry) exec) (tasks_of failures rows.now) }
 {
-    rows.as_slice()
-        .iter()
-        .find(|row| row.is_copyable(exec, pace))
-        .copied()
+    rows.first_copyable(exec, pace)
 }
 
 /// Whether all of them are finished.

@@ -9,9 +9,14 @@ ghost use Rattle.sc_taskset.specs.Reports.{lost_task};
 ghost use Rattle.sc_taskset.specs.Rooms.{AreFresh, row_partitions};
 ghost use Rattle.sc_taskset.specs.Rows.{is_row_of, tasks_of};
 ghost use Rattle.sc_taskset.specs.Sound.{AreRising};
-ghost use Rattle.sc_taskset.specs.Tables.{NonePendingBelow, is_open_row, is_pending_row};
+ghost use Rattle.sc_taskset.specs.Marks.{AreMarked, MarksFit, is_pending_row};
+ghost use Rattle.sc_taskset.specs.Paces.{slow_at};
+ghost use Rattle.sc_taskset.specs.Tables.{NonePendingBelow, is_copyable_row, is_open_row};
 
 use crate::changes::lose_all;
+use crate::flags::next_flag;
+use crate::marks::Marks;
+use crate::paces::Pace;
 use crate::rows::Row;
 use sc_ids::ExecId;
 use std::marker::Model;
@@ -24,6 +29,8 @@ pub struct Table {
     unfinished: usize,
     /// Where the first one stands that is to be handed out, past the end where none is.
     pending: usize,
+    /// Which others are to be handed out, and which may be copied.
+    marks: Marks,
 }
 
 impl Model for Table {
@@ -35,13 +42,15 @@ impl Model for Table {
 
     ghost view = { λ t. t.rows.items };
 
-    ghost invariant = { λ t. IsIndexed t.rows.items t.unfinished t.pending };
+    ghost invariant = { λ t. IsIndexed t.rows.items t.unfinished t.pending t.marks };
 }
 
 impl Table {
     /// Rows of which nothing was handed out.
-    pub fn new(rows: Vec<Row>) -> Table
-        requires { AreFresh rows.items }
+    pub fn new(rows: Vec<Row>, marks: Marks) -> Table
+        requires fresh { AreFresh rows.items }
+        requires marked { AreMarked marks rows.items }
+        requires fit { MarksFit marks (length rows.items) }
         ensures { result ≡ rows.items }
     {
         let unfinished = rows.len();
@@ -49,6 +58,7 @@ impl Table {
             rows,
             unfinished,
             pending: 0,
+            marks,
         }
     }
 
@@ -80,6 +90,14 @@ impl Table {
         row_at(&self.rows, self.pending)
     }
 
+    /// The first row of which a second attempt may run on an executor, at a pace of the set. Only
+    /// those are looked at of which one attempt runs alone.
+    pub fn first_copyable(&self, exec: ExecId, pace: Pace<'_>) -> Option<Row>
+        ensures { result ≡ find (is_copyable_row (slow_at pace.entry) exec) self.now }
+    {
+        copyable_in(&self.rows, &self.marks, exec, pace)
+    }
+
     /// Whether all rows are finished.
     pub fn are_finished(&self) -> bool
         ensures { result ≡ list_all (λ r. is_finish r.finish) self.now }
@@ -96,8 +114,9 @@ impl Table {
         let old = self.rows[place];
         self.rows[place] = row;
         self.unfinished = recounted(self.unfinished, old, row);
+        self.marks.put(place, row);
         let from = lowered(self.pending, place, row.is_pending());
-        self.pending = next_pending(&self.rows, from);
+        self.pending = next_pending(&self.rows, &self.marks, from);
     }
 
     /// Takes an executor's attempts, and what was finished there where that is to be done again.
@@ -107,7 +126,8 @@ impl Table {
     {
         lose_all(self.rows.as_mut_slice(), exec, redoes);
         self.unfinished = count_open(&self.rows);
-        self.pending = next_pending(&self.rows, 0);
+        self.marks.put_all(&self.rows);
+        self.pending = next_pending(&self.rows, &self.marks, 0);
     }
 }
 
@@ -118,8 +138,22 @@ fn row_at(rows: &[Row], place: usize) -> Option<Row>
     rows.get(place).copied()
 }
 
-/// Where the row of a partition stands, past the end where there is none.
+/// Where the row of a partition stands, past the end where there is none. Where no partition before
+/// it is missing, it stands at its number, and none is sought.
 fn place_in(rows: &[Row], partition: u32) -> usize
+    requires { AreRising (row_partitions rows.now) }
+    ensures { result ≡ position_or_len (is_row_of partition) rows.now }
+{
+    let guess = partition as usize;
+    if guess < rows.len() && rows[guess].partition == partition {
+        guess
+    } else {
+        sought_in(rows, partition)
+    }
+}
+
+/// The same by a search.
+fn sought_in(rows: &[Row], partition: u32) -> usize
     requires { AreRising (row_partitions rows.now) }
     ensures { result ≡ position_or_len (is_row_of partition) rows.now }
 {
@@ -169,15 +203,36 @@ fn count_open(rows: &[Row]) -> usize
     rows.iter().filter(|row| !row.is_finished()).count()
 }
 
-/// Where the first row stands that is to be handed out, where none is below a place.
-fn next_pending(rows: &[Row], from: usize) -> usize
+/// Where the first row stands that is to be handed out, where none is below a place. It is found by
+/// the marks, 64 rows at a time.
+fn next_pending(rows: &[Row], marks: &Marks, from: usize) -> usize
+    requires marked { AreMarked marks.now rows.now }
+    requires fit { MarksFit marks.now (length rows.now) }
     requires there { from ≤ length rows.now }
     requires none { NonePendingBelow rows.now from }
     ensures { result ≡ position_or_len is_pending_row rows.now }
 {
-    let mut place = from;
-    while place < rows.len() && !rows[place].is_pending() {
-        place += 1;
+    let place = next_flag(&marks.pending, from);
+    if place < rows.len() {
+        place
+    } else {
+        rows.len()
     }
-    place
+}
+
+/// The first row of which a second attempt may run on an executor, among those that are marked as
+/// such of which one attempt runs alone.
+fn copyable_in(rows: &[Row], marks: &Marks, exec: ExecId, pace: Pace<'_>) -> Option<Row>
+    requires marked { AreMarked marks.now rows.now }
+    requires fit { MarksFit marks.now (length rows.now) }
+    ensures { result ≡ find (is_copyable_row (slow_at pace.entry) exec) rows.now }
+{
+    let mut place = next_flag(&marks.single, 0);
+    while place < rows.len() {
+        if rows[place].is_copyable(exec, pace) {
+            return Some(rows[place]);
+        }
+        place = next_flag(&marks.single, place + 1);
+    }
+    None
 }

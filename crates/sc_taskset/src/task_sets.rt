@@ -8,7 +8,7 @@ ghost use Rattle.sc_taskset.specs.Reports.{after_end, after_failure, after_held,
 ghost use Rattle.sc_taskset.specs.Sound.{IsSoundSet};
 
 use crate::changes::{end_in, hand_in, hold_in, succeed_in};
-use crate::notes::{note_duration, note_failure, reserve_one, verdict};
+use crate::notes::{note_duration, note_failure, reserve_for, verdict};
 use crate::paces::Pace;
 use crate::rows::Failure;
 use crate::scans::{are_finished, duration_in, ends, fails_in, is_first_in, offered, row_at};
@@ -156,8 +156,9 @@ impl TaskSet {
         ensures ok { OnOk result (self.new ≡ handed self.old partition exec now) }
         ensures err { OnErr result (self.new ≡ self.old) }
     {
-        reserve_one(&mut self.failures)?;
-        reserve_one(&mut self.durations)?;
+        let tasks = self.rows.as_slice().len();
+        reserve_for(&mut self.failures, tasks)?;
+        reserve_for(&mut self.durations, tasks)?;
         hand_in(&mut self.rows, partition, exec, now)?;
         Ok(())
     }

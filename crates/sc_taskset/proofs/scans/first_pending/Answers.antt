@@ -3,7 +3,7 @@ use Rattle.std.specs.Option.{option_map}
 use Rattle.sc_taskset.proofs.ViewLemmas.{find_viewed}
 use Rattle.sc_taskset.specs.Offers.{is_pending_task}
 use Rattle.sc_taskset.specs.Rows.{task_of}
-use Rattle.sc_taskset.specs.Tables.{is_pending_row}
+use Rattle.sc_taskset.specs.Marks.{is_pending_row}
 use Rattle.sc_taskset.proofs.scans.first_pending.Goals as goal
 
 pub returns : goal.returns

@@ -1,16 +1,26 @@
-use Rattle.std.proofs.Common.{◌∙◌, sym, ap, arith}
-use Rattle.sc_taskset.proofs.TableLemmas.{first_is, get_same}
-use Rattle.sc_taskset.specs.Tables.{is_pending_row}
+use Rattle.std.proofs.Common.{arith, ap, false, length, subst, true, ◌≡◌}
+use Rattle.sc_taskset.specs.Flags.{is_set}
+use Rattle.sc_taskset.proofs.MarkLemmas.{next_is, next_past}
 use Rattle.sc_taskset.proofs.tables.next_pending.Goals as goal
 
-pub returns-else-not-is_pending : goal.returns-else-not-is_pending
-returns-else-not-is_pending c =
-    first_is is_pending_row c.args.rows.now c.loop-place.place c.loop-place.invariant.0
-    c.loop-place.invariant.1
-    (λ d l. ap is_pending_row (get_same c.args.rows.now c.loop-place.place d _ l)
-    ∙ sym c.is_pending.ensures ∙ c.if-not-is_pending.false)
+pub next_flag-place-requires : goal.next_flag-place-requires
+next_flag-place-requires c =
+    omega (arith, ap length c.deref.ensures.value, c.requires.fit.pending.small)
 
-pub returns-after-loop-place : goal.returns-after-loop-place
-returns-after-loop-place c =
-    first_is is_pending_row c.args.rows.now c.loop-place.place c.loop-place.invariant.0
-    c.loop-place.invariant.1 (λ d l. absurd (omega (arith, l, c.loop-place-test.false)))
+pub returns-then-place-rows : goal.returns-then-place-rows
+returns-then-place-rows c =
+    next_is c.args.rows.now c.args.marks.now.pending.items c.args.from c.next_flag-place.result
+    c.requires.marked.pending c.requires.fit.pending c.requires.none
+    (λ k le l. subst (λ ws. is_set ws k ≡ false) c.deref.ensures.value
+    (c.next_flag-place.ensures.none k le l))
+    (λ l. subst (λ ws. is_set ws c.next_flag-place.result ≡ true) c.deref.ensures.value
+    (c.next_flag-place.ensures.set (omega (arith, l, ap length c.deref.ensures.value))))
+    c.if-place-rows.true
+
+pub returns-else-place-rows : goal.returns-else-place-rows
+returns-else-place-rows c =
+    next_past c.args.rows.now c.args.marks.now.pending.items c.args.from c.next_flag-place.result
+    c.requires.marked.pending c.requires.none
+    (λ k le l. subst (λ ws. is_set ws k ≡ false) c.deref.ensures.value
+    (c.next_flag-place.ensures.none k le l))
+    (omega (arith, c.if-place-rows.false))

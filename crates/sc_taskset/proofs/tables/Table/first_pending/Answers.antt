@@ -1,6 +1,6 @@
 use Rattle.std.proofs.Common.{sym, ap, ◌∙◌, slice_get}
 use Rattle.std.proofs.lemmas.List.Folds.{find_at}
-use Rattle.sc_taskset.specs.Tables.{is_pending_row}
+use Rattle.sc_taskset.specs.Marks.{is_pending_row}
 use Rattle.sc_taskset.proofs.tables.Table.first_pending.Goals as goal
 
 pub returns : goal.returns

@@ -8,4 +8,5 @@ invariant_of-result c =
     let rows = c.args.rows in
     let many : length rows.items ≡ c.len-unfinished.result =
     omega (arith, c.len-unfinished.ensures, rows.ok.0) in
-    subst (λ n. IsIndexed rows.items n 0) many (fresh_indexed rows.items c.requires)
+    subst (λ n. IsIndexed rows.items n 0 c.args.marks) many
+    (fresh_indexed rows.items c.args.marks c.requires.fresh c.requires.marked c.requires.fit)

@@ -2,7 +2,9 @@ use Rattle.std.proofs.Common.{◌+◌, ◌∙◌, arith, length, sym, ap, cond, 
 use Rattle.std.proofs.lemmas.List.{length-set}
 use Rattle.std.proofs.lemmas.List.Sums.{prefix_len-le-length}
 use Rattle.std.specs.List.{position_or_len}
-use Rattle.sc_taskset.specs.Tables.{is_open_row, is_pending_row}
+use Rattle.sc_taskset.specs.Marks.{is_pending_row}
+use Rattle.sc_taskset.specs.Tables.{is_open_row}
+use Rattle.sc_taskset.proofs.MarkLemmas.{fit_fewer, fit_kept, marked_put}
 use Rattle.sc_taskset.proofs.TableLemmas.{get_same, none_below, open_kept, partitions_kept}
 use Rattle.sc_taskset.proofs.tables.Table.put.Goals as goal
 
@@ -27,6 +29,27 @@ next_pending-self-inside-requires-clause-none c =
     (omega (arith, c.lowered-from.ensures.below, c.self.invariant.first))
     (λ e. c.lowered-from.ensures.at (c.is_pending.ensures ∙ e)))
 
+pub put-requires : goal.put-requires
+put-requires c =
+    fit_fewer c.self.inside.marks (c.args.place + 1) (length c.self.inside.rows.items)
+    (let there = rw (← c.self.view_is) at c.requires.there in omega (arith, there))
+    c.self.invariant.fit
+
+pub next_pending-self-inside-requires-clause-marked :
+    goal.next_pending-self-inside-requires-clause-marked
+next_pending-self-inside-requires-clause-marked c =
+    rw c.deref.ensures.value
+    (marked_put c.self.inside.rows.items c.args.place c.args.row c.self.inside.marks c.put.new.self
+    (rw (← c.self.view_is) at c.requires.there) c.self.invariant.marked c.put.ensures)
+
+pub next_pending-self-inside-requires-clause-fit :
+    goal.next_pending-self-inside-requires-clause-fit
+next_pending-self-inside-requires-clause-fit c =
+    let rows = c.self.inside.rows.items in
+    rw (c.deref.ensures.value, length-set rows c.args.place c.args.row)
+    (fit_kept c.self.inside.marks c.put.new.self c.args.place (length rows) c.args.row
+    c.put.ensures c.self.invariant.fit)
+
 pub invariant_of-self : goal.invariant_of-self
 invariant_of-self c =
     let rows = c.self.inside.rows.items in
@@ -42,4 +65,9 @@ invariant_of-self c =
           ∙ c.recounted-self-inside.ensures);
       first = c.next_pending-self-inside.ensures
           ∙ ap (position_or_len is_pending_row) c.deref.ensures.value;
+      marked = marked_put rows c.args.place c.args.row c.self.inside.marks c.put.new.self there
+          c.self.invariant.marked c.put.ensures;
+      fit = rw (length-set rows c.args.place c.args.row)
+          (fit_kept c.self.inside.marks c.put.new.self c.args.place (length rows) c.args.row
+          c.put.ensures c.self.invariant.fit);
     }

@@ -1,0 +1,27 @@
+use Rattle.std.proofs.Common.{arith}
+use Rattle.sc_taskset.proofs.FlagLemmas.{found_from, found_none, found_set, rest_masked}
+use Rattle.sc_taskset.proofs.flags.next_flag.Goals as goal
+
+pub loop-word-init : goal.loop-word-init
+loop-word-init c =
+    record {
+      there = omega (arith, c.if-words-at.false);
+      reached = omega arith;
+      none = λ k le l. absurd (omega (arith, le, l));
+      rest = rest_masked c.args.words.now c.args.from;
+    }
+
+pub returns-clause-from : goal.returns-clause-from
+returns-clause-from c =
+    found_from c.args.words.now c.args.from c.loop-word.at c.loop-word.word c.lowest.result
+    c.lowest.ensures c.loop-word.invariant.rest c.loop-word.invariant.none
+
+pub returns-clause-none : goal.returns-clause-none
+returns-clause-none c =
+    found_none c.args.words.now c.args.from c.loop-word.at c.loop-word.word c.lowest.result
+    c.lowest.ensures c.loop-word.invariant.rest c.loop-word.invariant.none
+
+pub returns-clause-set : goal.returns-clause-set
+returns-clause-set c = λ l.
+    found_set c.args.words.now c.args.from c.loop-word.at c.loop-word.word c.lowest.result
+    c.lowest.ensures c.loop-word.invariant.rest c.loop-word.invariant.none
