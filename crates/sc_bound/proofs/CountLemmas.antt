@@ -1,0 +1,121 @@
+-- How many attempts of a partition run.
+use Rattle.std.proofs.Common.{◌≡◌, ◌≢◌, ℕ, ◌≤◌, ◌==◌, not, All, Bool, true, false, cond, List, [], ◌∷◌, get_or, length, map, None, refl, ap, sym, ◌∙◌, arith, count_by}
+use Rattle.std.specs.List.{AllPairs, filter}
+use Rattle.std.proofs.lemmas.Bool.Decides.{nat_tests}
+use Rattle.std.proofs.lemmas.List.Elements.{All-head, All-tail}
+use Rattle.std.proofs.lemmas.List.Sums.{sum_by-cons}
+use Rattle.sc_taskset.specs.Lookups.{copy_at, is_nth, without_copy}
+use Rattle.sc_taskset.specs.declared.tasks.RunningCopy.{RunningCopy}
+use Rattle.sc_taskset.proofs.FindLemmas.{pairs_head, pairs_tail}
+use Rattle.sc_core.specs.declared.running.Running.{Running}
+use Rattle.sc_core.proofs.RunningLemmas.{find_filter, shorter}
+
+-- ---- counts over lists
+
+-- what is taken away didn't count
+pub count_filter : {A : Type 0} (p w : A → Bool) (xs : List A)
+    → All (λ x. w x ≡ false → p x ≡ false) xs → count_by p (filter w xs) ≡ count_by p xs
+count_filter p w [] all = refl
+count_filter {A = A} p w (x ∷ xs) all =
+    by (w x) refl (count_filter p w xs (All-tail (λ y. w y ≡ false → p y ≡ false) x xs all))
+  where
+    f : A → ℕ
+    f y = cond (p y) 1 0
+
+    by : (b : Bool) → w x ≡ b → count_by p (filter w xs) ≡ count_by p xs
+        → count_by p (cond b (x ∷ filter w xs) (filter w xs)) ≡ count_by p (x ∷ xs)
+    by true e h =
+        let a = sum_by-cons f x (filter w xs) in
+        let b = sum_by-cons f x xs in
+        omega (arith, a, b, h)
+    by false e h =
+        let none = All-head (λ y. w y ≡ false → p y ≡ false) x xs all e in
+        let zero : f x ≡ 0 = ap (λ b. cond b 1 0) none in
+        let b = sum_by-cons f x xs in
+        omega (arith, b, zero, h)
+
+-- what is changed counts as before
+pub count_map : {A : Type 0} (p : A → Bool) (g : A → A) (xs : List A)
+    → ((x : A) → p (g x) ≡ p x) → count_by p (map g xs) ≡ count_by p xs
+count_map p g [] same = refl
+count_map {A = A} p g (x ∷ xs) same =
+    let a = sum_by-cons f (g x) (map g xs) in
+    let b = sum_by-cons f x xs in
+    let one : f (g x) ≡ f x = ap (λ b. cond b 1 0) (same x) in
+    let rest = count_map p g xs same in
+    omega (arith, a, b, one, rest)
+  where
+    f : A → ℕ
+    f y = cond (p y) 1 0
+
+-- the same, or fewer, where an item that counts may do so no more
+pub count_less : {A : Type 0} (p : A → Bool) (g : A → A) (xs : List A)
+    → ((x : A) → p (g x) ≡ true → p x ≡ true) → count_by p (map g xs) ≤ count_by p xs
+count_less p g [] same = omega arith
+count_less {A = A} p g (x ∷ xs) same =
+    let a = sum_by-cons f (g x) (map g xs) in
+    let b = sum_by-cons f x xs in
+    let one = by (p (g x)) refl in
+    let rest = count_less p g xs same in
+    omega (arith, a, b, one, rest)
+  where
+    f : A → ℕ
+    f y = cond (p y) 1 0
+
+    by : (b : Bool) → p (g x) ≡ b → f (g x) ≤ f x
+    by true e = rw (e, same x e) (omega arith)
+    by false e = rw e (omega arith)
+
+-- ---- running attempts are copies of their tasks
+
+abbrev nth_of : Running → ℕ
+nth_of r = r.hand_out.attempt.nth
+
+-- no more of them run than are known in the task
+pub count_copies : (p : Running → Bool) (rs : List Running) (copies : List RunningCopy)
+    → All (λ r. p r ≡ true → copy_at (nth_of r) copies ≢ None) rs
+    → AllPairs (λ q r. p q ≡ true → p r ≡ true → nth_of q ≢ nth_of r) rs
+    → count_by p rs ≤ length copies
+count_copies p [] copies all pairs = omega arith
+count_copies p (r ∷ rs) copies all pairs =
+    by (p r) refl
+    (λ cs h. count_copies p rs cs h
+    (pairs_tail (λ q s. p q ≡ true → p s ≡ true → nth_of q ≢ nth_of s) r rs pairs))
+  where
+    f : Running → ℕ
+    f q = cond (p q) 1 0
+
+    more : All (λ q. p q ≡ true → copy_at (nth_of q) copies ≢ None) rs
+    more = All-tail (λ q. p q ≡ true → copy_at (nth_of q) copies ≢ None) r rs all
+
+    -- another one is found beside this one
+    beside : (m : ℕ) → nth_of r ≢ m → copy_at m copies ≢ None
+        → copy_at m (without_copy (nth_of r) copies) ≢ None
+    beside m ne some none =
+        some (sym (find_filter (is_nth m) (λ c. not (is_nth (nth_of r) c)) keeps copies) ∙ none)
+      where
+        keeps : (c : RunningCopy) → is_nth m c ≡ true → not (is_nth (nth_of r) c) ≡ true
+        keeps c e =
+            let is : c.nth ≡ m = grind (arith, nat_tests, e) in
+            let other : (c.nth == nth_of r) ≡ false = grind (arith, nat_tests, is, ne) in
+            ap not other
+
+    by : (b : Bool) → p r ≡ b
+        → ((cs : List RunningCopy) → All (λ q. p q ≡ true → copy_at (nth_of q) cs ≢ None) rs
+        → count_by p rs ≤ length cs)
+        → count_by p (r ∷ rs) ≤ length copies
+    by false e again =
+        let a = sum_by-cons f r rs in
+        let zero : f r ≡ 0 = ap (λ b. cond b 1 0) e in
+        let le = again copies more in
+        omega (arith, a, zero, le)
+    by true e again =
+        let a = sum_by-cons f r rs in
+        let one : f r ≡ 1 = ap (λ b. cond b 1 0) e in
+        let others = pairs_head (λ q s. p q ≡ true → p s ≡ true → nth_of q ≢ nth_of s) r rs pairs in
+        let le =
+        again (without_copy (nth_of r) copies)
+        (λ i d l h. beside (nth_of (get_or rs i d)) (others i d l e h) (more i d l h)) in
+        let short = shorter (is_nth (nth_of r)) copies
+        (All-head (λ q. p q ≡ true → copy_at (nth_of q) copies ≢ None) r rs all e) in
+        omega (arith, a, one, le, short)

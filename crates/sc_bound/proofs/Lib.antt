@@ -1,0 +1,17 @@
+pub mod SumLemmas
+pub mod KeyLemmas
+pub mod LossLemmas
+pub mod TrustLemmas
+pub mod EventLemmas
+pub mod GivenLemmas
+pub mod SetLemmas
+pub mod SlotLemmas
+pub mod KeepLemmas
+pub mod ShutLemmas
+pub mod AccountLemmas
+pub mod CountLemmas
+pub mod HearLemmas
+pub mod ReportLemmas
+pub mod StepLemmas
+pub mod SideSteps
+pub mod EventSteps

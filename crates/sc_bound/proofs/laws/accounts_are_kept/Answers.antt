@@ -1,0 +1,9 @@
+use Rattle.sc_bound.proofs.EventSteps.{steps_keep_accounts}
+use Rattle.sc_bound.proofs.EventSteps as steps
+use Rattle.sc_bound.proofs.laws.accounts_are_kept.Goals as goal
+
+pub returns-clause-steps : goal.returns-clause-steps
+returns-clause-steps c = steps_keep_accounts
+
+pub returns-clause-journals : goal.returns-clause-journals
+returns-clause-journals c = steps.accounts_are_kept
