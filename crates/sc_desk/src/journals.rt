@@ -83,6 +83,8 @@ impl DeskJournal {
             (λ e. self.new.0.entries ≡ self.old.0.entries ++ entry by event e.answer ∷ []) }
         ensures log { IfOk result (λ e. e.log ≡ e.answer) }
         ensures opening { self.new.0.opening ≡ self.old.0.opening }
+        ensures not_enabled { (fault : NotEnabled) → result ≡ Err (OrMemory.Fault fault)
+            → is_enabled self.old.0.core event ≡ false }
         ensures unchanged { OnErr result (self.new.0 ≡ self.old.0) }
     {
         self.reserve()?;

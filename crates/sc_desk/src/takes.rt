@@ -6,6 +6,7 @@ ghost use Rattle.sc_desk.specs.Takes.{IsGivable, IsTaken, Takes, TakesLogged};
 
 use crate::desks::Desk;
 use crate::shelves::clear_after_end;
+use sc_base::OrMemory;
 use sc_core::{Abort, Answer, Event};
 use sc_ids::{AttemptId, ExecId, Mark};
 use sc_jobs::Job;
@@ -79,7 +80,8 @@ impl<W: Naming> Desk<W> {
                     answer: entered.log,
                 })
             }
-            Err(_) => Err(AllocError),
+            Err(OrMemory::OutOfMemory) => Err(AllocError),
+            Err(OrMemory::Fault(_)) => unreachable!(),
         }
     }
 }
