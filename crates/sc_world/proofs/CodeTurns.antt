@@ -517,35 +517,3 @@ order_there work w mid order is r =
     let so = handed_so work w mid (Some order) r in
     subst (λ (x : WorldData). order.exec < length x.stores) (sym so.1)
     (rw (is.sound.stores ∙ sym is.desk.many) so.0.known)
-
--- ---- reports that are due
-
--- where a report is found under a key, one is under that key
-keyed : (q : Shelved → Bool) (shelf : List Shelved) (key : ℕ)
-    → option_map (λ (s : Shelved). s.key) (find q shelf) ≡ Some key
-    → is_some (find (has_key key) shelf) ≡ true
-keyed q [] key e = absurd (search (rules, e))
-keyed q (s ∷ shelf) key e = by (λ f. keyed q shelf key f) (q s) (s.key == key) refl e
-  where
-    by : (option_map (λ (x : Shelved). x.key) (find q shelf) ≡ Some key
-        → is_some (find (has_key key) shelf) ≡ true) → (b c : Bool) → (s.key == key) ≡ c
-        → option_map (λ (x : Shelved). x.key) (cond b (Some s) (find q shelf)) ≡ Some key
-        → is_some (cond c (Some s) (find (has_key key) shelf)) ≡ true
-    by rest b true same f = refl
-    by rest true false same f =
-        let key_is : s.key ≡ key = search (rules, f) in
-        absurd (grind (arith, nat_tests, same, key_is))
-    by rest false false same f = rest f
-
--- a report that is due may be released
-pub due_there : (c : CoreData) (exec key : ℕ) → IsDueReport c exec (Some key)
-    → has_no_shelved c key ≡ false
-due_there c exec key due = rw (there due) (by (job_runs c))
-  where
-    there : IsDueReport c exec (Some key) → is_some (shelved_of c key) ≡ true
-    there (inl first) = keyed (λ s. nat_le s.due c.told) c.shelf key first
-    there (inr (none, idle, first)) = keyed (λ s. true) c.shelf key first
-
-    by : (b : Bool) → (b && not true) ≡ false
-    by true = refl
-    by false = refl

@@ -1,7 +1,8 @@
 use Rattle.std.proofs.Common.{◌≡◌, false, subst}
 use Rattle.sc_core.specs.Releases.{has_no_shelved}
 use Rattle.sc_world.specs.WorldData.{WorldData, core_in}
-use Rattle.sc_world.proofs.CodeTurns.{due_there, releases_turn}
+use Rattle.sc_desk.proofs.DueLemmas.{due_there}
+use Rattle.sc_world.proofs.CodeTurns.{releases_turn}
 use Rattle.sc_world.proofs.worlds.World.tell_next.Goals as goal
 
 pub release-requires : goal.release-requires
