@@ -14,9 +14,10 @@ use Rattle.sc_files.specs.declared.files.Files as files
 use Rattle.sc_staging.specs.contracts.outputs.Output as output
 use Rattle.sc_staging.specs.contracts.staging.Staging as staging
 use Rattle.sc_work.specs.declared.naming.Naming as naming
-use Rattle.sc_exec.proofs.JobsCross.{desk_send}
+use Rattle.sc_exec.proofs.JobsCross.{desk_send, store_send}
 use Rattle.sc_exec.specs.contracts.driver.Driver as driver
 use Rattle.sc_exec.specs.contracts.helms.Helm as helm
+use Rattle.sc_exec.specs.contracts.places.Stores as stores
 use Rattle.sc_exec.specs.declared.openings.Opening as opening
 
 ruleset known = (text.the_send, text.the_sync, name.the_send, name.the_sync, crosses, sendable)
@@ -40,6 +41,10 @@ pub driver_sync : (W J F : RattleType) (g : naming.Ghosts W.Denot) (o : opening.
     → IsSync (driver.the_row W J F g o f)
 driver_sync W J F g o f s t u =
     search (helm_send, mutex.the_sync, crosses, sendable) depth 60 fits 20000
+
+pub stores_sync : (W : RattleType) (g : naming.Ghosts W.Denot) → IsSend W
+    → IsSync (stores.the_row W g)
+stores_sync W g s = search (store_send, mutex.the_sync, crosses, sendable) depth 60 fits 20000
 
 pub global_sync : IsSync global.the_row
 global_sync = search (crosses, sendable) depth 60 fits 20000

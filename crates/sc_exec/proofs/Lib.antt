@@ -1,5 +1,6 @@
 pub mod Crossing
 pub mod HelmLemmas
+pub mod HinderLemmas
 pub mod JobsCross
 pub mod LogLemmas
 pub mod OwedLemmas

@@ -8,6 +8,7 @@ use Rattle.sc_core.specs.declared.answers.Answer.TheVariants as says
 use Rattle.sc_core.specs.declared.answers.SideAnswer.{SideAnswer}
 use Rattle.sc_core.specs.declared.answers.SideAnswer.TheVariants as sides
 use Rattle.sc_core.specs.declared.events.Event.TheVariants as events
+use Rattle.sc_core.specs.declared.events.SideEvent.{SideEvent}
 use Rattle.sc_core.specs.declared.events.SideEvent.TheVariants.{Ask, Leave, Move, Stage}
 use Rattle.sc_core.proofs.LookupLemmas.{is_itself}
 use Rattle.sc_net.specs.Reports.{ReportData, outcome_of}
@@ -17,13 +18,14 @@ use Rattle.sc_logs.proofs.FoldLemmas.{last_take_more, owed_more}
 use Rattle.sc_logs.specs.Folds.{has_asked_as, has_left, last_take, owed_after, over, without}
 use Rattle.sc_logs.specs.declared.logs.ExecLog.{ExecLog}
 use Rattle.sc_exec.specs.Helms.{HelmData}
-use Rattle.sc_exec.specs.Lefts.{IsAtWork, IsCause}
-use Rattle.sc_exec.specs.Logging.{AsksBoth, LeavesBoth, MovesBoth, PostsBoth, StagesBoth}
+use Rattle.sc_exec.specs.Lefts.{IsAtWork, IsCause, IsHindrance, IsToldTheSame}
+use Rattle.sc_exec.specs.Logging.{AsksBoth, IsLogged, LeavesBoth, MovesBoth, PostsBoth, StagesBoth}
 use Rattle.sc_exec.specs.Working.{IsReasonToLeave, owed_by}
 use Rattle.sc_exec.specs.declared.calls.Delivery.{Delivery}
 use Rattle.sc_exec.specs.declared.calls.Delivery.TheVariants as deliveries
 use Rattle.sc_exec.specs.declared.lefts.Left.{Left}
 use Rattle.sc_exec.specs.declared.lefts.Left.TheVariants as lefts
+use Rattle.sc_exec.proofs.HinderLemmas.{hinders_still}
 use Rattle.sc_exec.proofs.TurnLemmas.{works_on}
 
 -- nothing is owed any more where one attempt was
@@ -77,6 +79,29 @@ posts_owed {W = W} work d after log then report delivery is works both =
         (works_on log then (events.Post (attempt_of report) (outcome_of report.finding))
         receipt.answer (attempt_of report ∷ []) logged refl refl works)
 
+-- what it does beside the reports leaves it told the same
+aside_told : (log then : ExecLog) (event : SideEvent) (said : SideAnswer)
+    → IsLogged log (events.Side event) (says.Side said) then → IsToldTheSame log then
+aside_told log then event said logged =
+    ap (last_take None) logged.entries
+    ∙ last_take_more None log.entries.items
+    (entry (Exec log.exec) (events.Side event) (says.Side said))
+
+pub stages_told : (h after : HelmData) (log then : ExecLog) (a : AttemptId) (text : List ℕ)
+    (said : SideAnswer) → StagesBoth h log a text said after then → IsToldTheSame log then
+stages_told h after log then a text said both =
+    aside_told log then (Stage a both.stages.wrote) said both.logged
+
+pub asks_told : (d after : DeskData) (log then : ExecLog) (a : AttemptId) (said : SideAnswer)
+    → AsksBoth d log a said after then → IsToldTheSame log then
+asks_told d after log then a said (noted, is, notes, logged) =
+    aside_told log then (Ask a) said logged
+
+pub moves_told : (h after : HelmData) (log then : ExecLog) (a : AttemptId) (said : SideAnswer)
+    → MovesBoth h log a said after then → IsToldTheSame log then
+moves_told h after log then a said both =
+    aside_told log then (Move a both.moves.renamed) said both.logged
+
 -- ---- an executor leaves
 
 -- by its leave nothing is owed more or less, and what it was told stays
@@ -92,19 +117,34 @@ told_still d after log then true (stayed, noted, notes, logged) =
 told_still d after log then false (left, stays, same) =
     (ap (last_take None) same.1, ap (owed_after []) same.1)
 
+leaves_exec : (d after : DeskData) (log then : ExecLog) (left : Bool)
+    → LeavesBoth d log left after then → then.exec ≡ log.exec
+leaves_exec d after log then true (stayed, noted, notes, logged) = logged.exec
+leaves_exec d after log then false (left, stays, same) = same.0
+
 -- who leaves has its cause
-pub leaves_cause : (d after : DeskData) (log then : ExecLog) (gone : Bool) (left : Left)
-    → IsReasonToLeave left log → LeavesBoth d log gone after then → IsCause left then
-leaves_cause d after log then gone (lefts.Busy held) (told, owes) leaves =
-    let still = told_still d after log then gone leaves in
-    (still.0 ∙ told, still.1 ∙ owes)
-leaves_cause d after log then gone (lefts.Early early) less leaves = less
-leaves_cause d after log then gone (lefts.Stranger stranger) reason leaves = tt
-leaves_cause d after log then gone (lefts.Absent absence) reason leaves = tt
-leaves_cause d after log then gone lefts.NoMemory reason leaves = tt
-leaves_cause d after log then gone lefts.JobEnded reason leaves = absurd reason
-leaves_cause d after log then gone (lefts.Stopped exec) reason leaves = absurd reason
-leaves_cause d after log then gone lefts.Lost reason leaves = absurd reason
+pub leaves_cause : (work : WorkData) (d after : DeskData) (log then : ExecLog) (gone : Bool)
+    (left : Left) → IsReasonToLeave work log left → LeavesBoth d log gone after then
+    → IsCause work then left
+leaves_cause work d after log then gone left reason leaves = by left reason
+  where
+    still : (last_take None then.entries.items ≡ last_take None log.entries.items)
+        × (owed_after [] then.entries.items ≡ owed_after [] log.entries.items)
+    still = told_still d after log then gone leaves
+
+    hinders : (left : Left) → IsHindrance work log left → IsHindrance work then left
+    hinders left =
+        hinders_still work log then left (leaves_exec d after log then gone leaves) still.0
+
+    by : (left : Left) → IsReasonToLeave work log left → IsCause work then left
+    by (lefts.Busy held) (told, owes) = (still.0 ∙ told, still.1 ∙ owes)
+    by (lefts.Early early) reason = hinders (lefts.Early early) reason
+    by (lefts.Stranger stranger) reason = hinders (lefts.Stranger stranger) reason
+    by (lefts.Absent absence) reason = hinders (lefts.Absent absence) reason
+    by lefts.NoMemory reason = tt
+    by lefts.JobEnded reason = absurd reason
+    by (lefts.Stopped exec) reason = absurd reason
+    by lefts.Lost reason = absurd reason
 
 -- ---- who has done nothing yet
 

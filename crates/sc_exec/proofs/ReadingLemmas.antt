@@ -28,10 +28,10 @@ some_left t got more = by (slice_get t.hand_out.inputs got) refl
     by (Some l) e = slice_get_within t.hand_out.inputs got l e
 
 -- a block that has no location lay somewhere before
-pub lay_somewhere : (t : TaskData) (got : ℕ) (last : Option Loc)
-    → All LiesOrLay t.hand_out.inputs → next_of t got ≡ Missing last
+pub lay_somewhere : (t : TaskData) (got executors : ℕ) (last : Option Loc)
+    → All (LiesOrLay executors) t.hand_out.inputs → next_of t got ≡ Missing last
     → LaySomewhere (next_of t got)
-lay_somewhere t got last lay e =
+lay_somewhere t got executors last lay e =
     by (slice_get (blocks_of_task t) got) (slice_get t.hand_out.inputs got) refl e
   where
     by : (b : Option BlockId) (o : Option Location) → slice_get t.hand_out.inputs got ≡ o
@@ -40,5 +40,6 @@ lay_somewhere t got last lay e =
     by (Some b) None at is = absurd (search (rules, is))
     by (Some b) (Some (locations.Here loc)) at is = absurd (search (rules, is))
     by (Some b) (Some (locations.Missing None)) at is =
-        absurd (all_at LiesOrLay t.hand_out.inputs got (locations.Missing None) lay at)
+        absurd (all_at (LiesOrLay executors) t.hand_out.inputs got (locations.Missing None) lay
+        at)
     by (Some b) (Some (locations.Missing (Some x))) at is = tt

@@ -73,11 +73,11 @@ have_logs work d workers sound places exec there =
 -- ---- why executors take no more tasks
 
 -- one that wanted no memory and met nothing that can't be worked until there was no more for it
-worked_out : (w : Worker) → HasCause w → is_no_memory w.left ≡ false
+worked_out : (work : WorkData) (w : Worker) → HasCause work w → is_no_memory w.left ≡ false
     → gives_up w.left ≡ false → IsWorkedOut w.log
-worked_out w cause = by w.left cause
+worked_out work w cause = by w.left cause
   where
-    by : (left : Left) → IsCause left w.log → is_no_memory left ≡ false
+    by : (left : Left) → IsCause work w.log left → is_no_memory left ≡ false
         → gives_up left ≡ false → IsWorkedOut w.log
     by lefts.JobEnded (told, works) memory stays =
         record { last = inl told; asks = works.asks; stays = works.stays }
@@ -95,29 +95,30 @@ worked_out w cause = by w.left cause
 abbrev GivesUp : List Worker → Type 0
 GivesUp workers = (left : Left) × Contains (lefts_of workers) left × (gives_up left ≡ true)
 
-with_one : (w : Worker) (workers : List Worker) → HasCause w → (m g : Bool)
+with_one : (work : WorkData) (w : Worker) (workers : List Worker) → HasCause work w
+    → (m g : Bool)
     → is_no_memory w.left ≡ m → gives_up w.left ≡ g → (m || wants_memory workers) ≡ false
     → (wants_memory workers ≡ false → All IsWorkedOut (logs_of workers) ⊎ GivesUp workers)
     → All IsWorkedOut (w.log ∷ logs_of workers) ⊎ GivesUp (w ∷ workers)
-with_one w workers cause true g is up none rest = absurd (true≢false none)
-with_one w workers cause false true is up none rest = inr (w.left, (0, omega arith, refl), up)
-with_one w workers cause false false is up none rest = by (rest none)
+with_one work w workers cause true g is up none rest = absurd (true≢false none)
+with_one work w workers cause false true is up none rest = inr (w.left, (0, omega arith, refl), up)
+with_one work w workers cause false false is up none rest = by (rest none)
   where
     by : All IsWorkedOut (logs_of workers) ⊎ GivesUp workers
         → All IsWorkedOut (w.log ∷ logs_of workers) ⊎ GivesUp (w ∷ workers)
     by (inl all) =
-        inl (All-cons IsWorkedOut w.log (logs_of workers) (worked_out w cause is up) all)
+        inl (All-cons IsWorkedOut w.log (logs_of workers) (worked_out work w cause is up) all)
     by (inr (left, (k, lt, at), gives)) =
         inr (left, (suc k, omega (arith, lt), at), gives)
 
 -- either one did, or all worked until there was no more for them
-all_or_one : (workers : List Worker) → All HasCause workers → wants_memory workers ≡ false
-    → All IsWorkedOut (logs_of workers) ⊎ GivesUp workers
-all_or_one [] causes memory = inl (λ k d lt. absurd (omega (arith, lt)))
-all_or_one (w ∷ workers) causes memory =
-    with_one w workers (All-head HasCause w workers causes) (is_no_memory w.left)
+all_or_one : (work : WorkData) (workers : List Worker) → All (HasCause work) workers
+    → wants_memory workers ≡ false → All IsWorkedOut (logs_of workers) ⊎ GivesUp workers
+all_or_one work [] causes memory = inl (λ k d lt. absurd (omega (arith, lt)))
+all_or_one work (w ∷ workers) causes memory =
+    with_one work w workers (All-head (HasCause work) w workers causes) (is_no_memory w.left)
     (gives_up w.left) refl refl memory
-    (all_or_one workers (All-tail HasCause w workers causes))
+    (all_or_one work workers (All-tail (HasCause work) w workers causes))
 
 -- ---- how a job went
 
@@ -130,12 +131,12 @@ leaves_itself entries own = λ k d lt exec is. own k d lt exec (ap (leaves exec)
 -- a job that runs though its logs agree is one to be given up
 pub runs_on : (work : WorkData) (d : DeskData) (workers : List Worker) → WorkedJobsHaveEnded
     → IsSoundDesk work d → HasReplay d → All IsOwnLeave d.journal.entries
-    → All HasCause workers → AreInPlace work.limits.executors workers
+    → All (HasCause work) workers → AreInPlace work.limits.executors workers
     → AreLogged d.journal.entries workers → wants_memory workers ≡ false
     → job_runs (core_of d) ≡ true
     → IsGivenUp d.journal.entries workers × RunsOn (core_of d) d.journal.entries workers
 runs_on work d workers law sound replay own causes places logged memory runs =
-    (by (all_or_one workers causes memory), λ h. (memory, runs))
+    (by (all_or_one work workers causes memory), λ h. (memory, runs))
   where
     by : All IsWorkedOut (logs_of workers) ⊎ GivesUp workers
         → IsGivenUp d.journal.entries workers

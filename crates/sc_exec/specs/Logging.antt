@@ -139,6 +139,13 @@ TicksBoth d log now after then =
     (noted : Noted) × Notes d (Exec log.exec) (Tick now) noted after
     × IsLogged log (events.Side (Tick now)) (says.Side noted.answer) then
 
+-- it has the time entered once, where slow tasks get copies, and else nothing
+pub record IsTimed (d : DeskData) (log : ExecLog) (after : DeskData) (then : ExecLog) : Type 0
+  where
+    pub ticks : (core_of d).dag.limits.speculation ≡ true
+        → (now : ℕ) × TicksBoth d log now after then
+    pub rests : (core_of d).dag.limits.speculation ≡ false → (after ≡ d) × IsSameLog log then
+
 -- its attempt asks whether it may commit
 abbrev pub AsksBoth : DeskData → ExecLog → AttemptId → SideAnswer → DeskData → ExecLog → Type 0
 AsksBoth d log attempt answer after then =

@@ -1,12 +1,17 @@
 -- How far an executor comes with a task by stores alone.
-use Rattle.std.specs.Prelude.{◌≡◌, ◌+◌, ◌<◌}
+use Rattle.std.specs.Prelude.{ℕ, ◌≡◌, ◌+◌, Contains}
 use Rattle.sc_lineage.specs.ScriptData.{WorkData}
+use Rattle.sc_tracker.specs.declared.outputs.Location.TheVariants.{Here}
+use Rattle.sc_core.specs.HandOuts.{HandOutData}
 use Rattle.sc_net.specs.Tasks.{TaskData}
 use Rattle.sc_net.specs.declared.findings.Finding.{Finding}
 use Rattle.sc_net.specs.declared.findings.Finding.TheVariants as findings
 use Rattle.sc_task.specs.States.{AssignedData, IsOfPart, assigned_data}
+use Rattle.sc_exec.specs.Lefts.{IsSentWith}
+use Rattle.sc_exec.specs.Places.{IsMisplaced}
 use Rattle.sc_exec.specs.declared.lefts.Left.{Left}
 use Rattle.sc_exec.specs.declared.lefts.Left.TheVariants as lefts
+use Rattle.sc_exec.specs.declared.lefts.Stranger.TheVariants as strangers
 use Rattle.sc_exec.specs.declared.performing.Gathered.{Gathered}
 use Rattle.sc_exec.specs.declared.performing.Gathered.TheVariants as gathered
 use Rattle.sc_exec.specs.declared.performing.Got.{Got}
@@ -14,15 +19,14 @@ use Rattle.sc_exec.specs.declared.performing.Got.TheVariants as got
 use Rattle.sc_exec.specs.declared.performing.Prepared.{Prepared}
 use Rattle.sc_exec.specs.declared.performing.Prepared.TheVariants as prepared
 
--- What keeps an executor from going on with a task that it has: what it meets, and nothing that it
--- was told at a Take. A stranger, an early report and an absence are made by the call alone that
--- meets them (`Logging.antt`, `Fetching.antt`, `Places.antt`).
-abbrev pub IsHindrance : Left → Type 0
-IsHindrance (lefts.Stranger stranger) = Unit {0}
-IsHindrance (lefts.Early early) = early.due < early.found
-IsHindrance (lefts.Absent absence) = Unit {0}
-IsHindrance lefts.NoMemory = Unit {0}
-IsHindrance left = ⊥
+-- What keeps an executor from going on with a task that it has, before it reports: where it is sent
+-- with it is another one's store, or a block isn't where it was to lie, or memory ran out.
+abbrev pub Hinders : ℕ → HandOutData → Left → Type 0
+Hinders exec h (lefts.Stranger (strangers.Store misplaced)) =
+    IsMisplaced misplaced.place misplaced × IsSentWith h exec misplaced.place
+Hinders exec h (lefts.Absent absence) = Contains h.inputs (Here absence.loc)
+Hinders exec h lefts.NoMemory = Unit {0}
+Hinders exec h left = ⊥
 
 -- a finding speaks of a block that the task reads: it is gone, or had no location
 abbrev pub IsOfReading : Finding → Type 0

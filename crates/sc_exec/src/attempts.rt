@@ -1,13 +1,13 @@
 //! One attempt, from its task to its report.
 #![tactic(auto)]
 
-ghost use Rattle.std.specs.Prelude.{◌≡◌, ◌∷◌, [], All, IfErr, IfOk, OnOk, true};
+ghost use Rattle.std.specs.Prelude.{◌≡◌, ◌<◌, ◌∷◌, [], All, IfErr, IfOk, OnOk, true};
+ghost use Rattle.sc_core.specs.declared.answers.Answer.TheVariants as says;
 ghost use Rattle.sc_jobs.specs.JobData.{saves};
 ghost use Rattle.sc_desk.specs.Saving.{IsEvidentAnswer};
 ghost use Rattle.sc_task.specs.States.{IsOfPart};
-ghost use Rattle.sc_exec.specs.Lefts.{IsAtWork};
+ghost use Rattle.sc_exec.specs.Lefts.{IsAtWork, IsHindrance, IsToldTheSame, WasTold};
 ghost use Rattle.sc_exec.specs.Logging.{HasRoom};
-ghost use Rattle.sc_exec.specs.Performing.{IsHindrance};
 ghost use Rattle.sc_exec.specs.Turns.{LiesOrLay};
 ghost use Rattle.sc_exec.specs.Working.{owed_by};
 
@@ -17,16 +17,17 @@ use crate::gates::Gate;
 use crate::lefts::{Left, Stranger};
 use crate::openings::Opening;
 use crate::performing::{Prepared, prepare};
+use crate::places::Stores;
+use crate::visits::Witnessed;
 use sc_core::SideAnswer;
 use sc_files::Files;
 use sc_ids::AttemptId;
 use sc_logs::ExecLog;
-use sc_net::{Report, Task};
-use sc_store::Store;
+use sc_net::Task;
 use sc_task::{Computed, Staged};
 use sc_work::Naming;
 use std::alloc::Global;
-use std::sync::{Mutex, Wait};
+use std::sync::Wait;
 
 /// An executor does a task that it was handed, once its gate lets it, and posts what its attempt
 /// reports. An attempt of a save has its part written and moved before.
@@ -34,17 +35,19 @@ pub(crate) fn perform<W: Naming, J: Opening, F: Files, G: Gate, R: Wait>(
     rt: &R,
     alloc: Global,
     driver: &Driver<W, J, F>,
-    stores: &[Mutex<Store<W>>],
+    stores: &Stores<W>,
     gate: &G,
     log: &mut ExecLog,
     task: Task<W>,
 ) -> Result<(), Left>
+    requires told { WasTold (says.Task task.hand_out) log.old }
     requires works { IsAtWork (task.hand_out.attempt ∷ []) log.old }
     requires job { task.job ≡ J.opening.job }
-    requires lay { All LiesOrLay task.hand_out.inputs }
+    requires lay { All (LiesOrLay W.work.limits.executors) task.hand_out.inputs }
+    requires known { log.old.exec < W.work.limits.executors }
     requires room { HasRoom log.old }
     ensures works { OnOk result (IsAtWork [] log.new) }
-    ensures hinders { IfErr result IsHindrance }
+    ensures hinders { IfErr result (IsHindrance W.work log.new) }
     ensures exec { log.new.exec ≡ log.old.exec }
     ensures room { HasRoom log.new }
 {
@@ -61,22 +64,27 @@ fn post<W: Naming, J: Opening, F: Files, R: Wait>(
     rt: &R,
     driver: &Driver<W, J, F>,
     log: &mut ExecLog,
-    report: Report<W>,
+    report: Witnessed<W>,
 ) -> Result<(), Left>
+    requires told { WasTold (says.Task report.task.hand_out) log.old }
+    requires job { report.task.job ≡ J.opening.job }
     requires works { IsAtWork (report.task.hand_out.attempt ∷ []) log.old }
     requires room { HasRoom log.old }
     ensures works { OnOk result (IsAtWork [] log.new) }
-    ensures hinders { IfErr result IsHindrance }
+    ensures hinders { IfErr result (IsHindrance W.work log.new) }
     ensures exec { log.new.exec ≡ log.old.exec }
     ensures room { HasRoom log.new }
 {
+    report.is_true();
     let posted = driver.helm.lock(rt).post(log, report);
     driver.bell.notify_all();
-    match posted {
-        Ok(Delivery::Received) => Ok(()),
-        Ok(Delivery::Stranger { refused, .. }) => Err(Left::Stranger(Stranger::Report(refused))),
-        Ok(Delivery::Early { early, .. }) => Err(Left::Early(early)),
-        Err(_) => Err(Left::NoMemory),
+    let Ok(delivery) = posted else {
+        return Err(Left::NoMemory);
+    };
+    match delivery {
+        Delivery::Received => Ok(()),
+        Delivery::Stranger { refused, .. } => Err(Left::Stranger(Stranger::Report(refused))),
+        Delivery::Early { early, .. } => Err(Left::Early(early)),
     }
 }
 
@@ -89,21 +97,22 @@ fn save<W: Naming, J: Opening, F: Files, R: Wait>(
     log: &mut ExecLog,
     computed: Computed<W>,
 ) -> Result<(), Left>
+    requires told { WasTold (says.Task computed.task.hand_out) log.old }
     requires works { IsAtWork (computed.task.hand_out.attempt ∷ []) log.old }
     requires part { IsOfPart W.work computed.task }
     requires job { computed.task.job ≡ J.opening.job }
     requires room { HasRoom log.old }
     ensures works { OnOk result (IsAtWork [] log.new) }
-    ensures hinders { IfErr result IsHindrance }
+    ensures hinders { IfErr result (IsHindrance W.work log.new) }
     ensures exec { log.new.exec ≡ log.old.exec }
     ensures room { HasRoom log.new }
 {
     match stage(rt, alloc, driver, log, &computed)? {
         SideAnswer::Staged => commit(rt, alloc, driver, log, computed.staged()),
-        SideAnswer::Fault(fault) => post(rt, driver, log, computed.device(fault)),
+        SideAnswer::Fault(fault) => post(rt, driver, log, Witnessed::of(computed.device(fault))),
         SideAnswer::Over => Ok(()),
         // the job has ended, and nothing may be committed any more
-        _ => post(rt, driver, log, computed.staged().denied()),
+        _ => post(rt, driver, log, Witnessed::of(computed.staged().denied())),
     }
 }
 
@@ -116,18 +125,20 @@ fn commit<W: Naming, J: Opening, F: Files, R: Wait>(
     log: &mut ExecLog,
     staged: Staged<W>,
 ) -> Result<(), Left>
+    requires told { WasTold (says.Task staged.task.hand_out) log.old }
+    requires job { staged.task.job ≡ J.opening.job }
     requires works { IsAtWork (staged.task.hand_out.attempt ∷ []) log.old }
     requires saves { saves W.work J.opening.job.goal ≡ true }
     requires room { HasRoom log.old }
     ensures works { OnOk result (IsAtWork [] log.new) }
-    ensures hinders { IfErr result IsHindrance }
+    ensures hinders { IfErr result (IsHindrance W.work log.new) }
     ensures exec { log.new.exec ≡ log.old.exec }
     ensures room { HasRoom log.new }
 {
     match ask(rt, driver, log, staged.task().attempt())? {
         SideAnswer::Granted => finish(rt, alloc, driver, log, staged),
         SideAnswer::Over => Ok(()),
-        _ => post(rt, driver, log, staged.denied()),
+        _ => post(rt, driver, log, Witnessed::of(staged.denied())),
     }
 }
 
@@ -139,20 +150,32 @@ fn finish<W: Naming, J: Opening, F: Files, R: Wait>(
     log: &mut ExecLog,
     staged: Staged<W>,
 ) -> Result<(), Left>
+    requires told { WasTold (says.Task staged.task.hand_out) log.old }
+    requires job { staged.task.job ≡ J.opening.job }
     requires works { IsAtWork (staged.task.hand_out.attempt ∷ []) log.old }
     requires saves { saves W.work J.opening.job.goal ≡ true }
     requires room { HasRoom log.old }
     ensures works { OnOk result (IsAtWork [] log.new) }
-    ensures hinders { IfErr result IsHindrance }
+    ensures hinders { IfErr result (IsHindrance W.work log.new) }
     ensures exec { log.new.exec ≡ log.old.exec }
     ensures room { HasRoom log.new }
 {
     match move_part(rt, alloc, driver, log, staged.task().attempt())? {
-        SideAnswer::Moved => post(rt, driver, log, staged.granted().moved().report()),
-        SideAnswer::Fault(fault) => post(rt, driver, log, staged.granted().device(fault)),
+        SideAnswer::Moved => post(
+            rt,
+            driver,
+            log,
+            Witnessed::of(staged.granted().moved().report()),
+        ),
+        SideAnswer::Fault(fault) => post(
+            rt,
+            driver,
+            log,
+            Witnessed::of(staged.granted().device(fault)),
+        ),
         SideAnswer::Over => Ok(()),
         // the job has ended, and the grant counts no more
-        _ => post(rt, driver, log, staged.denied()),
+        _ => post(rt, driver, log, Witnessed::of(staged.denied())),
     }
 }
 
@@ -171,8 +194,9 @@ fn stage<W: Naming, J: Opening, F: Files, R: Wait>(
     requires room { HasRoom log.old }
     ensures works { IfOk result
         (λ said. IsAtWork (owed_by computed.now.task.hand_out.attempt said) log.new) }
+    ensures told { OnOk result (IsToldTheSame log.old log.new) }
     ensures evident { IfOk result IsEvidentAnswer }
-    ensures hinders { IfErr result IsHindrance }
+    ensures hinders { IfErr result (IsHindrance W.work log.new) }
     ensures exec { log.new.exec ≡ log.old.exec }
     ensures room { HasRoom log.new }
 {
@@ -201,7 +225,8 @@ fn ask<W: Naming, J: Opening, F: Files, R: Wait>(
     requires works { IsAtWork (attempt ∷ []) log.old }
     requires room { HasRoom log.old }
     ensures works { IfOk result (λ said. IsAtWork (owed_by attempt said) log.new) }
-    ensures hinders { IfErr result IsHindrance }
+    ensures told { OnOk result (IsToldTheSame log.old log.new) }
+    ensures hinders { IfErr result (IsHindrance W.work log.new) }
     ensures exec { log.new.exec ≡ log.old.exec }
     ensures room { HasRoom log.new }
 {
@@ -226,8 +251,9 @@ fn move_part<W: Naming, J: Opening, F: Files, R: Wait>(
     requires saves { saves W.work J.opening.job.goal ≡ true }
     requires room { HasRoom log.old }
     ensures works { IfOk result (λ said. IsAtWork (owed_by attempt said) log.new) }
+    ensures told { OnOk result (IsToldTheSame log.old log.new) }
     ensures evident { IfOk result IsEvidentAnswer }
-    ensures hinders { IfErr result IsHindrance }
+    ensures hinders { IfErr result (IsHindrance W.work log.new) }
     ensures exec { log.new.exec ≡ log.old.exec }
     ensures room { HasRoom log.new }
 {

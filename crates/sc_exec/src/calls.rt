@@ -7,6 +7,7 @@ ghost use Rattle.sc_exec.specs.Logging.{HasRoom, IsDelivered, IsPossible, IsSame
 
 use crate::helms::Helm;
 use crate::openings::Opening;
+use crate::visits::Witnessed;
 use sc_core::{Entry, Event};
 use sc_desk::{Logged, Posted, Taken};
 use sc_files::Files;
@@ -115,7 +116,7 @@ impl<W: Naming, J: Opening, F: Files> Helm<W, J, F> {
     pub fn post(
         &mut self,
         log: &mut ExecLog,
-        report: Report<W>,
+        report: Witnessed<W>,
     ) -> Result<Delivery<W>, AllocFailed<Report<W>>>
         requires room { HasRoom log.old }
         ensures posted { IfOk result
@@ -126,6 +127,7 @@ impl<W: Naming, J: Opening, F: Files> Helm<W, J, F> {
         ensures back { IfErr result (λ failed. failed.value ≡ report) }
         ensures room { HasRoom log.new }
     {
+        let report = report.into_report();
         if log.entries.reserve(2).is_err() {
             return Err(AllocFailed { value: report });
         }

@@ -1,7 +1,7 @@
 //! The desk of a job with the job's files, which knows how the job began.
 #![tactic(auto)]
 
-ghost use Rattle.std.specs.Prelude.{◌≡◌};
+ghost use Rattle.std.specs.Prelude.{◌≡◌, length};
 ghost use Rattle.sc_core.specs.Sound.{IsSoundCore};
 ghost use Rattle.sc_desk.specs.DeskData.{core_of};
 ghost use Rattle.sc_staging.specs.Outputs.{output_dir, output_files};
@@ -66,11 +66,16 @@ impl<W: Naming, J: Opening, F: Files> Helm<W, J, F> {
         let _ = &self.desk;
     }
 
-    /// What its core keeps. A call does nothing.
+    /// What its core keeps, and that it and its orders are of all executors of the work. A call
+    /// does nothing.
     pub(crate) fn is_sound(&self)
-        ensures { IsSoundCore (core_of self.now.desk) }
+        ensures core { IsSoundCore (core_of self.now.desk) }
+        ensures execs { length (core_of self.now.desk).dag.tracker.trust
+            ≡ W.work.limits.executors }
+        ensures many { length self.now.desk.ordered ≡ W.work.limits.executors }
     {
         self.desk.core().is_sound();
+        self.desk.is_sound();
     }
 
     /// The desk and the files, and how their job began.

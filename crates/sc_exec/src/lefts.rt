@@ -2,8 +2,8 @@
 #![tactic(auto)]
 
 use crate::calls::{Refused, TooEarly};
-use crate::fetching::Absence;
 use crate::places::Misplaced;
+use crate::visits::Absence;
 use sc_ids::{AttemptId, ExecId};
 
 /// Why an executor takes no more tasks. What it says of something that can't be, only the call that

@@ -1,23 +1,23 @@
 //! What an executor does with a task, store by store.
 #![tactic(auto)]
 
-ghost use Rattle.std.specs.Prelude.{◌≡◌, ◌≢◌, All, IfErr, IfOk, false, true};
+ghost use Rattle.std.specs.Prelude.{◌≡◌, ◌≢◌, ◌<◌, All, IfErr, IfOk, false};
 ghost use Rattle.sc_net.specs.Tasks.{is_map_task};
 ghost use Rattle.sc_task.specs.Nexts.{next_of};
 ghost use Rattle.sc_task.specs.declared.next.Next.{Next};
-ghost use Rattle.sc_exec.specs.Performing.{Gets, IsGathered, IsHindrance, IsPrepared};
+ghost use Rattle.sc_exec.specs.Fetching.{IsBarred};
+ghost use Rattle.sc_exec.specs.Performing.{Gets, Hinders, IsGathered, IsPrepared};
 ghost use Rattle.sc_exec.specs.Turns.{LiesOrLay};
 
-use crate::fetching::fetch_from;
 use crate::lefts::Left;
-use crate::places::{check_place, store_at};
+use crate::places::Stores;
+use crate::visits::Witnessed;
 use sc_ids::{ExecId, Target};
-use sc_net::{Report, Task};
-use sc_store::Store;
+use sc_net::Task;
 use sc_task::{Assigned, Computed, Did, Next, Read, assign};
 use sc_work::Naming;
 use std::alloc::Global;
-use std::sync::{Mutex, Wait};
+use std::sync::Wait;
 
 /// What an attempt gets that goes for its next block.
 #[derive(Drop)]
@@ -25,7 +25,7 @@ pub(crate) enum Got<W: Naming> {
     /// The block.
     Next(Assigned<W>),
     /// It isn't to be had, which the attempt reports.
-    Report(Report<W>),
+    Report(Witnessed<W>),
 }
 
 /// What an attempt gets that goes for all blocks of its task.
@@ -34,14 +34,14 @@ pub(crate) enum Gathered<W: Naming> {
     /// All of them.
     Read(Read<W>),
     /// One isn't to be had, which the attempt reports.
-    Report(Report<W>),
+    Report(Witnessed<W>),
 }
 
 /// How far an attempt comes that uses stores alone.
 #[derive(Drop)]
 pub(crate) enum Prepared<W: Naming> {
     /// It has something to report.
-    Report(Report<W>),
+    Report(Witnessed<W>),
     /// It has the part of a save, which is to be written before it reports.
     Part(Computed<W>),
 }
@@ -49,38 +49,42 @@ pub(crate) enum Prepared<W: Naming> {
 /// Does a task as far as stores alone are used: reads its blocks where they lie, computes, and
 /// leaves what was made in the own store of the executor. A store is locked for one step at a time,
 /// and none is while the task is computed.
+#[tactic(auto, using(crate::proofs::Unread::barred_hinders))]
 pub(crate) fn prepare<W: Naming, R: Wait>(
     rt: &R,
     alloc: Global,
-    stores: &[Mutex<Store<W>>],
+    stores: &Stores<W>,
     exec: ExecId,
     task: Task<W>,
 ) -> Result<Prepared<W>, Left>
-    requires lay { All LiesOrLay task.hand_out.inputs }
+    requires known { exec < W.work.limits.executors }
+    requires lay { All (LiesOrLay W.work.limits.executors) task.hand_out.inputs }
     ensures prepared { IfOk result (IsPrepared W.work task) }
-    ensures hinders { IfErr result IsHindrance }
+    ensures hinders { IfErr result (Hinders exec task.hand_out) }
 {
-    match gather(rt, alloc, stores, task)? {
-        Gathered::Read(read) => make(rt, alloc, store_at(stores, exec)?, exec, read),
+    match gather(rt, alloc, stores, exec, task)? {
+        Gathered::Read(read) => make(rt, alloc, stores, exec, read),
         Gathered::Report(report) => Ok(Prepared::Report(report)),
     }
 }
 
-/// Reads the blocks of a task, one after another, until all are there or one isn't to be had.
+/// An executor reads the blocks of its task, one after another, until all are there or one isn't to
+/// be had.
 #[tactic(auto, using(crate::proofs::ReadingLemmas::some_left))]
 fn gather<W: Naming, R: Wait>(
     rt: &R,
     alloc: Global,
-    stores: &[Mutex<Store<W>>],
+    stores: &Stores<W>,
+    exec: ExecId,
     task: Task<W>,
 ) -> Result<Gathered<W>, Left>
-    requires lay { All LiesOrLay task.hand_out.inputs }
+    requires lay { All (LiesOrLay W.work.limits.executors) task.hand_out.inputs }
     ensures gathered { IfOk result (IsGathered task) }
-    ensures hinders { IfErr result IsHindrance }
+    ensures hinders { IfErr result (Hinders exec task.hand_out) }
 {
     let mut state = assign(alloc, task);
     while state.next() != Next::Complete {
-        match get_next(rt, stores, state)? {
+        match get_next(rt, stores, exec, state)? {
             Got::Next(next) => state = next,
             Got::Report(report) => return Ok(Gathered::Report(report)),
         }
@@ -88,105 +92,51 @@ fn gather<W: Naming, R: Wait>(
     Ok(Gathered::Read(state.ready(alloc)))
 }
 
-/// Goes for the next block of an attempt, which lies on some executor, or had no location.
-#[tactic(auto, using(crate::proofs::ReadingLemmas::lay_somewhere, crate::proofs::Unread::hinders))]
+/// An executor goes for the next block of its attempt, which lies on some executor, or had no
+/// location.
+#[tactic(auto, using(crate::proofs::ReadingLemmas::lay_somewhere))]
 fn get_next<W: Naming, R: Wait>(
     rt: &R,
-    stores: &[Mutex<Store<W>>],
+    stores: &Stores<W>,
+    exec: ExecId,
     state: Assigned<W>,
 ) -> Result<Got<W>, Left>
-    requires lay { All LiesOrLay state.task.hand_out.inputs }
+    requires lay { All (LiesOrLay W.work.limits.executors) state.task.hand_out.inputs }
     requires next { next_of state.task state.got ≢ Next.Complete }
     ensures gets { IfOk result (Gets state) }
-    ensures hinders { IfErr result IsHindrance }
+    ensures hinders { IfErr result (Hinders exec state.task.hand_out) }
 {
     match state.next() {
-        Next::Fetch { loc, .. } => {
-            let store = store_at(stores, loc.exec)?.lock(rt);
-            fetch_from(&store, loc.exec, state)
-        }
-        Next::Missing { .. } => Ok(Got::Report(state.missing())),
+        Next::Fetch { loc, .. } => stores.fetch(rt, loc.exec, state),
+        Next::Missing { .. } => Ok(Got::Report(Witnessed::of(state.missing()))),
         Next::Complete => unreachable!(),
     }
 }
 
-/// Computes what a task is to compute whose blocks were read, and leaves it in a store, which is to
-/// be that of the executor. The store isn't locked meanwhile.
+/// Computes what a task is to compute whose blocks were read, and leaves it in the store of its
+/// executor. The store isn't locked meanwhile.
 fn make<W: Naming, R: Wait>(
     rt: &R,
     alloc: Global,
-    own: &Mutex<Store<W>>,
+    stores: &Stores<W>,
     exec: ExecId,
     read: Read<W>,
 ) -> Result<Prepared<W>, Left>
+    requires known { exec < W.work.limits.executors }
     ensures prepared { IfOk result (IsPrepared W.work read.task) }
-    ensures hinders { IfErr result IsHindrance }
+    ensures barred { IfErr result (IsBarred exec) }
 {
-    let read = take_cached(rt, alloc, own, exec, read)?;
+    let read = stores.take_cached(rt, alloc, exec, read)?;
     match read.compute(alloc) {
-        Ok(Did::Computed(computed)) => leave_made(rt, own, exec, computed),
-        Ok(Did::Failed(report)) => Ok(Prepared::Report(report)),
-        Err(_) => Err(Left::NoMemory),
-    }
-}
-
-/// Takes the partitions of cache nodes that an attempt needs from a store, which is to be that of
-/// its executor.
-fn take_cached<W: Naming, R: Wait>(
-    rt: &R,
-    alloc: Global,
-    own: &Mutex<Store<W>>,
-    exec: ExecId,
-    read: Read<W>,
-) -> Result<Read<W>, Left>
-    ensures same { IfOk result (λ r. r.task ≡ read.task) }
-    ensures hinders { IfErr result IsHindrance }
-{
-    let store = own.lock(rt);
-    check_place(&store, exec)?;
-    match read.cached(alloc, &store) {
-        Ok(read) => Ok(read),
-        Err(_) => Err(Left::NoMemory),
-    }
-}
-
-/// Leaves what an attempt made in a store, which is to be that of its executor: the partitions of
-/// cache nodes, and the block of a map task. What a result hands over is reported at once.
-fn leave_made<W: Naming, R: Wait>(
-    rt: &R,
-    own: &Mutex<Store<W>>,
-    exec: ExecId,
-    computed: Computed<W>,
-) -> Result<Prepared<W>, Left>
-    ensures prepared { IfOk result (IsPrepared W.work computed.task) }
-    ensures hinders { IfErr result IsHindrance }
-{
-    let mut store = own.lock(rt);
-    check_place(&store, exec)?;
-    let Ok(computed) = computed.keep(&mut store) else {
-        return Err(Left::NoMemory);
-    };
-    if is_map(computed.task()) {
-        return put_block(&mut store, computed);
-    }
-    Ok(hand_over(computed))
-}
-
-/// Puts the block of a map task into a store, and reports where it lies.
-fn put_block<W: Naming>(store: &mut Store<W>, computed: Computed<W>) -> Result<Prepared<W>, Left>
-    requires map { is_map_task computed.task ≡ true }
-    ensures prepared { IfOk result (IsPrepared W.work computed.task) }
-    ensures hinders { IfErr result IsHindrance }
-{
-    match computed.put(store) {
-        Ok(stored) => Ok(Prepared::Report(stored.report())),
+        Ok(Did::Computed(computed)) => stores.leave_made(rt, exec, computed),
+        Ok(Did::Failed(report)) => Ok(Prepared::Report(Witnessed::of(report))),
         Err(_) => Err(Left::NoMemory),
     }
 }
 
 /// What an attempt has that has computed a result: its part, where the job saves, and else the
 /// report that hands it over.
-fn hand_over<W: Naming>(computed: Computed<W>) -> Prepared<W>
+pub(crate) fn hand_over<W: Naming>(computed: Computed<W>) -> Prepared<W>
     requires result { is_map_task computed.task ≡ false }
     ensures { IsPrepared W.work computed.task result }
 {
@@ -194,12 +144,12 @@ fn hand_over<W: Naming>(computed: Computed<W>) -> Prepared<W>
     if task.job().saves(task.work()) {
         Prepared::Part(computed)
     } else {
-        Prepared::Report(computed.result())
+        Prepared::Report(Witnessed::of(computed.result()))
     }
 }
 
 /// Whether a task is one of a map stage.
-fn is_map<W: Naming>(task: &Task<W>) -> bool
+pub(crate) fn is_map<W: Naming>(task: &Task<W>) -> bool
     ensures { result ≡ is_map_task task.now }
 {
     match task.job().stage(task.attempt().stage) {

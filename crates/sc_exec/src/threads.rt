@@ -12,13 +12,13 @@ use crate::driver::Driver;
 use crate::gates::Gate;
 use crate::helms::Helm;
 use crate::openings::Opening;
+use crate::places::Stores;
 use crate::work::work_loop;
 use crate::workers::Worker;
 use sc_clock::Clock;
 use sc_desk::Desk;
 use sc_files::Files;
 use sc_staging::Output;
-use sc_store::Store;
 use sc_work::Naming;
 use std::alloc::Global;
 use std::marker::Brand;
@@ -41,7 +41,7 @@ pub fn work_job<
     alloc: Global,
     desk: Desk<W>,
     output: Output<F>,
-    stores: &[Mutex<Store<W>>],
+    stores: &Stores<W>,
     gate: &G,
     clock: &Mutex<C>,
     workers: &mut [Worker],
@@ -53,7 +53,7 @@ pub fn work_job<
     ensures job { IsJobOf W.work
         (opening_of (helm_data desk (output_dir output) (output_files F.state output)))
         (helm_data result.0 (output_dir result.1) (output_files F.state result.1)) }
-    ensures worked { All HasCause workers.new }
+    ensures worked { All (HasCause W.work) workers.new }
     ensures places { AreInPlace W.work.limits.executors workers.new }
 {
     work_job_of::<W, Brand, F, G, C, R>(rt, alloc, desk, output, stores, gate, clock, workers)
@@ -72,7 +72,7 @@ fn work_job_of<
     alloc: Global,
     desk: Desk<W>,
     output: Output<F>,
-    stores: &[Mutex<Store<W>>],
+    stores: &Stores<W>,
     gate: &G,
     clock: &Mutex<C>,
     workers: &mut [Worker],
@@ -83,7 +83,7 @@ fn work_job_of<
     requires places { AreInPlace W.work.limits.executors workers.old }
     ensures job { IsJobOf W.work J.opening
         (helm_data result.0 (output_dir result.1) (output_files F.state result.1)) }
-    ensures worked { All HasCause workers.new }
+    ensures worked { All (HasCause W.work) workers.new }
     ensures places { AreInPlace W.work.limits.executors workers.new }
 {
     let driver = Driver {
@@ -98,7 +98,7 @@ fn work_job_of<
             many,
             &|_, worker|
                 requires { IsFresh W.work.limits.executors worker.now }
-                ensures { HasWorked worker.entry.now worker.exit.now }
+                ensures { HasWorked W.work worker.entry.now worker.exit.now }
             { employ(rt, alloc, &driver, stores, gate, clock, worker) },
         );
     }
@@ -111,13 +111,13 @@ fn employ<W: Naming, J: Opening, F: Files, G: Gate, C: Clock, R: Wait + time::Cl
     rt: &R,
     alloc: Global,
     driver: &Driver<W, J, F>,
-    stores: &[Mutex<Store<W>>],
+    stores: &Stores<W>,
     gate: &G,
     clock: &Mutex<C>,
     worker: &mut Worker,
 )
     requires fresh { IsFresh W.work.limits.executors worker.old }
-    ensures { HasWorked worker.old worker.new }
+    ensures { HasWorked W.work worker.old worker.new }
 {
     worker.left = work_loop(rt, alloc, driver, stores, gate, clock, &mut worker.log);
 }

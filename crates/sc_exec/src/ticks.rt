@@ -2,9 +2,10 @@
 #![tactic(auto)]
 
 ghost use Rattle.std.specs.Prelude.{◌≡◌, [], OnErr, OnOk};
+ghost use Rattle.sc_desk.specs.DeskData.{core_of};
 ghost use Rattle.sc_exec.specs.Helms.{KeepsFiles};
 ghost use Rattle.sc_exec.specs.Lefts.{IsAtWork};
-ghost use Rattle.sc_exec.specs.Logging.{HasRoom, IsSameLog, TicksBoth};
+ghost use Rattle.sc_exec.specs.Logging.{HasRoom, IsSameLog, IsTimed, TicksBoth};
 
 use crate::helms::Helm;
 use crate::openings::Opening;
@@ -41,11 +42,14 @@ impl<W: Naming, J: Opening, F: Files> Helm<W, J, F> {
     }
 
     /// Whether copies of slow tasks are handed out, for which the time is wanted.
-    pub(crate) fn speculates(&self) -> bool {
+    pub(crate) fn speculates(&self) -> bool
+        ensures { result ≡ (core_of self.now.desk).dag.limits.speculation }
+    {
         self.desk.core().limits().speculation
     }
 
-    /// An executor reads the clock and has its time entered, where that is wanted.
+    /// An executor reads the clock and has its time entered once, where that is wanted; else it
+    /// does nothing.
     #[tactic(auto, using(crate::proofs::TurnLemmas::ticks_on))]
     pub(crate) fn read_clock<C: Clock, R: Wait>(
         &mut self,
@@ -55,6 +59,7 @@ impl<W: Naming, J: Opening, F: Files> Helm<W, J, F> {
     ) -> Result<(), AllocError>
         requires room { HasRoom log.old }
         requires works { IsAtWork [] log.old }
+        ensures timed { OnOk result (IsTimed self.old.desk log.old self.new.desk log.new) }
         ensures works { IsAtWork [] log.new }
         ensures exec { log.new.exec ≡ log.old.exec }
         ensures room { HasRoom log.new }

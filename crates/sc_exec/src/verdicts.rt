@@ -32,7 +32,7 @@ pub enum Verdict {
 /// takes no memory.
 #[tactic(auto, using(crate::proofs::VerdictLemmas::unlogged))]
 pub fn judge<W: Naming>(desk: &Desk<W>, workers: &[Worker]) -> Verdict
-    requires worked { All HasCause workers.now }
+    requires worked { All (HasCause W.work) workers.now }
     requires places { AreInPlace W.work.limits.executors workers.now }
     ensures { IsVerdict (core_of desk.now) desk.now.journal.entries workers.now result }
 {

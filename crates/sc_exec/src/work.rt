@@ -2,9 +2,8 @@
 #![tactic(auto)]
 
 ghost use Rattle.std.specs.Prelude.{◌≡◌, ◌<◌, [], IfErr, IfOk, OnOk};
-ghost use Rattle.sc_exec.specs.Lefts.{IsAtWork, IsCause};
+ghost use Rattle.sc_exec.specs.Lefts.{IsAtWork, IsCause, IsDue, IsHindrance};
 ghost use Rattle.sc_exec.specs.Logging.{HasRoom};
-ghost use Rattle.sc_exec.specs.Performing.{IsHindrance};
 ghost use Rattle.sc_exec.specs.Turns.{IsAsked, IsTold};
 ghost use Rattle.sc_exec.specs.Working.{IsReasonToLeave, IsTurn};
 
@@ -12,16 +11,15 @@ use crate::attempts::perform;
 use crate::driver::Driver;
 use crate::gates::Gate;
 use crate::helms::Helm;
-use crate::lefts::Left;
+use crate::lefts::{Left, Stranger};
 use crate::openings::Opening;
-use crate::places::{check_place, store_at};
+use crate::places::Stores;
 use crate::turns::Asked;
 use sc_clock::Clock;
 use sc_desk::Taken;
 use sc_files::Files;
 use sc_logs::ExecLog;
-use sc_plan::{Order, OrderKind};
-use sc_store::Store;
+use sc_plan::Order;
 use sc_work::Naming;
 use std::alloc::{AllocError, Global};
 use std::sync::{Mutex, MutexGuard, Wait};
@@ -48,7 +46,7 @@ pub fn work_loop<W: Naming, J: Opening, F: Files, G: Gate, C: Clock, R: Wait + t
     rt: &R,
     alloc: Global,
     driver: &Driver<W, J, F>,
-    stores: &[Mutex<Store<W>>],
+    stores: &Stores<W>,
     gate: &G,
     clock: &Mutex<C>,
     log: &mut ExecLog,
@@ -57,7 +55,7 @@ pub fn work_loop<W: Naming, J: Opening, F: Files, G: Gate, C: Clock, R: Wait + t
     requires room { HasRoom log.old }
     requires known { log.old.exec < W.work.limits.executors }
     ensures exec { log.new.exec ≡ log.old.exec }
-    ensures cause { IsCause result log.new }
+    ensures cause { IsCause W.work log.new result }
 {
     for _ in rt.forever() {
         match take_turn(rt, alloc, driver, stores, gate, clock, log) {
@@ -68,13 +66,13 @@ pub fn work_loop<W: Naming, J: Opening, F: Files, G: Gate, C: Clock, R: Wait + t
     unreachable!()
 }
 
-/// An executor takes a turn: what is due is told, and then it carries out an order that is due, or
-/// asks for a task and does it. Where there is none for it now, it has waited for the bell.
+/// An executor takes a turn: it tells what is due, or carries out an order that is due, or asks for
+/// a task and does it. Where there is none for it now, it has waited for the bell.
 fn take_turn<W: Naming, J: Opening, F: Files, G: Gate, C: Clock, R: Wait + time::Clock>(
     rt: &R,
     alloc: Global,
     driver: &Driver<W, J, F>,
-    stores: &[Mutex<Store<W>>],
+    stores: &Stores<W>,
     gate: &G,
     clock: &Mutex<C>,
     log: &mut ExecLog,
@@ -82,14 +80,12 @@ fn take_turn<W: Naming, J: Opening, F: Files, G: Gate, C: Clock, R: Wait + time:
     requires works { IsAtWork [] log.old }
     requires room { HasRoom log.old }
     requires known { log.old.exec < W.work.limits.executors }
-    ensures turn { IsTurn result log.new }
+    ensures turn { IsTurn W.work result log.new }
     ensures exec { log.new.exec ≡ log.old.exec }
 {
     match begin(rt, driver, clock, log) {
-        Ok(Asked::Order(order)) => {
-            let went = obey(rt, stores, order);
-            end_turn(rt, driver, log, went)
-        }
+        Ok(Asked::Told) => Turn::Again,
+        Ok(Asked::Order(order)) => obey(rt, driver, stores, log, order),
         Ok(Asked::Taken(taken)) => follow(rt, alloc, driver, stores, gate, log, taken),
         Err(AllocError) => leave(rt, driver, log, Left::NoMemory),
     }
@@ -106,20 +102,15 @@ fn begin<W: Naming, J: Opening, F: Files, C: Clock, R: Wait + time::Clock>(
 ) -> Result<Asked<W>, AllocError>
     requires works { IsAtWork [] log.old }
     requires room { HasRoom log.old }
-    ensures asked { IfOk result (λ asked. IsAsked J.opening.job asked log.new) }
+    ensures asked { IfOk result (λ asked. IsAsked W.work J.opening.job asked log.new) }
     ensures exec { log.new.exec ≡ log.old.exec }
     ensures room { HasRoom log.new }
 {
-    let entered = log.entries.len();
     let mut helm = driver.helm.lock(rt);
     let speculates = helm.speculates();
     let asked = helm.begin_turn(rt, clock, log);
     if waits(&asked) {
         // a Take that is answered so, and a Tick, are nothing to wake the others for
-        let quiet = if speculates { 2 } else { 1 };
-        if log.entries.len() > entered + quiet {
-            driver.bell.notify_all();
-        }
         wait(rt, driver, helm, speculates);
     } else {
         drop(helm);
@@ -154,15 +145,15 @@ fn follow<W: Naming, J: Opening, F: Files, G: Gate, R: Wait>(
     rt: &R,
     alloc: Global,
     driver: &Driver<W, J, F>,
-    stores: &[Mutex<Store<W>>],
+    stores: &Stores<W>,
     gate: &G,
     log: &mut ExecLog,
     taken: Taken<W>,
 ) -> Turn
-    requires told { IsTold J.opening.job taken log.old }
+    requires told { IsTold W.work J.opening.job taken log.old }
     requires room { HasRoom log.old }
     requires known { log.old.exec < W.work.limits.executors }
-    ensures turn { IsTurn result log.new }
+    ensures turn { IsTurn W.work result log.new }
     ensures exec { log.new.exec ≡ log.old.exec }
 {
     match taken {
@@ -178,6 +169,30 @@ fn follow<W: Naming, J: Opening, F: Files, G: Gate, R: Wait>(
     }
 }
 
+/// An executor has an order of the fault plan carried out.
+fn obey<W: Naming, J: Opening, F: Files, R: Wait>(
+    rt: &R,
+    driver: &Driver<W, J, F>,
+    stores: &Stores<W>,
+    log: &mut ExecLog,
+    order: Order,
+) -> Turn
+    requires due { IsDue W.work order }
+    requires works { IsAtWork [] log.old }
+    requires room { HasRoom log.old }
+    requires known { log.old.exec < W.work.limits.executors }
+    ensures turn { IsTurn W.work result log.new }
+    ensures exec { log.new.exec ≡ log.old.exec }
+{
+    match stores.carry_out(rt, order) {
+        Ok(()) => Turn::Again,
+        Err(misplaced) => {
+            let left = Left::Stranger(Stranger::Store(misplaced));
+            leave(rt, driver, log, left)
+        }
+    }
+}
+
 /// The turn of an executor ends in which it did what it was told, or couldn't.
 fn end_turn<W: Naming, J: Opening, F: Files, R: Wait>(
     rt: &R,
@@ -186,10 +201,10 @@ fn end_turn<W: Naming, J: Opening, F: Files, R: Wait>(
     went: Result<(), Left>,
 ) -> Turn
     requires works { OnOk went (IsAtWork [] log.old) }
-    requires hinders { IfErr went IsHindrance }
+    requires hinders { IfErr went (IsHindrance W.work log.old) }
     requires room { HasRoom log.old }
     requires known { log.old.exec < W.work.limits.executors }
-    ensures turn { IsTurn result log.new }
+    ensures turn { IsTurn W.work result log.new }
     ensures exec { log.new.exec ≡ log.old.exec }
 {
     match went {
@@ -206,28 +221,13 @@ fn leave<W: Naming, J: Opening, F: Files, R: Wait>(
     log: &mut ExecLog,
     left: Left,
 ) -> Turn
-    requires reason { IsReasonToLeave left log.old }
+    requires reason { IsReasonToLeave W.work log.old left }
     requires room { HasRoom log.old }
     requires known { log.old.exec < W.work.limits.executors }
-    ensures turn { IsTurn result log.new }
+    ensures turn { IsTurn W.work result log.new }
     ensures exec { log.new.exec ≡ log.old.exec }
 {
     let _ = driver.helm.lock(rt).leave(log);
     driver.bell.notify_all();
     Turn::Over(left)
-}
-
-/// Carries out an order of the fault plan at the store of its executor.
-fn obey<W: Naming, R: Wait>(rt: &R, stores: &[Mutex<Store<W>>], order: Order) -> Result<(), Left>
-    ensures hinders { IfErr result IsHindrance }
-{
-    let mut store = store_at(stores, order.exec)?.lock(rt);
-    check_place(&store, order.exec)?;
-    match order.kind {
-        OrderKind::Drop | OrderKind::Lose => {
-            let _ = store.wipe(order);
-        }
-        OrderKind::Evict => store.evict(),
-    }
-    Ok(())
 }

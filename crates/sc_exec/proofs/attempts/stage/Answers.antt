@@ -1,5 +1,6 @@
 use Rattle.std.proofs.Common.{◌∙◌, ap}
 use Rattle.sc_net.specs.Tasks.{TaskData}
+use Rattle.sc_exec.proofs.OwedLemmas.{stages_told}
 use Rattle.sc_exec.proofs.PartLemmas.{part_text}
 use Rattle.sc_exec.proofs.attempts.stage.Goals as goal
 
@@ -10,3 +11,7 @@ stage_part-said-requires-clause-text g c =
     c.attempt-attempt.result _ c.requires.job
     (c.attempt-attempt.ensures ∙ ap (λ (t : TaskData). t.hand_out.attempt) c.task.ensures)
     c.in-Ok.ensures
+
+pub returns-in-Ok-said-clause-told : goal.returns-in-Ok-said-clause-told
+returns-in-Ok-said-clause-told g c =
+    stages_told _ _ c.args.log.now _ _ _ c.in-Ok-said.said c.in-Ok-said.ensures.stages

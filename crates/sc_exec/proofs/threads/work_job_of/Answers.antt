@@ -1,8 +1,7 @@
 use denote.Exit.{no}
-use denote.Param.Send.{param_sync, arg_sync, shr_slice_sync, shr_sync}
+use denote.Param.Send.{param_sync, arg_sync, shr_sync}
 use Rattle.std.proofs.sync.Mutex.TheSendSync as mutex
-use Rattle.sc_exec.proofs.Crossing.{driver_sync, global_sync, six_sync}
-use Rattle.sc_exec.proofs.JobsCross.{store_send}
+use Rattle.sc_exec.proofs.Crossing.{driver_sync, global_sync, six_sync, stores_sync}
 use Rattle.std.proofs.Common.{All, List, arith, subst, sym}
 use Rattle.sc_exec.specs.Workers.{AreInPlace, HasCause}
 use Rattle.sc_exec.specs.Working.{IsFresh}
@@ -18,7 +17,7 @@ for_each_mut-requires-sync-F g c κs within =
     (shr_sync _ _ _ global_sync)
     (shr_sync _ _ _ (driver_sync _ _ _ g.W.Naming g.J.Opening g.F.Files c.type_bounds.send-W
     c.type_bounds.send-J c.type_bounds.send-F))
-    (shr_slice_sync _ _ _ (mutex.the_sync _ (store_send _ g.W.Naming c.type_bounds.send-W)))
+    (shr_sync _ _ _ (stores_sync _ g.W.Naming c.type_bounds.send-W))
     (shr_sync _ _ _ c.type_bounds.sync-G)
     (shr_sync _ _ _ (mutex.the_sync _ c.type_bounds.send-C))))
 
@@ -30,10 +29,13 @@ for_each_mut-requires-clause-accepts g c κs within = λ i p lt at.
 pub returns-clause-worked : goal.returns-clause-worked
 returns-clause-worked g c =
     elim c.if-many-gt0.branch [
-      | then-many-gt0 w ↦ subst (λ (ws : List Worker). All HasCause ws) (sym w.workers-is)
-          (worked_causes c.args.workers.now w.for_each_mut.new.s w.for_each_mut.auto.s
+      | then-many-gt0 w ↦ subst (λ (ws : List Worker). All (HasCause g.W.Naming.work) ws)
+          (sym w.workers-is)
+          (worked_causes g.W.Naming.work c.args.workers.now w.for_each_mut.new.s
+          w.for_each_mut.auto.s
           (λ i d lt. let at = (w.for_each_mut.ensures i d lt).1 in
-          worked_at _ _ at.argument.now at.after_call.now at.argument_is at.left at.call))
+          worked_at g.W.Naming.work _ _ at.argument.now at.after_call.now at.argument_is at.left
+          at.call))
       | else-many-gt0 w ↦ λ k d lt.
           absurd (omega (arith, lt, c.if-many-gt0.auto.workers, w.if-many-gt0.false))
     ]
@@ -44,9 +46,11 @@ returns-clause-places g c =
       | then-many-gt0 w ↦ subst
           (λ (ws : List Worker). AreInPlace g.W.Naming.work.limits.executors ws)
           (sym w.workers-is)
-          (worked_places c.args.workers.now w.for_each_mut.new.s w.for_each_mut.auto.s
+          (worked_places g.W.Naming.work c.args.workers.now w.for_each_mut.new.s
+          w.for_each_mut.auto.s
           (λ i d lt. let at = (w.for_each_mut.ensures i d lt).1 in
-          worked_at _ _ at.argument.now at.after_call.now at.argument_is at.left at.call)
+          worked_at g.W.Naming.work _ _ at.argument.now at.after_call.now at.argument_is at.left
+          at.call)
           g.W.Naming.work.limits.executors c.requires.places)
       | else-many-gt0 w ↦ subst
           (λ (ws : List Worker). AreInPlace g.W.Naming.work.limits.executors ws)
