@@ -1,6 +1,7 @@
 -- What the history of an aborted job shows.
 use Rattle.std.proofs.Common.{◌≡◌, ◌∙◌, ◌⊎◌, inl, inr, ap, ℕ, ◌<◌, ◌≤◌, ◌&&◌, true, List, [], ◌∷◌, ◌++◌, Option, Some, None, IfSome, length, refl, sym, subst, arith, true≢false}
 use Rattle.std.specs.List.{All, Contains}
+use Rattle.std.specs.Option.{option_to_list}
 use Rattle.std.proofs.lemmas.Bool.{and_parts, false≢true}
 use Rattle.std.proofs.lemmas.List.Elements.{All-append, All-cons, All-contains, All-head, All-nil}
 use Rattle.sc_ids.specs.Failures.{is_counted}
@@ -106,7 +107,8 @@ saves_itself work p (goals.Action number) next e =
 saves_itself work p (goals.Bounds sort) next e = absurd (false≢true e)
 
 module _ (known_causes : AreCauses) (work : WorkData) (sound : IsSoundWork work) (p : Progress)
-    (goal : Goal) (h : JobHistory) (is : IsHistory work p goal h) (core : IsSoundCore h.end)
+    (goal : Goal) (tried : Option JobHistory) (h : JobHistory)
+    (is : IsHistory work p goal tried h) (core : IsSoundCore h.end)
     (fits : FitsRun work h.end) where
   -- every executor was told lost
   all_lost : h.end.job ≡ jobs.Aborted NoExecutor → are_lost h.end.dag.tracker.trust ≡ true
@@ -136,7 +138,7 @@ module _ (known_causes : AreCauses) (work : WorkData) (sound : IsSoundWork work)
       (before : FitsLast work p.last) (empty : work.plan ≡ []) where
     -- so does what the job began behind
     from_fits : FitsLast work is.from
-    from_fits = fits_behind work p.last is.from h.entries.items is.behind before
+    from_fits = fits_behind work tried p.last is.from h.entries.items is.behind before
 
     -- the job is for this action
     serves : (g : Goal) → IsNext work p g → Serves work g p.actions
@@ -218,18 +220,27 @@ module _ (known_causes : AreCauses) (work : WorkData) (sound : IsSoundWork work)
     unplanned_abort Budget e = tt
 
   -- the job was aborted
-  pub is_aborted : (histories before : List JobHistory) (abort : Abort)
-      → HasCome work (first_progress work) before p → histories ≡ before ++ h ∷ []
-      → p.actions < length work.script.actions
+  pub is_aborted : (histories given_up before given : List JobHistory) (abort : Abort)
+      → HasCome work (first_progress work) before given p → histories ≡ before ++ h ∷ []
+      → given_up ≡ given ++ option_to_list tried → p.actions < length work.script.actions
       → IsCarriedFor work.script.nodes p.carried → IsGoal work goal → FitsLast work p.last
-      → h.end.job ≡ jobs.Aborted abort → IsAborted work p.actions histories abort
-  is_aborted histories before abort come all within carried known last e =
+      → h.end.job ≡ jobs.Aborted abort → IsAborted work p.actions histories given_up abort
+  is_aborted histories given_up before given abort come all all_given within carried known last
+      e =
       record {
         known = within;
         progress = p;
         goal = goal;
         history = h;
-        gone = record { before = before; all = all; come = come; is = is };
+        gone = record {
+          before = before;
+          all = all;
+          given_before = given;
+          tried = tried;
+          all_given = all_given;
+          come = come;
+          is = is;
+        };
         at = refl;
         aborted = e;
         shows = shows_abort abort e;

@@ -1,5 +1,5 @@
 -- How a job goes on from its beginning, and begins again.
-use Rattle.std.proofs.Common.{◌≡◌, ◌∙◌, inl, inr, ℕ, zero, suc, List, [], ◌∷◌, ◌++◌, Option, Some, None, IfSome, option_map, replicate, refl, ap, sym, subst, arith}
+use Rattle.std.proofs.Common.{◌≡◌, ◌∙◌, ℕ, zero, suc, List, [], ◌∷◌, ◌++◌, Option, Some, None, IfSome, option_map, replicate, refl, ap, sym, subst}
 use Rattle.sc_base.specs.Lists.{at_or}
 use Rattle.sc_base.specs.Outside.{FilesState, IsLaterFiles}
 use Rattle.sc_base.specs.Trees.{Path, Tree}
@@ -35,14 +35,6 @@ use Rattle.sc_context.specs.Starts.{IsUnregistered}
 use Rattle.sc_context.proofs.ReadyLemmas.{begun_unregistered}
 
 -- ---- files that go on
-
-pub later_self : (f : FilesState) → IsLaterFiles f f
-later_self f =
-    record {
-      shown = changes-none (λ t u. Unit {0}) f.shown (λ t. tt);
-      faults = omega arith;
-      clashes = omega arith;
-    }
 
 pub goes_self : (dir : Option Path) (f : FilesState) → GoesOnIn dir f f
 goes_self None f = refl

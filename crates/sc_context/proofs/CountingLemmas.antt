@@ -1,7 +1,9 @@
 -- What the files have counted behind jobs, by what the histories of these tell of.
 use Rattle.std.specs.declared.alloc.Global.{Global}
-use Rattle.std.proofs.Common.{◌≡◌, ◌⊎◌, ◌∙◌, inl, inr, ℕ, ◌<◌, List, [], ◌∷◌, ◌++◌, Option, Some, None, refl, ap, sym, subst, arith, Vec}
+use Rattle.std.proofs.Common.{◌≡◌, ◌∙◌, inl, inr, List, [], ◌∷◌, ◌++◌, Option, Some, None, append_assoc, refl, ap, sym, subst, arith, Vec}
+use Rattle.std.specs.Option.{option_to_list}
 use Rattle.std.specs.Prelude.{IfErr, IfOk, Result, Ok, Err}
+use Rattle.std.proofs.lemmas.List.{append-nil}
 use Rattle.sc_base.specs.Outside.{FilesState, IsLaterFiles, IsQuietFiles}
 use Rattle.sc_base.specs.Trees.{Path}
 use Rattle.sc_base.specs.declared.refusals.OrMemory.{OrMemory}
@@ -20,10 +22,10 @@ use Rattle.sc_core.specs.declared.journals.JobHistory.{JobHistory}
 use Rattle.sc_compute.specs.declared.results.TaskResult.{TaskResult}
 use Rattle.sc_output.proofs.CallLemmas.{later-then}
 use Rattle.sc_desk.specs.Files.{AreCounted, faults_of}
-use Rattle.sc_desk.proofs.CountLemmas.{counts_quiet}
-use Rattle.sc_context.specs.Files.{CountAll, CountsLast, CountsOf, HasCounted, HaveLeft}
-use Rattle.sc_context.specs.Goings.{CountsSince, IsLeftOpen}
-use Rattle.sc_context.specs.Histories.{AreDrivers, HasCome}
+use Rattle.sc_desk.proofs.CountLemmas.{counted_then, counts_quiet}
+use Rattle.sc_context.specs.Files.{CountAll, CountsLast, CountsOf, HasCounted, HaveLeft, faults_with}
+use Rattle.sc_context.specs.Goings.{IsLeftOpen}
+use Rattle.sc_context.specs.Histories.{HasCome}
 use Rattle.sc_context.specs.Outputs.{CountsIn, EndsOutput, EndsSave, IsOpenIn, LacksBy, LacksResults, RefusesIn, RefusesOutput}
 use Rattle.sc_context.specs.Progress.{Progress}
 use Rattle.sc_context.specs.declared.stops.JobFault.{JobFault}
@@ -86,21 +88,21 @@ output_counts (Some dir) end before after ended ends =
     save_counts dir end.committers end.job before after ended ends
 
 lacks_count : (end : CoreData) (why : OrMemory JobFault) (before after : FilesState)
-    → LacksResults end why → IsQuietFiles before after → CountsLast why 0 before after
+    → LacksResults end why → IsQuietFiles before after → CountsLast why before after
 lacks_count end (Fault (faults.Aborted abort)) before after lacks quiet = quiet
 lacks_count end (Fault (faults.Exists path)) before after lacks quiet = absurd lacks
 lacks_count end (Fault (faults.Device path)) before after lacks quiet = absurd lacks
-lacks_count end OutOfMemory before after lacks quiet = inl quiet
+lacks_count end OutOfMemory before after lacks quiet = quiet
 
 last_count : (ended : Result (Unit {0}) (OrMemory Path)) (end : CoreData)
     (why : OrMemory JobFault) (before after : FilesState) → LacksBy ended end why
-    → Counts ended before after → CountsLast why 0 before after
+    → Counts ended before after → CountsLast why before after
 last_count (Ok u) end why before after lacks counts =
     lacks_count end why before after lacks counts
 last_count (Err (Fault path)) end why before after lacks counts =
-    subst (λ w. CountsLast w 0 before after) (sym lacks) counts
+    subst (λ w. CountsLast w before after) (sym lacks) counts
 last_count (Err OutOfMemory) end why before after lacks counts =
-    subst (λ w. CountsLast w 0 before after) (sym lacks) (inl counts)
+    subst (λ w. CountsLast w before after) (sym lacks) counts
 
 -- ---- a job from its beginning to its end
 
@@ -135,152 +137,193 @@ open_later None before opened is =
     subst (λ (f : FilesState). IsLaterFiles before f) (sym is) (later_none before)
 open_later (Some dir) before opened is = is.0
 
--- what is counted since it began, from before its files were opened
-count_of : (dir : Option Path) (h : JobHistory) (before opened begun last : FilesState)
-    → IsOpenIn dir before opened → IsLaterFiles opened begun
-    → (counts_of begun ≡ counts_of opened) ⊎ AreDrivers h.entries.items
-    → AreCounted (counts_of begun) (faults_of h.entries.items) (counts_of last)
-    → CountsOf h before last
-count_of dir h before opened begun last is_open later since counted =
+-- what is counted while it runs, behind what was counted before
+pub counts_then : {A : Type 0} (told more : List device.Fault) (opened mid closed : FilesState)
+    (results : Result A (OrMemory JobFault))
+    → AreCounted (counts_of opened) told (counts_of mid) → CountsIn more mid closed results
+    → CountsIn (told ++ more) opened closed results
+counts_then told more opened mid closed (Ok a) first then =
+    counted_then (counts_of opened) (counts_of mid) (counts_of closed) told more first then
+counts_then told more opened mid closed (Err why) first then =
     record {
-      begun = begun;
-      later = later-then before opened begun (open_later dir before opened is_open) later;
-      since = from since;
-      counted = counted;
+      last = then.last;
+      counted = counted_then (counts_of opened) (counts_of mid) (counts_of then.last) told more
+          first then.counted;
+      later = then.later;
+      ends = then.ends;
     }
-  where
-    from : (counts_of begun ≡ counts_of opened) ⊎ AreDrivers h.entries.items
-        → (counts_of begun ≡ counts_of before) ⊎ AreDrivers h.entries.items
-    from (inl same) = inl (same ∙ open_counts dir before opened is_open)
-    from (inr alone) = inr alone
 
-pub done_counts : (dir : Option Path) (h : JobHistory) (before opened after : FilesState)
-    (given : Vec TaskResult Global) (results : Result (Vec TaskResult Global) (OrMemory JobFault))
-    → results ≡ Ok given → IsOpenIn dir before opened → CountsSince h opened after results
-    → CountsOf h before after
-done_counts dir h before opened after given results ok is_open counts =
-    count_of dir h before opened counts.begun after is_open counts.later counts.since
-    (subst (CountsIn (faults_of h.entries.items) counts.begun after) ok counts.counted)
+-- from before its files were opened
+from_open : (dir : Option Path) (told : List device.Fault) (before opened last : FilesState)
+    → IsOpenIn dir before opened → AreCounted (counts_of opened) told (counts_of last)
+    → AreCounted (counts_of before) told (counts_of last)
+from_open dir told before opened last is_open counted =
+    subst (λ n. AreCounted n told (counts_of last)) (open_counts dir before opened is_open) counted
 
--- where no job was given up nothing else is counted than where some were
-more_given : (why : OrMemory JobFault) (given_up : ℕ) (before after : FilesState)
-    → CountsLast why 0 before after → CountsLast why given_up before after
-more_given (Fault (faults.Aborted abort)) given_up before after ends = ends
-more_given (Fault (faults.Exists path)) given_up before after ends = ends
-more_given (Fault (faults.Device path)) given_up before after ends = ends
-more_given OutOfMemory given_up before after (inl quiet) = inl quiet
-more_given OutOfMemory given_up before after (inr none) = absurd (omega (arith, none))
+pub done_counts : (dir : Option Path) (tried : Option JobHistory) (h : JobHistory)
+    (before opened after : FilesState) (given : Vec TaskResult Global)
+    (results : Result (Vec TaskResult Global) (OrMemory JobFault))
+    → results ≡ Ok given → IsOpenIn dir before opened
+    → CountsIn (faults_with tried h) opened after results → CountsOf tried h before after
+done_counts dir tried h before opened after given results ok is_open counts =
+    from_open dir (faults_with tried h) before opened after is_open
+    (subst (CountsIn (faults_with tried h) opened after) ok counts)
 
-pub stop_counts : (dir : Option Path) (h : JobHistory) (given_up : ℕ)
+-- one job was counted, and no other was given up
+count_one : (tried : Option JobHistory) (h : JobHistory) (before after : FilesState)
+    → CountsOf tried h before after → CountAll (h ∷ []) (option_to_list tried) before after
+count_one tried h before after counted =
+    record {
+      tried = tried;
+      rest = [];
+      all = sym (append-nil (option_to_list tried));
+      mid = after;
+      counted = counted;
+      then = (refl, refl);
+    }
+
+pub stop_counts : (dir : Option Path) (tried : Option JobHistory) (h : JobHistory)
     (before opened after : FilesState) (why : OrMemory JobFault)
     (results : Result (Vec TaskResult Global) (OrMemory JobFault)) → results ≡ Err why
-    → IsOpenIn dir before opened → CountsSince h opened after results
-    → HasCounted (h ∷ []) why given_up before after
-stop_counts dir h given_up before opened after why results is is_open counts =
-    let has = subst (CountsIn (faults_of h.entries.items) counts.begun after) is counts.counted in
+    → IsOpenIn dir before opened → CountsIn (faults_with tried h) opened after results
+    → HasCounted (h ∷ []) (option_to_list tried) why before after
+stop_counts dir tried h before opened after why results is is_open counts =
+    let has = subst (CountsIn (faults_with tried h) opened after) is counts in
     record {
+      front = option_to_list tried;
+      unfinished = None;
+      all = sym (append-nil (option_to_list tried));
       last = has.last;
-      counted = (
-        has.last,
-        count_of dir h before opened counts.begun has.last is_open counts.later counts.since
-            has.counted,
-        refl,
-      );
+      counted = count_one tried h before has.last
+          (from_open dir (faults_with tried h) before opened has.last is_open has.counted);
       later = has.later;
-      ends = more_given why given_up has.last after has.ends;
+      ends = has.ends;
     }
 
 -- ---- jobs that stop
 
--- nothing was done
-pub still_counts : (given_up : ℕ) (before after : FilesState) → after ≡ before
-    → HasCounted [] OutOfMemory given_up before after
-still_counts given_up before after same =
-    subst (λ (f : FilesState). HasCounted [] OutOfMemory given_up before f) (sym same)
-    (record {
+-- no job was run, and this ended the next one
+none_counts : (why : OrMemory JobFault) (before after : FilesState) → IsLaterFiles before after
+    → CountsLast why before after → HasCounted [] [] why before after
+none_counts why before after later ends =
+    record {
+      front = [];
+      unfinished = None;
+      all = refl;
       last = before;
-      counted = refl;
-      later = later_none before;
-      ends = inl (quiet_none before);
-    })
+      counted = (refl, refl);
+      later = later;
+      ends = ends;
+    }
+
+-- nothing was done
+pub still_counts : (before after : FilesState) → after ≡ before
+    → HasCounted [] [] OutOfMemory before after
+still_counts before after same =
+    subst (λ (f : FilesState). HasCounted [] [] OutOfMemory before f) (sym same)
+    (none_counts OutOfMemory before before (later_none before) (quiet_none before))
 
 -- memory ran out behind a job that is done
-pub ended_counts : (h : JobHistory) (given_up : ℕ) (before after : FilesState)
-    → CountsOf h before after → HasCounted (h ∷ []) OutOfMemory given_up before after
-ended_counts h given_up before after counted =
+pub ended_counts : (tried : Option JobHistory) (h : JobHistory) (before after : FilesState)
+    → CountsOf tried h before after
+    → HasCounted (h ∷ []) (option_to_list tried) OutOfMemory before after
+ended_counts tried h before after counted =
     record {
+      front = option_to_list tried;
+      unfinished = None;
+      all = sym (append-nil (option_to_list tried));
       last = after;
-      counted = (after, counted, refl);
+      counted = count_one tried h before after counted;
       later = later_none after;
-      ends = inl (quiet_none after);
+      ends = quiet_none after;
     }
 
 -- its files weren't opened
-refused_in : (dir : Path) (given_up : ℕ) (before after : FilesState) (why : OrMemory JobFault)
-    → RefusesIn dir before after why → CountsLast why given_up before after
-refused_in dir given_up before after (Fault (faults.Aborted abort)) refused = absurd refused
-refused_in dir given_up before after (Fault (faults.Exists path)) refused = refused.1
-refused_in dir given_up before after (Fault (faults.Device path)) refused = inl refused.1.failed
-refused_in dir given_up before after OutOfMemory refused = inl refused.0
+refused_in : (dir : Path) (before after : FilesState) (why : OrMemory JobFault)
+    → RefusesIn dir before after why → CountsLast why before after
+refused_in dir before after (Fault (faults.Aborted abort)) refused = absurd refused
+refused_in dir before after (Fault (faults.Exists path)) refused = refused.1
+refused_in dir before after (Fault (faults.Device path)) refused = inl refused.1.failed
+refused_in dir before after OutOfMemory refused = refused.0
 
-pub refused_counts : (dir : Option Path) (given_up : ℕ) (before after : FilesState)
+pub refused_counts : (dir : Option Path) (before after : FilesState)
     (why : OrMemory JobFault) → RefusesOutput dir before after why
-    → HasCounted [] why given_up before after
-refused_counts None given_up before after why refused = absurd refused
-refused_counts (Some dir) given_up before after why refused =
-    record {
-      last = before;
-      counted = refl;
-      later = refused.0;
-      ends = refused_in dir given_up before after why refused.1;
-    }
+    → HasCounted [] [] why before after
+refused_counts None before after why refused = absurd refused
+refused_counts (Some dir) before after why refused =
+    none_counts why before after refused.0 (refused_in dir before after why refused.1)
 
 -- they were opened, and memory ran out then
-pub opened_counts : (dir : Option Path) (given_up : ℕ) (before opened : FilesState)
-    → IsOpenIn dir before opened → HasCounted [] OutOfMemory given_up before opened
-opened_counts None given_up before opened is = still_counts given_up before opened is
-opened_counts (Some dir) given_up before opened is =
-    record { last = before; counted = refl; later = is.0; ends = inl is.1 }
+pub opened_counts : (dir : Option Path) (before opened : FilesState)
+    → IsOpenIn dir before opened → HasCounted [] [] OutOfMemory before opened
+opened_counts None before opened is = still_counts before opened is
+opened_counts (Some dir) before opened is = none_counts OutOfMemory before opened is.0 is.1
 
 -- or its executors gave it up before
-pub given_up_counts : (dir : Option Path) (given_up : ℕ) (before opened files : FilesState)
-    → IsOpenIn dir before opened → IsLeftOpen dir opened files → 0 < given_up
-    → HasCounted [] OutOfMemory given_up before files
-given_up_counts dir given_up before opened files is left some =
+pub given_up_counts : (dir : Option Path) (before opened files : FilesState)
+    (tried : JobHistory) → IsOpenIn dir before opened → IsLeftOpen dir opened files
+    → AreCounted (counts_of opened) (faults_of tried.entries.items) (counts_of files)
+    → HasCounted [] (tried ∷ []) OutOfMemory before files
+given_up_counts dir before opened files tried is left counted =
     record {
+      front = [];
+      unfinished = Some tried;
+      all = refl;
       last = before;
-      counted = refl;
+      counted = (refl, refl);
       later = later-then before opened files (open_later dir before opened is) left.0;
-      ends = inr some;
+      ends = (
+        refl,
+        from_open dir (faults_of tried.entries.items) before opened files is counted,
+      );
     }
 
 -- ---- jobs one behind the other
 
-all_append : (xs ys : List JobHistory) (before then after : FilesState)
-    → CountAll xs before then → CountAll ys then after → CountAll (xs ++ ys) before after
-all_append [] ys before then after same counted =
-    subst (λ (f : FilesState). CountAll ys f after) same counted
-all_append (h ∷ xs) ys before then after (mid, first, rest) counted =
-    (mid, first, all_append xs ys mid then after rest counted)
-
-pub left_counts : (work : WorkData) (p q : Progress) (histories : List JobHistory)
-    (before after : FilesState) (come : HasCome work p histories q)
-    → HaveLeft work p histories q come before after → CountAll histories before after
-left_counts work p q [] before after come left = left
-left_counts work p q (h ∷ histories) before after come left = (
-  left.0,
-  left.1.counted,
-  left_counts work come.0 q histories left.0 after come.2 left.2,
-)
-
-pub counts_behind : (front more : List JobHistory) (why : OrMemory JobFault) (given_up : ℕ)
-    (before then after : FilesState) → CountAll front before then
-    → HasCounted more why given_up then after
-    → HasCounted (front ++ more) why given_up before after
-counts_behind front more why given_up before then after first has =
+all_append : (xs xgs ys ygs : List JobHistory) (before then after : FilesState)
+    → CountAll xs xgs before then → CountAll ys ygs then after
+    → CountAll (xs ++ ys) (xgs ++ ygs) before after
+all_append [] xgs ys ygs before then after same counted =
+    subst (λ gs. CountAll ys (gs ++ ygs) before after) (sym same.1)
+    (subst (λ (f : FilesState). CountAll ys ygs f after) same.0 counted)
+all_append (h ∷ xs) xgs ys ygs before then after first counted =
     record {
+      tried = first.tried;
+      rest = first.rest ++ ygs;
+      all = ap (λ gs. gs ++ ygs) first.all
+          ∙ append_assoc (option_to_list first.tried) first.rest ygs;
+      mid = first.mid;
+      counted = first.counted;
+      then = all_append xs first.rest ys ygs first.mid then after first.then counted;
+    }
+
+pub left_counts : (work : WorkData) (p q : Progress) (histories given_up : List JobHistory)
+    (before after : FilesState) (come : HasCome work p histories given_up q)
+    → HaveLeft work p histories given_up q come before after
+    → CountAll histories given_up before after
+left_counts work p q [] given_up before after come left = (left, come.1)
+left_counts work p q (h ∷ histories) given_up before after come left =
+    record {
+      tried = come.tried;
+      rest = come.rest;
+      all = come.all;
+      mid = left.0;
+      counted = left.1.counted;
+      then = left_counts work come.mid q histories come.rest left.0 after come.then left.2;
+    }
+
+pub counts_behind : (front given more others : List JobHistory) (why : OrMemory JobFault)
+    (before then after : FilesState) → CountAll front given before then
+    → HasCounted more others why then after
+    → HasCounted (front ++ more) (given ++ others) why before after
+counts_behind front given more others why before then after first has =
+    record {
+      front = given ++ has.front;
+      unfinished = has.unfinished;
+      all = ap (λ gs. given ++ gs) has.all
+          ∙ sym (append_assoc given has.front (option_to_list has.unfinished));
       last = has.last;
-      counted = all_append front more before then has.last first has.counted;
+      counted = all_append front given more has.front before then has.last first has.counted;
       later = has.later;
       ends = has.ends;
     }

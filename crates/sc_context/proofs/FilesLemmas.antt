@@ -1,6 +1,8 @@
 -- What jobs leave of the files, one behind the other, and how the files of a save stand.
-use Rattle.std.proofs.Common.{◌≡◌, ◌∙◌, inl, inr, false, List, [], ◌∷◌, ◌++◌, Option, Some, None, refl, sym, subst, arith}
+use Rattle.std.proofs.Common.{◌≡◌, ◌∙◌, inl, inr, false, List, [], ◌∷◌, ◌++◌, Option, Some, None, append_assoc, ap, refl, sym, subst, arith}
+use Rattle.std.specs.Option.{option_to_list}
 use Rattle.std.specs.Prelude.{Result, Ok, Err}
+use Rattle.std.proofs.lemmas.List.{append-nil}
 use Rattle.sc_base.specs.Outside.{Changes, FilesState, IsLaterFiles}
 use Rattle.sc_base.specs.Trees.{Path, has_dir}
 use Rattle.sc_base.specs.declared.refusals.OrMemory.{OrMemory}
@@ -29,32 +31,53 @@ use Rattle.sc_context.specs.declared.stops.JobFault.TheVariants as faults
 -- ---- jobs one behind the other
 
 -- some jobs were done, and left the files so
-pub record HaveGone (work : WorkData) (p : Progress) (histories : List JobHistory) (q : Progress)
-    (before after : FilesState) : Type 0 where
-  pub come : HasCome work p histories q
-  pub left : HaveLeft work p histories q come before after
+pub record HaveGone (work : WorkData) (p : Progress) (histories given_up : List JobHistory)
+    (q : Progress) (before after : FilesState) : Type 0 where
+  pub come : HasCome work p histories given_up q
+  pub left : HaveLeft work p histories given_up q come before after
 
-pub gone_then : (work : WorkData) (p mid q : Progress) (xs ys : List JobHistory)
-    (before then after : FilesState) → HaveGone work p xs mid before then
-    → HaveGone work mid ys q then after → HaveGone work p (xs ++ ys) q before after
-gone_then work p mid q [] ys before then after one two =
-    subst (λ x. HaveGone work x ys q before after) one.come
-    (subst (λ f. HaveGone work mid ys q f after) one.left two)
-gone_then work p mid q (x ∷ xs) ys before then after one two =
-    let next = one.come.0 in
-    let rest = gone_then work next mid q xs ys one.left.0 then after
-    (record { come = one.come.2; left = one.left.2 }) two in
+pub gone_then : (work : WorkData) (p mid q : Progress) (xs xgs ys ygs : List JobHistory)
+    (before then after : FilesState) → HaveGone work p xs xgs mid before then
+    → HaveGone work mid ys ygs q then after
+    → HaveGone work p (xs ++ ys) (xgs ++ ygs) q before after
+gone_then work p mid q [] xgs ys ygs before then after one two =
+    subst (λ gs. HaveGone work p ys (gs ++ ygs) q before after) (sym one.come.1)
+    (subst (λ x. HaveGone work x ys ygs q before after) one.come.0
+    (subst (λ f. HaveGone work mid ys ygs q f after) one.left two))
+gone_then work p mid q (x ∷ xs) xgs ys ygs before then after one two =
+    let come = one.come in
+    let rest = gone_then work come.mid mid q xs come.rest ys ygs one.left.0 then after
+    (record { come = come.then; left = one.left.2 }) two in
     record {
-      come = (next, one.come.1, rest.come);
+      come = record {
+        mid = come.mid;
+        tried = come.tried;
+        rest = come.rest ++ ygs;
+        all = ap (λ gs. gs ++ ygs) come.all
+            ∙ append_assoc (option_to_list come.tried) come.rest ygs;
+        done = come.done;
+        then = rest.come;
+      };
       left = (one.left.0, one.left.1, rest.left);
     }
 
 -- one job
-pub gone_once : (work : WorkData) (p q : Progress) (h : JobHistory) (before after : FilesState)
-    → (done : IsDone work p h q) → LeavesFiles work done.goal h before after
-    → HaveGone work p (h ∷ []) q before after
-gone_once work p q h before after done left =
-    record { come = (q, done, refl); left = (after, left, refl) }
+pub gone_once : (work : WorkData) (p q : Progress) (tried : Option JobHistory) (h : JobHistory)
+    (before after : FilesState) → (done : IsDone work p tried h q)
+    → LeavesFiles work done.goal tried h before after
+    → HaveGone work p (h ∷ []) (option_to_list tried) q before after
+gone_once work p q tried h before after done left =
+    record {
+      come = record {
+        mid = q;
+        tried = tried;
+        rest = [];
+        all = sym (append-nil (option_to_list tried));
+        done = done;
+        then = (refl, refl);
+      };
+      left = (after, left, refl);
+    }
 
 -- ---- a job that comes to no end
 

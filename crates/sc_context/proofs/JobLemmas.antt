@@ -1,6 +1,7 @@
 -- What a job leaves that went somehow.
 use Rattle.std.specs.declared.alloc.Global.{Global}
 use Rattle.std.proofs.Common.{◌≡◌, ◌∙◌, inl, inr, ℕ, ◌<◌, ◌≤◌, List, [], ◌∷◌, ◌++◌, Option, Some, length, refl, ap, sym, subst, Vec}
+use Rattle.std.specs.Option.{option_to_list}
 use Rattle.std.specs.Prelude.{IfErr, IfOk, Result}
 use Rattle.sc_base.specs.Outside.{FilesState}
 use Rattle.sc_base.specs.Trees.{Path}
@@ -16,7 +17,7 @@ use Rattle.sc_core.specs.declared.answers.Abort.{Abort}
 use Rattle.sc_core.specs.declared.answers.JobState.{JobState}
 use Rattle.sc_core.specs.declared.answers.JobState.TheVariants as jobs
 use Rattle.sc_core.specs.declared.journals.JobHistory.{JobHistory}
-use Rattle.sc_jobs.specs.JobData.{IsGoal, JobData, goal_node, job_data, saves}
+use Rattle.sc_jobs.specs.JobData.{IsGoal, JobData, goal_node, saves}
 use Rattle.sc_jobs.specs.declared.goals.Goal.{Goal}
 use Rattle.sc_desk.specs.Begins.{FitsLast, FitsRun, IsPassedFor}
 use Rattle.sc_desk.specs.DeskData.{PassedData}
@@ -33,26 +34,24 @@ use Rattle.sc_context.specs.Progress.{IsNext, Progress, actions_behind, behind_j
 use Rattle.sc_context.specs.declared.stops.JobFault.{JobFault}
 use Rattle.sc_context.specs.declared.stops.JobFault.TheVariants as faults
 use Rattle.sc_context.proofs.AbortLemmas.{AreCauses, is_aborted, saves_itself}
+use Rattle.sc_context.proofs.BehindLemmas.{job_is, tried_if}
 use Rattle.sc_context.proofs.ChainLemmas.{ended_come, ended_short, last_more}
 use Rattle.sc_context.proofs.DoneLemmas.{aborted_undone, running_unaborted}
 use Rattle.sc_context.proofs.FilesLemmas.{HaveGone, gone_once, stops_for}
 
 -- a job went somehow behind others, and this goes on
-pub record HasWent (work : WorkData) (p : Progress) (goal : Goal) (h : JobHistory)
-    (after : PassedData) : Type 0 where
-  pub is : IsHistory work p goal h
+pub record HasWent (work : WorkData) (p : Progress) (goal : Goal) (tried : Option JobHistory)
+    (h : JobHistory) (after : PassedData) : Type 0 where
+  pub is : IsHistory work p goal tried h
   pub carried : after.carried ≡ after_job p.carried is.graph
 
 -- A job that went so from a desk that began.
 module _ (work : WorkData) (p : Progress) (goal : Goal) (passed next : PassedData)
-    (dir : Option Path) (opened files : FilesState) (h : JobHistory)
+    (dir : Option Path) (opened files : FilesState) (tried : Option JobHistory) (h : JobHistory)
     (results : Result (Vec TaskResult Global) (OrMemory JobFault))
-    (run : HasRun work passed p.last goal dir opened h next results files) where
-  job_is : run.desk.job ≡ job_data goal run.desk.job.graph
-  job_is = ap (λ g. job_data g run.desk.job.graph) run.begins.goal_is
-
+    (run : HasRun work passed p.last goal dir opened tried h next results files) where
   pub has_went : IsNext work p goal → passed.carried ≡ p.carried → IsSoundCore h.opening
-      → HasWent work p goal h next
+      → HasWent work p goal tried h next
   has_went comes same core =
       record {
         is = record {
@@ -68,8 +67,10 @@ module _ (work : WorkData) (p : Progress) (goal : Goal) (passed next : PassedDat
           began = core;
           replays = run.goes.replays;
           evidence = subst (λ (j : JobData).
-              AreEvident work j h.opening h.entries.items h.end run.goes.replays) job_is
+              AreEvident work j h.opening h.entries.items h.end run.goes.replays)
+              (job_is goal run.desk.job run.begins.goal_is)
               (run.goes.evidence run.goes.replays);
+          was_tried = tried_if work p goal run.desk.job tried run.begins.goal_is run.was_tried;
         };
         carried = run.goes.carried
             ∙ run.begins.carried_on
@@ -91,17 +92,20 @@ module _ (work : WorkData) (p : Progress) (goal : Goal) (passed next : PassedDat
       subst (λ g. WentIn dir work g h.end opened files results) run.begins.goal_is run.goes.left
 
 -- a job that is done
-pub ended_is : (work : WorkData) (c : ContextData) (goal : Goal) (h : JobHistory)
-    (passed : PassedData) (histories : List JobHistory) (given : List TaskResult)
-    (files : FilesState) → HasWent work c.progress goal h passed
-    → histories ≡ c.histories ++ h ∷ [] → h.end.job ≡ jobs.Done
-    → IsReady work passed (Some h.end) → AreResultsFor work goal given
-    → LeavesFiles work goal h c.files files
-    → IsEnded work c goal passed histories given files
-ended_is work c goal h passed histories given files went all done ready given_are left =
+pub ended_is : (work : WorkData) (c : ContextData) (goal : Goal) (tried : Option JobHistory)
+    (h : JobHistory) (passed : PassedData) (histories given_up : List JobHistory)
+    (given : List TaskResult) (files : FilesState) → HasWent work c.progress goal tried h passed
+    → histories ≡ c.histories ++ h ∷ [] → given_up ≡ c.given_up ++ option_to_list tried
+    → h.end.job ≡ jobs.Done → IsReady work passed (Some h.end) → AreResultsFor work goal given
+    → LeavesFiles work goal tried h c.files files
+    → IsEnded work c goal passed histories given_up given files
+ended_is work c goal tried h passed histories given_up given files went all all_given done ready
+    given_are left =
     record {
       history = h;
       all = all;
+      tried = tried;
+      all_given = all_given;
       is = went.is;
       done = done;
       carried = went.carried;
@@ -112,29 +116,33 @@ ended_is work c goal h passed histories given files went all done ready given_ar
 
 -- one that has no results
 module _ (known_causes : AreCauses) (work : WorkData) (sound : IsSoundWork work)
-    (c : ContextData) (goal : Goal) (h : JobHistory) (histories : List JobHistory)
-    (is : IsHistory work c.progress goal h) (core : IsSoundCore h.end)
-    (fits : FitsRun work h.end)
-    (come : HasCome work (first_progress work) c.histories c.progress)
+    (c : ContextData) (goal : Goal) (tried : Option JobHistory) (h : JobHistory)
+    (histories given_up : List JobHistory) (is : IsHistory work c.progress goal tried h)
+    (core : IsSoundCore h.end) (fits : FitsRun work h.end)
+    (come : HasCome work (first_progress work) c.histories c.given_up c.progress)
     (all : histories ≡ c.histories ++ h ∷ [])
+    (all_given : given_up ≡ c.given_up ++ option_to_list tried)
     (within : c.progress.actions < length work.script.actions)
     (carried : IsCarriedFor work.script.nodes c.progress.carried) (known : IsGoal work goal)
     (last : FitsLast work c.progress.last) where
   aborts : (abort : Abort) → h.end.job ≡ jobs.Aborted abort
-      → IsAborted work c.progress.actions histories abort
+      → IsAborted work c.progress.actions histories given_up abort
   aborts abort e =
-      is_aborted known_causes work sound c.progress goal h is core fits histories c.histories abort
-      come all within carried known last e
+      is_aborted known_causes work sound c.progress goal tried h is core fits histories given_up
+      c.histories c.given_up abort come all all_given within carried known last e
 
-  cut_short : IsUnaborted h.end → IsCutShort work c.progress.actions histories
+  cut_short : IsUnaborted h.end → IsCutShort work c.progress.actions histories given_up
   cut_short unaborted =
-      ended_short work c.progress c.histories histories h goal come is unaborted all
+      ended_short work c.progress c.histories c.given_up histories given_up tried h goal come is
+      unaborted all all_given
 
-  halts : IsUnabortedOrSave work goal h.end → IsHalted work c.progress.actions histories
+  halts : IsUnabortedOrSave work goal h.end
+      → IsHalted work c.progress.actions histories given_up
   halts (inl unaborted) = inl (cut_short unaborted)
   halts (inr saved) = by h.end.job refl
     where
-      by : (job : JobState) → h.end.job ≡ job → IsHalted work c.progress.actions histories
+      by : (job : JobState) → h.end.job ≡ job
+          → IsHalted work c.progress.actions histories given_up
       by (jobs.Aborted abort) e =
           inr (saves_itself work c.progress goal is.next saved, (abort, aborts abort e))
       by jobs.Done e =
@@ -143,19 +151,24 @@ module _ (known_causes : AreCauses) (work : WorkData) (sound : IsSoundWork work)
           inl (cut_short (λ abort aborted. running_unaborted h.end.job abort e aborted))
 
   shows_stop : (why : OrMemory JobFault) → HasNoResults work goal h.end why
-      → ShowsStop work c.progress.actions why histories
+      → ShowsStop work c.progress.actions why histories given_up
   shows_stop (Fault (faults.Aborted abort)) e = aborts abort e
   shows_stop (Fault (faults.Exists path)) e = absurd e
   shows_stop (Fault (faults.Device path)) e = halts e
   shows_stop OutOfMemory e = halts e
 
-  pub stops_job : (why : OrMemory JobFault) (given_up : ℕ) (files : FilesState)
+  pub stops_job : (why : OrMemory JobFault) (files : FilesState)
       → HasNoResults work goal h.end why → StopsIn (dir_of_job work goal) c.files files why
-      → HasCounted (h ∷ []) why given_up c.files files
+      → HasCounted (h ∷ []) (option_to_list tried) why c.files files
       → Stops work c why histories given_up files
-  stops_job why given_up files none stops counted =
+  stops_job why files none stops counted =
       record {
-        behind = (h ∷ [], all);
+        behind = record {
+          more = h ∷ [];
+          all = all;
+          given = option_to_list tried;
+          all_given = all_given;
+        };
         shows = shows_stop why none;
         over = stops_for work c.progress goal c.files files why is.next stops;
         counted = counted;
@@ -165,13 +178,14 @@ module _ (known_causes : AreCauses) (work : WorkData) (sound : IsSoundWork work)
 
 -- A job that is done, and what goes on behind it.
 module _ (work : WorkData) (c : ContextData) (goal : Goal) (passed after : PassedData)
-    (histories : List JobHistory) (given : List TaskResult) (actions : ℕ) (files : FilesState)
-    (come : HasCome work (first_progress work) c.histories c.progress)
-    (ended : IsEnded work c goal passed histories given files)
+    (histories given_up : List JobHistory) (given : List TaskResult) (actions : ℕ)
+    (files : FilesState)
+    (come : HasCome work (first_progress work) c.histories c.given_up c.progress)
+    (ended : IsEnded work c goal passed histories given_up given files)
     (carried : after.carried ≡ carried_behind work goal ended.is.graph c.progress.carried)
     (many : actions ≡ actions_behind goal c.progress.actions) where
   abbrev behind : ContextData
-  behind = context_data actions after.carried histories files
+  behind = context_data actions after.carried histories given_up files
 
   last_is : last_end histories ≡ Some ended.history.end
   last_is = ap last_end ended.all ∙ last_more c.histories ended.history
@@ -184,17 +198,23 @@ module _ (work : WorkData) (c : ContextData) (goal : Goal) (passed after : Passe
       ∙ ap (λ n. progress n (carried_behind work goal ended.is.graph c.progress.carried)
       (Some ended.history.end)) many
 
+  abbrev given_then : List JobHistory
+  given_then = c.given_up ++ option_to_list ended.tried
+
   -- a context stands behind it
   pub context_behind : actions ≤ length work.script.actions → IsPassedFor work after
       → length after.carried.bounds ≡ length work.script.nodes
       → IsContext work after behind
   context_behind within serves places =
       record {
-        come = subst (λ hs. HasCome work (first_progress work) hs
+        come = subst (λ gs. HasCome work (first_progress work) histories gs
+            (progress actions after.carried (last_end histories))) (sym ended.all_given)
+            (subst (λ hs. HasCome work (first_progress work) hs given_then
             (progress actions after.carried (last_end histories))) (sym ended.all)
-            (subst (HasCome work (first_progress work) (c.histories ++ ended.history ∷ []))
-            (sym progress_is)
-            (ended_come work c.progress c.histories ended.history goal come ended.is ended.done));
+            (subst (HasCome work (first_progress work) (c.histories ++ ended.history ∷ [])
+            given_then) (sym progress_is)
+            (ended_come work c.progress c.histories c.given_up ended.tried ended.history goal come
+            ended.is ended.done)));
         within = within;
         ready = subst (IsReady work after) (sym last_is)
             (record { passed_on = serves; fits = ended.ready.fits });
@@ -202,8 +222,9 @@ module _ (work : WorkData) (c : ContextData) (goal : Goal) (passed after : Passe
       }
 
   -- and it left the files so
-  pub gone_behind : HaveGone work c.progress (ended.history ∷ []) behind.progress c.files files
+  pub gone_behind : HaveGone work c.progress (ended.history ∷ []) (option_to_list ended.tried)
+      behind.progress c.files files
   gone_behind =
-      gone_once work c.progress behind.progress ended.history c.files files
+      gone_once work c.progress behind.progress ended.tried ended.history c.files files
       (record { goal = goal; is = ended.is; done = ended.done; behind = progress_is })
       ended.left

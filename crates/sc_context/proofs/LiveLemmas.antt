@@ -16,8 +16,9 @@ module _ (work : WorkData) where
   abbrev LiveBehind : Option CoreData → Type 0
   LiveBehind last = HasLive (tracker_behind last work.limits)
 
-  done_live : (p after : Progress) (h : JobHistory) → IsDone work p h after → LiveBehind after.last
-  done_live p after h done =
+  done_live : (p after : Progress) (tried : Option JobHistory) (h : JobHistory)
+      → IsDone work p tried h after → LiveBehind after.last
+  done_live p after tried h done =
       subst LiveBehind (sym (ap (λ (q : Progress). q.last) done.behind))
       ((replays_keep_sound h.opening h.end h.entries.items done.is.began done.is.replays).staffed
       (not_aborted h.end done.done))
@@ -25,14 +26,15 @@ module _ (work : WorkData) where
       not_aborted : (end : CoreData) → end.job ≡ jobs.Done → end.job ≢ jobs.Aborted NoExecutor
       not_aborted end is e = absurd (search (rules, is, e))
 
-  come_live : (p after : Progress) (hs : List JobHistory) → LiveBehind p.last
-      → HasCome work p hs after → LiveBehind after.last
-  come_live p after [] live is = subst LiveBehind (sym (ap (λ (q : Progress). q.last) is)) live
-  come_live p after (h ∷ hs) live (mid, done, rest) =
-      come_live mid after hs (done_live p mid h done) rest
+  come_live : (p after : Progress) (hs given_up : List JobHistory) → LiveBehind p.last
+      → HasCome work p hs given_up after → LiveBehind after.last
+  come_live p after [] given_up live is =
+      subst LiveBehind (sym (ap (λ (q : Progress). q.last) is.0)) live
+  come_live p after (h ∷ hs) given_up live come =
+      come_live come.mid after hs come.rest (done_live p come.mid come.tried h come.done) come.then
 
   -- and before the first one, where there are executors
-  pub live_behind : (p : Progress) (hs : List JobHistory) → 0 < work.limits.executors
-      → HasCome work (first_progress work) hs p → LiveBehind p.last
-  live_behind p hs some come =
-      come_live (first_progress work) p hs (first_has_live work.limits some) come
+  pub live_behind : (p : Progress) (hs given_up : List JobHistory) → 0 < work.limits.executors
+      → HasCome work (first_progress work) hs given_up p → LiveBehind p.last
+  live_behind p hs given_up some come =
+      come_live (first_progress work) p hs given_up (first_has_live work.limits some) come

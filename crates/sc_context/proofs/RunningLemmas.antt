@@ -1,5 +1,5 @@
 -- What came of a job that began: its executors worked to its end, or gave it up.
-use Rattle.std.proofs.Common.{◌≡◌, ◌∙◌, ◌⊎◌, inl, inr, ◌||◌, All, Bool, true, false, Global, List, [], Option, option_map, length, refl, ap, sym, subst}
+use Rattle.std.proofs.Common.{◌≡◌, ◌∙◌, ◌⊎◌, inl, inr, ◌||◌, All, Bool, true, false, Global, List, [], Option, Some, None, option_map, length, refl, ap, sym, subst}
 use Rattle.std.specs.Prelude.{Result, Vec}
 use Rattle.std.proofs.lemmas.List.Elements.{All-nil, All-weaker}
 use Rattle.sc_base.specs.Outside.{FilesState, IsLaterFiles}
@@ -11,10 +11,11 @@ use Rattle.sc_lineage.specs.ScriptData.{WorkData}
 use Rattle.sc_files.specs.Calls.{counts_of}
 use Rattle.sc_staging.specs.Outputs.{GoesOnIn}
 use Rattle.sc_core.specs.CoreData.{CoreData}
-use Rattle.sc_core.specs.Openings.{unregistered_core}
+use Rattle.sc_core.specs.Openings.{IsOpening, unregistered_core}
 use Rattle.sc_core.specs.Journals.{Replays}
 use Rattle.sc_core.specs.declared.entries.Entry.{Entry}
 use Rattle.sc_core.specs.declared.journals.JobHistory.{JobHistory}
+use Rattle.sc_jobs.specs.JobData.{JobData, saves}
 use Rattle.sc_jobs.specs.declared.goals.Goal.{Goal}
 use Rattle.sc_logs.specs.Logs.{Interleaves, IsLogIn, is_known, marks_driver}
 use Rattle.sc_logs.specs.declared.logs.ExecLog.{ExecLog}
@@ -22,6 +23,7 @@ use Rattle.sc_desk.specs.Begins.{Begins, BeginsAgain}
 use Rattle.sc_desk.specs.DeskData.{DeskData, PassedData}
 use Rattle.sc_desk.specs.Files.{AreCounted, faults_of}
 use Rattle.sc_desk.specs.declared.orders.Ordered.{Ordered}
+use Rattle.sc_desk.specs.Sound.{AreEvident}
 use Rattle.sc_desk.proofs.AgainLemmas.{again_is_begun}
 use Rattle.sc_exec.specs.Helms.{IsJobOf, helm_data, opening_of}
 use Rattle.sc_exec.specs.Openings.{OpeningData, opening_data}
@@ -31,15 +33,17 @@ use Rattle.sc_exec.specs.declared.lefts.Left.{Left}
 use Rattle.sc_exec.specs.declared.verdicts.Verdict.{Verdict}
 use Rattle.sc_exec.specs.declared.verdicts.Verdict.TheVariants as verdicts
 use Rattle.sc_exec.specs.declared.workers.Worker.{Worker}
-use Rattle.sc_context.specs.Goings.{BeganBehind, CameFrom, ComesFrom, GoesFrom, HasRun, RunsAgain, RunsFrom}
+use Rattle.sc_context.specs.Goings.{BeganBehind, CameFrom, ComesFrom, GivesUp, GoesFrom, HasRun, IsSoFar, IsTrial, RunsAgain, RunsFrom}
 use Rattle.sc_context.specs.Histories.{AreDrivers}
 use Rattle.sc_context.specs.Outputs.{CountsIn}
-use Rattle.sc_context.specs.Records.{IsGivenUp, IsLogged, WasGivenUp}
+use Rattle.sc_context.specs.Records.{IsLogged, WasGivenUp}
 use Rattle.sc_context.specs.declared.records.GaveUp.{GaveUp}
 use Rattle.sc_context.specs.declared.running.Run.{Run}
 use Rattle.sc_context.specs.declared.running.Run.TheVariants as runs
 use Rattle.sc_context.specs.declared.stops.JobFault.{JobFault}
-use Rattle.sc_context.proofs.AloneLemmas.{again_stands, comes_along, later_self}
+use Rattle.sc_context.specs.declared.went.Went.{Went}
+use Rattle.sc_context.proofs.AloneLemmas.{again_stands, comes_along}
+use Rattle.sc_context.proofs.CountingLemmas.{counts_then}
 
 -- ---- what executors wrote down
 
@@ -108,22 +112,18 @@ module _ (work : WorkData) (passed : PassedData) (last : Option CoreData) (goal 
       → ((begun : FilesState)
       → AreCounted (counts_of begun) (faults_of d.journal.entries) (counts_of files)
       → CountsIn (faults_of h.entries.items) begun closed results)
-      → HasRun work passed last goal dir opened h next results closed
+      → HasRun work passed last goal dir opened None h next results closed
   has_run h next results closed begins goes counts =
       record {
         desk = first;
         from = last;
         begins = begins;
-        behind = inl refl;
+        behind = refl;
+        was_tried = tt;
         goes = goes (opening_of (helm_data first dir opened))
             (comes_along work (opening_of (helm_data first dir opened)) (helm_data d then files)
             is);
-        counted = record {
-          begun = opened;
-          later = later_self opened;
-          since = inl refl;
-          counted = counts opened is.counted;
-        };
+        counted = counts opened is.counted;
       }
 
   -- it is given up, and may begin again
@@ -140,61 +140,107 @@ module _ (work : WorkData) (passed : PassedData) (last : Option CoreData) (goal 
         orders_are = same ∙ begins.ordered;
       }
 
+  -- how it went until then
+  trial_of : (tried : JobHistory) → Begins work passed last goal first → IsSoFar work d tried
+      → IsTrial work last goal first.job tried
+  trial_of tried begins so =
+      record {
+        opening = subst (IsOpening first.job.graph work.limits (saves work goal) work.plan last)
+            (sym (so.opening ∙ is.core)) begins.opening;
+        replays = so.replays;
+        evidence = subst (λ (j : JobData).
+            AreEvident work j tried.opening tried.entries.items tried.end so.replays) is.job
+            so.evidence;
+      }
+
+  -- and what its files had counted
+  told_of : (tried : JobHistory) → IsSoFar work d tried
+      → AreCounted (counts_of opened) (faults_of tried.entries.items) (counts_of files)
+  told_of tried so =
+      subst (λ (es : List Entry). AreCounted (counts_of opened) (faults_of es) (counts_of files))
+      (sym so.entries) is.counted
+
+  -- it began again
+  went_again : {F : Type 0} (state : F → FilesState) (orders : List Ordered) (went : Went F)
+      (gave_up : GaveUp) → Begins work passed last goal first → orders ≡ first.ordered
+      → ((after : DeskData) × BeginsAgain work d last orders after
+      × ((o : OpeningData) → ComesFrom work o (helm_data after then files)
+      → GoesFrom work o went.history went.passed went.results (state went.files)))
+      → AreDrivers went.history.entries.items
+      → CountsIn (faults_of went.history.entries.items) files (state went.files) went.results
+      → IsSoFar work d gave_up.history
+      → HasRun work passed last goal dir opened (Some gave_up.history) went.history went.passed
+      went.results (state went.files)
+  went_again state orders went gave_up begins same (after, again, goes) drivers counted so =
+      record {
+        desk = after;
+        from = option_map unregistered_core last;
+        begins = again_is_begun work passed last last goal first d after orders begins is.job
+            is.carried (same ∙ begins.ordered) again;
+        behind = (refl, drivers);
+        was_tried = subst (λ (j : JobData). IsTrial work last goal j gave_up.history)
+            (sym (again.job ∙ is.job)) (trial_of gave_up.history begins so);
+        goes = goes (opening_data after.journal.opening after.job after.carried dir opened)
+            (record {
+              core = refl;
+              job = refl;
+              carried = refl;
+              dir = is.dir;
+              stand = again_stands work d after last orders then files again is.stand;
+              later = is.later;
+              goes = is.goes;
+            });
+        counted = counts_then (faults_of gave_up.history.entries.items)
+            (faults_of went.history.entries.items) opened files (state went.files) went.results
+            (told_of gave_up.history so) counted;
+      }
+
   -- and did, or didn't
   pub has_run_again : {W F : Type 0} (state : F → FilesState) (orders : List Ordered)
       (run : Run W F)
       → Begins work passed last goal first → orders ≡ first.ordered
       → RunsAgain work state d last orders then files run
       → RunsFrom work state passed last goal dir opened run
-  has_run_again state orders (runs.Went went logs gave_up stores) begins same
-      ((after, again, goes), drivers, counted, logged, given) = (
-        record {
-          desk = after;
-          from = option_map unregistered_core last;
-          begins = again_is_begun work passed last last goal first d after orders begins is.job
-              is.carried (same ∙ begins.ordered) again;
-          behind = inr (refl, drivers);
-          goes = goes (opening_data after.journal.opening after.job after.carried dir opened)
-              (record {
-                core = refl;
-                job = refl;
-                carried = refl;
-                dir = is.dir;
-                stand = again_stands work d after last orders then files again is.stand;
-                later = is.later;
-                goes = is.goes;
-              });
-          counted = record {
-            begun = files;
-            later = is.later;
-            since = inr drivers;
-            counted = counted;
-          };
-        },
+  has_run_again state orders (runs.Went went logs None stores) begins same
+      (again, drivers, counted, logged, given) = absurd given
+  has_run_again state orders (runs.Went went logs (Some gave_up) stores) begins same
+      (again, drivers, counted, logged, given) = (
+        went_again state orders went gave_up begins same again drivers counted given.1,
         logged,
-        given,
+        given.0,
       )
   has_run_again state orders (runs.Refused gave_up after) begins same (given, stays) = (
-    given,
-    (
-      subst (λ (f : FilesState). IsLaterFiles opened f) (sym stays) is.later,
-      subst (λ (f : FilesState). GoesOnIn dir opened f) (sym stays) is.goes,
-    ),
+    given.0,
+    record {
+      desk = first;
+      begins = begins;
+      was_tried = trial_of gave_up.history begins given.1;
+      left_open = (
+        subst (λ (f : FilesState). IsLaterFiles opened f) (sym stays) is.later,
+        subst (λ (f : FilesState). GoesOnIn dir opened f) (sym stays) is.goes,
+      );
+      counted = subst (λ (f : FilesState). AreCounted (counts_of opened)
+          (faults_of gave_up.history.entries.items) (counts_of f)) (sym stays)
+          (told_of gave_up.history given.1);
+    },
   )
 
 -- ---- a job that begins again
 
--- how it went before
-pub is_given_up : (g : GaveUp) (entries : List Entry)
-    → Replays g.history.opening g.history.entries.items g.history.end
-    → g.history.entries.items ≡ entries → WasGivenUp entries g.logs.items g.lefts.items
-    → IsGivenUp g
-is_given_up g entries replays same cause =
-    record {
-      replays = replays;
-      cause = subst (λ (es : List Entry). WasGivenUp es g.logs.items g.lefts.items) (sym same)
-          cause;
-    }
+-- how it went before, and why it was given up
+pub gives_up : (work : WorkData) (d : DeskData) (g : GaveUp)
+    → g.history.opening ≡ d.journal.opening → g.history.entries.items ≡ d.journal.entries
+    → (is : Replays g.history.opening g.history.entries.items g.history.end)
+    → AreEvident work d.job g.history.opening g.history.entries.items g.history.end is
+    → WasGivenUp d.journal.entries g.logs.items g.lefts.items → GivesUp work d g
+gives_up work d g opening entries replays evidence cause = (
+  record {
+    replays = replays;
+    cause = subst (λ (es : List Entry). WasGivenUp es g.logs.items g.lefts.items) (sym entries)
+        cause;
+  },
+  record { opening = opening; entries = entries; replays = replays; evidence = evidence },
+)
 
 -- it begins like any other, behind a job of which nothing is registered
 pub begins_again : (work : WorkData) (last : Option CoreData) (orders : List Ordered)

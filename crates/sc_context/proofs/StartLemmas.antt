@@ -55,7 +55,7 @@ within n None h = omega arith
 within n (Some s) h = h
 
 -- as many stores as executors, each with the number of its own
-many_made : (work : WorkData) (make : ℕ → StoreData)
+pub many_made : (work : WorkData) (make : ℕ → StoreData)
     → length (map make (numbers_below work.limits.executors)) ≡ work.limits.executors
 many_made work make =
     length-map (numbers_below work.limits.executors) make
@@ -92,10 +92,10 @@ first_progress_is work passed is = ap (λ c. progress 0 c None) is
 
 pub first_context : (work : WorkData) (passed : PassedData) (files : FilesState)
     → passed.carried ≡ (first_progress work).carried → IsReady work passed None
-    → IsContext work passed (context_data 0 passed.carried [] files)
+    → IsContext work passed (context_data 0 passed.carried [] [] files)
 first_context work passed files is ready =
     record {
-      come = first_progress_is work passed is;
+      come = (first_progress_is work passed is, refl);
       within = omega arith;
       ready = ready;
       places = ap (λ (c : CarriedData). length c.bounds) is
@@ -105,8 +105,8 @@ first_context work passed files is ready =
 -- its view
 pub first_view : (work : WorkData) (passed : PassedData) (files : FilesState)
     → passed.carried ≡ (first_progress work).carried
-    → context_data 0 passed.carried [] files ≡ new_context work files
-first_view work passed files is = ap (λ c. context_data 0 c [] files) is
+    → context_data 0 passed.carried [] [] files ≡ new_context work files
+first_view work passed files is = ap (λ c. context_data 0 c [] [] files) is
 
 -- ---- stores at the generations that were seen
 

@@ -46,13 +46,13 @@ IsUnplanned work k NoExecutor = ⊥
 IsUnplanned work k Budget = Unit {0}
 
 -- the last job, which ran for this action or for bounds that it needs, was aborted
-pub record IsAborted (work : WorkData) (k : ℕ) (histories : List JobHistory) (abort : Abort)
-    : Type 0 where
+pub record IsAborted (work : WorkData) (k : ℕ) (histories given_up : List JobHistory)
+    (abort : Abort) : Type 0 where
   pub known : k < length work.script.actions
   pub progress : Progress
   pub goal : Goal
   pub history : JobHistory
-  pub gone : HasGone work histories progress goal history
+  pub gone : HasGone work histories given_up progress goal history
   pub at : progress.actions ≡ k
   pub aborted : history.end.job ≡ jobs.Aborted abort
   pub shows : ShowsAbort work history gone.is.replays abort
@@ -60,8 +60,8 @@ pub record IsAborted (work : WorkData) (k : ℕ) (histories : List JobHistory) (
 
 -- A job for this action, or for bounds that it needs, went no further without being aborted; or the
 -- action saves, and the job was aborted, behind which a call on files or memory may have failed.
-abbrev pub IsHalted : WorkData → ℕ → List JobHistory → Type 0
-IsHalted work k histories =
-    IsCutShort work k histories
+abbrev pub IsHalted : WorkData → ℕ → List JobHistory → List JobHistory → Type 0
+IsHalted work k histories given_up =
+    IsCutShort work k histories given_up
     ⊎ ((saves work (goals.Action k) ≡ true)
-    × ((abort : Abort) × IsAborted work k histories abort))
+    × ((abort : Abort) × IsAborted work k histories given_up abort))

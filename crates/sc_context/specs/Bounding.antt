@@ -16,14 +16,16 @@ abbrev pub parts_of : NodeData → ℕ
 parts_of (shuffle_node kind parent n) = n
 parts_of node = 0
 
--- the same action comes next, the jobs that were done stand at the front of those of before, and
--- the files are as they were
+-- the same action comes next, the jobs that were done stand behind those of before, and the files
+-- are as they were
 pub record GoesOn (work : WorkData) (c after : ContextData) : Type 0 where
   pub actions : after.progress.actions ≡ c.progress.actions
   pub more : List JobHistory
   pub all : after.histories ≡ c.histories ++ more
-  pub come : HasCome work c.progress more after.progress
-  pub left : HaveLeft work c.progress more after.progress come c.files after.files
+  pub given : List JobHistory
+  pub all_given : after.given_up ≡ c.given_up ++ given
+  pub come : HasCome work c.progress more given after.progress
+  pub left : HaveLeft work c.progress more given after.progress come c.files after.files
   pub files : after.files ≡ c.files
 
 -- the bounds of a sort were found

@@ -1,6 +1,7 @@
 -- How a job is recorded once it is over.
 use Rattle.std.specs.declared.alloc.Global.{Global}
-use Rattle.std.specs.Prelude.{ℕ, ◌≡◌, ◌<◌, ◌⊎◌, IfSome, List, [], ◌∷◌, ◌++◌, Option, Some, None, Result, Err, Vec}
+use Rattle.std.specs.Prelude.{◌≡◌, ◌⊎◌, IfSome, List, [], ◌∷◌, ◌++◌, Option, Some, Result, Err, Vec}
+use Rattle.std.specs.Option.{option_to_list}
 use Rattle.sc_base.specs.Outside.{FilesState}
 use Rattle.sc_base.specs.Trees.{Path}
 use Rattle.sc_base.specs.declared.refusals.OrMemory.{OrMemory}
@@ -12,7 +13,7 @@ use Rattle.sc_core.specs.Sound.{IsSoundCore}
 use Rattle.sc_core.specs.declared.journals.JobHistory.{JobHistory}
 use Rattle.sc_jobs.specs.declared.goals.Goal.{Goal}
 use Rattle.sc_desk.specs.DeskData.{PassedData}
-use Rattle.sc_context.specs.Goings.{HasRun, IsLeftOpen}
+use Rattle.sc_context.specs.Goings.{HasRun, IsLeftOver}
 use Rattle.sc_context.specs.Records.{IsGivenUp, IsLogged}
 use Rattle.sc_context.specs.declared.records.GaveUp.{GaveUp}
 use Rattle.sc_context.specs.declared.running.Run.{Run}
@@ -27,32 +28,33 @@ CanBeKept (runs.Went went logs gave_up stores) =
 CanBeKept (runs.Refused gave_up files) = IsGivenUp gave_up
 
 -- which runs of a job were given up: one at most
-abbrev pub one_at_most : Option GaveUp → List GaveUp
-one_at_most None = []
-one_at_most (Some gave_up) = gave_up ∷ []
+abbrev pub given_by : {W F : Type 0} → Run W F → Option GaveUp
+given_by (runs.Went went logs gave_up stores) = gave_up
+given_by (runs.Refused gave_up files) = Some gave_up
 
--- those that came before what came of it
-abbrev pub given_by : {W F : Type 0} → Run W F → List GaveUp
-given_by (runs.Went went logs gave_up stores) = one_at_most gave_up
-given_by (runs.Refused gave_up files) = gave_up ∷ []
-
--- A job went so, behind what goes on and another job or none, and its history stands behind the
--- others.
+-- A job went so, behind what goes on and another job or none: its history stands behind the others,
+-- and how it went before if it was given up.
 pub record IsRecorded (work : WorkData) (passed : PassedData) (last : Option CoreData)
-    (goal : Goal) (dir : Option Path) (opened : FilesState) (before histories : List JobHistory)
-    (next : PassedData) (results : Result (Vec TaskResult Global) (OrMemory JobFault))
-    (files : FilesState) : Type 0 where
+    (goal : Goal) (dir : Option Path) (opened : FilesState)
+    (before front histories given_up : List JobHistory) (next : PassedData)
+    (results : Result (Vec TaskResult Global) (OrMemory JobFault)) (files : FilesState)
+    : Type 0 where
   pub history : JobHistory
   pub all : histories ≡ before ++ history ∷ []
+  pub tried : Option JobHistory
+  pub all_given : given_up ≡ front ++ option_to_list tried
   pub began : IsSoundCore history.opening
   pub ended : IsSoundCore history.end
-  pub run : HasRun work passed last goal dir opened history next results files
+  pub run : HasRun work passed last goal dir opened tried history next results files
 
 -- A job has no results: it went so; or it was given up, and memory ran out before it began again.
 abbrev pub IsOver : WorkData → PassedData → Option CoreData → Goal → Option Path → FilesState
-    → List JobHistory → List JobHistory → OrMemory JobFault → ℕ → FilesState → Type 0
-IsOver work passed last goal dir opened before histories why given_up files =
+    → List JobHistory → List JobHistory → List JobHistory → List JobHistory → OrMemory JobFault
+    → FilesState → Type 0
+IsOver work passed last goal dir opened before front histories given_up why files =
     ((next : PassedData)
-    × IsRecorded work passed last goal dir opened before histories next (Err why) files)
-    ⊎ ((why ≡ OutOfMemory) × (histories ≡ before) × (0 < given_up)
-    × IsLeftOpen dir opened files)
+    × IsRecorded work passed last goal dir opened before front histories given_up next (Err why)
+    files)
+    ⊎ ((why ≡ OutOfMemory) × (histories ≡ before)
+    × ((tried : JobHistory) × (given_up ≡ front ++ tried ∷ [])
+    × IsLeftOver work passed last goal dir opened tried files))

@@ -1,11 +1,13 @@
 -- What the jobs of a run leave of the files.
-use Rattle.std.specs.Prelude.{ℕ, ◌≡◌, ◌<◌, ◌⊎◌, false, List, [], ◌∷◌, Option, Some, None, Result, Ok, Err}
+use Rattle.std.specs.Prelude.{ℕ, ◌≡◌, ◌⊎◌, false, List, [], ◌∷◌, ◌++◌, Option, Some, None, Result, Ok, Err}
+use Rattle.std.specs.Option.{option_to_list}
 use Rattle.sc_base.specs.Outside.{Changes, FilesState, IsLaterFiles, IsQuietFiles}
 use Rattle.sc_base.specs.Saves.{IsApart, saved_tree}
 use Rattle.sc_base.specs.Trees.{Path, Tree, has_dir}
 use Rattle.sc_base.specs.declared.refusals.OrMemory.{OrMemory}
 use Rattle.sc_base.specs.declared.refusals.OrMemory.TheVariants.{Fault, OutOfMemory}
 use Rattle.sc_ids.specs.declared.attempts.AttemptId.{AttemptId}
+use Rattle.sc_ids.specs.declared.failures.Fault as device
 use Rattle.sc_lineage.specs.Actions.{action_outcome, saves}
 use Rattle.sc_lineage.specs.ScriptData.{WorkData}
 use Rattle.sc_files.specs.Calls.{CountsClash, CountsFault, counts_of}
@@ -18,7 +20,7 @@ use Rattle.sc_jobs.specs.JobData.{goal_action}
 use Rattle.sc_jobs.specs.declared.goals.Goal.{Goal}
 use Rattle.sc_jobs.specs.declared.goals.Goal.TheVariants as goals
 use Rattle.sc_desk.specs.Files.{AreCounted, AreWinners, dir_of_job, faults_of}
-use Rattle.sc_context.specs.Histories.{AreDrivers, HasCome}
+use Rattle.sc_context.specs.Histories.{HasCome}
 use Rattle.sc_context.specs.Progress.{Progress}
 use Rattle.sc_context.specs.declared.stops.JobFault.{JobFault}
 use Rattle.sc_context.specs.declared.stops.JobFault.TheVariants as faults
@@ -53,27 +55,33 @@ LeavesIn None work goal h before after = after ≡ before
 LeavesIn (Some dir) work goal h before after =
     IsCommitted work goal dir h before after × IsLaterFiles before after
 
--- What the files have counted while a job ran: just the faults that its entries tell of. Where the
--- driver ran it again alone, since its executors had given it up, that is so since it began again.
-pub record CountsOf (h : JobHistory) (before after : FilesState) : Type 0 where
-  pub begun : FilesState
-  pub later : IsLaterFiles before begun
-  pub since : (counts_of begun ≡ counts_of before) ⊎ AreDrivers h.entries.items
-  pub counted : AreCounted (counts_of begun) (faults_of h.entries.items) (counts_of after)
+-- the faults that the entries of a job tell of that was given up, if it was
+abbrev pub faults_before : Option JobHistory → List device.Fault
+faults_before None = []
+faults_before (Some tried) = faults_of tried.entries.items
+
+-- those of the job behind them
+abbrev pub faults_with : Option JobHistory → JobHistory → List device.Fault
+faults_with tried h = faults_before tried ++ faults_of h.entries.items
+
+-- What the files have counted while a job ran: just the faults that its entries tell of.
+abbrev pub CountsOf : Option JobHistory → JobHistory → FilesState → FilesState → Type 0
+CountsOf tried h before after =
+    AreCounted (counts_of before) (faults_with tried h) (counts_of after)
 
 -- What a job that is done leaves of the files.
-pub record LeavesFiles (work : WorkData) (goal : Goal) (h : JobHistory)
-    (before after : FilesState) : Type 0 where
+pub record LeavesFiles (work : WorkData) (goal : Goal) (tried : Option JobHistory)
+    (h : JobHistory) (before after : FilesState) : Type 0 where
   pub left : LeavesIn (dir_of_job work goal) work goal h before after
-  pub counted : CountsOf h before after
+  pub counted : CountsOf tried h before after
 
 -- what jobs leave that were done, one behind the other
-abbrev pub HaveLeft : (work : WorkData) (p : Progress) (histories : List JobHistory)
-    (q : Progress) → HasCome work p histories q → FilesState → FilesState → Type 0
-HaveLeft work p [] q come before after = after ≡ before
-HaveLeft work p (h ∷ histories) q (mid, done, come) before after =
-    (then : FilesState) × LeavesFiles work done.goal h before then
-    × HaveLeft work mid histories q come then after
+abbrev pub HaveLeft : (work : WorkData) (p : Progress) (histories given_up : List JobHistory)
+    (q : Progress) → HasCome work p histories given_up q → FilesState → FilesState → Type 0
+HaveLeft work p [] given_up q come before after = after ≡ before
+HaveLeft work p (h ∷ histories) given_up q come before after =
+    (then : FilesState) × LeavesFiles work come.done.goal come.tried h before then
+    × HaveLeft work come.mid histories come.rest q come.then then after
 
 -- ---- a job that comes to no end
 
@@ -130,25 +138,44 @@ StopsFiles work k before after why =
 
 -- ---- what the files have counted
 
--- what the files have counted while some jobs ran, one behind the other
-abbrev pub CountAll : List JobHistory → FilesState → FilesState → Type 0
-CountAll [] before after = after ≡ before
-CountAll (h ∷ histories) before after =
-    (then : FilesState) × CountsOf h before then × CountAll histories then after
+-- what the files have counted while a job ran that may have been given up before, and then this
+-- holds of them, and of the further jobs that were given up
+pub record CountsThen (h : JobHistory) (given_up : List JobHistory) (before : FilesState)
+    (Then : List JobHistory → FilesState → Type 0) : Type 0 where
+  pub tried : Option JobHistory
+  pub rest : List JobHistory
+  pub all : given_up ≡ option_to_list tried ++ rest
+  pub mid : FilesState
+  pub counted : CountsOf tried h before mid
+  pub then : Then rest mid
 
--- What the last calls for a job that came to no end have counted, by what ended it, and by how many
--- jobs of the run were given up: where memory ran out behind such a job, it isn't among those that
--- tell of faults.
-abbrev pub CountsLast : OrMemory JobFault → ℕ → FilesState → FilesState → Type 0
-CountsLast (Fault (faults.Aborted abort)) given_up before after = IsQuietFiles before after
-CountsLast (Fault (faults.Exists path)) given_up before after = CountsClash before after
-CountsLast (Fault (faults.Device path)) given_up before after = IsNotDone before after
-CountsLast OutOfMemory given_up before after = IsQuietFiles before after ⊎ (0 < given_up)
+-- what the files have counted while some jobs ran, one behind the other
+abbrev pub CountAll : List JobHistory → List JobHistory → FilesState → FilesState → Type 0
+CountAll [] given_up before after = (after ≡ before) × (given_up ≡ [])
+CountAll (h ∷ histories) given_up before after =
+    CountsThen h given_up before (λ rest mid. CountAll histories rest mid after)
+
+-- What the last calls for a job that came to no end have counted, by what ended it.
+abbrev pub CountsLast : OrMemory JobFault → FilesState → FilesState → Type 0
+CountsLast (Fault (faults.Aborted abort)) before after = IsQuietFiles before after
+CountsLast (Fault (faults.Exists path)) before after = CountsClash before after
+CountsLast (Fault (faults.Device path)) before after = IsNotDone before after
+CountsLast OutOfMemory before after = IsQuietFiles before after
+
+-- the same, or of a job that was given up and not run again, which is for want of memory alone
+abbrev pub CountsEnd : OrMemory JobFault → Option JobHistory → FilesState → FilesState → Type 0
+CountsEnd why None before after = CountsLast why before after
+CountsEnd why (Some tried) before after =
+    (why ≡ OutOfMemory)
+    × AreCounted (counts_of before) (faults_of tried.entries.items) (counts_of after)
 
 -- The files have counted what some jobs tell of, and behind them what ended the last job.
-pub record HasCounted (histories : List JobHistory) (why : OrMemory JobFault) (given_up : ℕ)
+pub record HasCounted (histories given_up : List JobHistory) (why : OrMemory JobFault)
     (before after : FilesState) : Type 0 where
+  pub front : List JobHistory
+  pub unfinished : Option JobHistory
+  pub all : given_up ≡ front ++ option_to_list unfinished
   pub last : FilesState
-  pub counted : CountAll histories before last
+  pub counted : CountAll histories front before last
   pub later : IsLaterFiles last after
-  pub ends : CountsLast why given_up last after
+  pub ends : CountsEnd why unfinished last after

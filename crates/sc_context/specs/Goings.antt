@@ -1,6 +1,6 @@
 -- How a job goes on from its beginning to its end.
 use Rattle.std.specs.declared.alloc.Global.{Global}
-use Rattle.std.specs.Prelude.{◌≡◌, ◌⊎◌, IfErr, IfOk, IfSome, List, Option, Some, Result, Vec}
+use Rattle.std.specs.Prelude.{◌≡◌, IfErr, IfOk, IfSome, IsSomeAnd, List, Option, Some, Result, Vec}
 use Rattle.sc_base.specs.Outside.{FilesState, IsLaterFiles}
 use Rattle.sc_base.specs.Trees.{Path}
 use Rattle.sc_base.specs.declared.refusals.OrMemory.{OrMemory}
@@ -10,19 +10,23 @@ use Rattle.sc_files.specs.Calls.{counts_of}
 use Rattle.sc_staging.specs.Outputs.{GoesOnIn}
 use Rattle.sc_core.specs.CoreData.{CoreData}
 use Rattle.sc_core.specs.Journals.{Replays}
+use Rattle.sc_core.specs.Openings.{IsOpening}
 use Rattle.sc_core.specs.declared.journals.JobHistory.{JobHistory}
+use Rattle.sc_jobs.specs.JobData.{JobData, saves}
 use Rattle.sc_jobs.specs.declared.goals.Goal.{Goal}
 use Rattle.sc_desk.specs.Begins.{Begins, BeginsAgain, FitsLast, IsPassedFor}
 use Rattle.sc_desk.specs.DeskData.{DeskData, PassedData}
-use Rattle.sc_desk.specs.Files.{FilesStand, faults_of}
+use Rattle.sc_desk.specs.Files.{AreCounted, FilesStand, faults_of}
 use Rattle.sc_desk.specs.Sound.{AreEvident}
 use Rattle.sc_desk.specs.declared.orders.Ordered.{Ordered}
 use Rattle.sc_exec.specs.Helms.{HelmData, helm_data}
 use Rattle.sc_exec.specs.Openings.{OpeningData, opening_data}
+use Rattle.sc_context.specs.Files.{faults_with}
 use Rattle.sc_context.specs.Histories.{AreDrivers, BeginsBehind}
 use Rattle.sc_context.specs.Jobs.{HasNoResults, HasResults}
 use Rattle.sc_context.specs.Outputs.{CountsIn, WentIn}
-use Rattle.sc_context.specs.Records.{IsGivenUp, IsLogged}
+use Rattle.sc_context.specs.Records.{IsGivenUp, IsLogged, tried_in}
+use Rattle.sc_context.specs.declared.records.GaveUp.{GaveUp}
 use Rattle.sc_context.specs.declared.running.Run.{Run}
 use Rattle.sc_context.specs.declared.running.Run.TheVariants as runs
 use Rattle.sc_context.specs.declared.stops.JobFault.{JobFault}
@@ -71,27 +75,39 @@ pub record GoesFrom (work : WorkData) (o : OpeningData)
   pub none : IfErr results (HasNoResults work o.job.goal h.end)
   pub left : WentIn o.dir work o.job.goal h.end o.files files results
 
--- What the files have counted since a job began: just the faults that its entries tell of, and then
--- what ended it. Where the driver ran it again alone, that is so since it began again.
-pub record CountsSince (h : JobHistory) (before after : FilesState)
-    (results : Result (Vec TaskResult Global) (OrMemory JobFault)) : Type 0 where
-  pub begun : FilesState
-  pub later : IsLaterFiles before begun
-  pub since : (counts_of begun ≡ counts_of before) ⊎ AreDrivers h.entries.items
-  pub counted : CountsIn (faults_of h.entries.items) begun after results
+-- A job went so until its executors gave it up, behind another one or none.
+pub record IsTrial (work : WorkData) (last : Option CoreData) (goal : Goal) (job : JobData)
+    (tried : JobHistory) : Type 0 where
+  pub opening : IsOpening job.graph work.limits (saves work goal) work.plan last tried.opening
+  pub replays : Replays tried.opening tried.entries.items tried.end
+  pub evidence : AreEvident work job tried.opening tried.entries.items tried.end replays
 
--- A job that began with a desk, or once more with nothing registered, went so.
+-- A job that began with a desk, or that was given up before and began once more with nothing
+-- registered, went so. The files have counted just the faults that its entries tell of, then and
+-- before, and then what ended it.
 pub record HasRun (work : WorkData) (passed : PassedData) (last : Option CoreData) (goal : Goal)
-    (dir : Option Path) (opened : FilesState) (h : JobHistory) (next : PassedData)
-    (results : Result (Vec TaskResult Global) (OrMemory JobFault)) (files : FilesState)
-    : Type 0 where
+    (dir : Option Path) (opened : FilesState) (tried : Option JobHistory) (h : JobHistory)
+    (next : PassedData) (results : Result (Vec TaskResult Global) (OrMemory JobFault))
+    (files : FilesState) : Type 0 where
   pub desk : DeskData
   pub from : Option CoreData
   pub begins : Begins work passed from goal desk
-  pub behind : BeginsBehind last h.entries.items from
+  pub behind : BeginsBehind tried last h.entries.items from
+  pub was_tried : IfSome tried (IsTrial work last goal desk.job)
   pub goes : GoesFrom work
       (opening_data desk.journal.opening desk.job desk.carried dir opened) h next results files
-  pub counted : CountsSince h opened files results
+  pub counted : CountsIn (faults_with tried h) opened files results
+
+-- a history is that of a desk so far
+pub record IsSoFar (work : WorkData) (d : DeskData) (h : JobHistory) : Type 0 where
+  pub opening : h.opening ≡ d.journal.opening
+  pub entries : h.entries.items ≡ d.journal.entries
+  pub replays : Replays h.opening h.entries.items h.end
+  pub evidence : AreEvident work d.job h.opening h.entries.items h.end replays
+
+-- the job of a desk was given up for a reason
+abbrev pub GivesUp : WorkData → DeskData → GaveUp → Type 0
+GivesUp work d gave_up = IsGivenUp gave_up × IsSoFar work d gave_up.history
 
 -- What came of a job that was given up: it began again with nothing registered and went so, by the
 -- driver alone; or it didn't begin again, and its files are as they were.
@@ -103,19 +119,31 @@ RunsAgain work state d last ordered dir files (runs.Went went logs gave_up store
     → GoesFrom work o went.history went.passed went.results (state went.files)))
     × AreDrivers went.history.entries.items
     × CountsIn (faults_of went.history.entries.items) files (state went.files) went.results
-    × IsLogged went.history logs.items × IfSome gave_up IsGivenUp
+    × IsLogged went.history logs.items × IsSomeAnd gave_up (GivesUp work d)
 RunsAgain work state d last ordered dir files (runs.Refused gave_up after) =
-    IsGivenUp gave_up × (state after ≡ files)
+    GivesUp work d gave_up × (state after ≡ files)
 
 -- a job that was given up didn't begin again: a save that was under way is under way
 abbrev pub IsLeftOpen : Option Path → FilesState → FilesState → Type 0
 IsLeftOpen dir opened files = IsLaterFiles opened files × GoesOnIn dir opened files
 
+-- A job began with a desk, went so until its executors gave it up, and didn't begin again.
+pub record IsLeftOver (work : WorkData) (passed : PassedData) (last : Option CoreData)
+    (goal : Goal) (dir : Option Path) (opened : FilesState) (tried : JobHistory)
+    (files : FilesState) : Type 0 where
+  pub desk : DeskData
+  pub begins : Begins work passed last goal desk
+  pub was_tried : IsTrial work last goal desk.job tried
+  pub left_open : IsLeftOpen dir opened files
+  pub counted : AreCounted (counts_of opened) (faults_of tried.entries.items) (counts_of files)
+
 -- What came of a job that began with a desk behind what goes on and another job or none.
 abbrev pub RunsFrom : {W F : Type 0} → WorkData → (F → FilesState) → PassedData → Option CoreData
     → Goal → Option Path → FilesState → Run W F → Type 0
 RunsFrom work state passed last goal dir opened (runs.Went went logs gave_up stores) =
-    HasRun work passed last goal dir opened went.history went.passed went.results
-    (state went.files) × IsLogged went.history logs.items × IfSome gave_up IsGivenUp
+    HasRun work passed last goal dir opened (tried_in gave_up) went.history went.passed
+    went.results (state went.files)
+    × IsLogged went.history logs.items × IfSome gave_up IsGivenUp
 RunsFrom work state passed last goal dir opened (runs.Refused gave_up files) =
-    IsGivenUp gave_up × IsLeftOpen dir opened (state files)
+    IsGivenUp gave_up
+    × IsLeftOver work passed last goal dir opened gave_up.history (state files)

@@ -170,7 +170,7 @@ pub record CountsToEnd (told : List device.Fault) (why : OrMemory JobFault)
   pub last : FilesState
   pub counted : AreCounted (counts_of opened) told (counts_of last)
   pub later : IsLaterFiles last after
-  pub ends : CountsLast why 0 last after
+  pub ends : CountsLast why last after
 
 -- the same by whether it has results
 abbrev pub CountsIn : {A : Type 0} → List device.Fault → FilesState → FilesState

@@ -1,6 +1,7 @@
 -- How the jobs of a run are recorded.
-use Rattle.std.specs.Prelude.{◌≡◌, ◌<◌, ◌⊎◌, true, List, All, Contains, vec_capacity, vec_len}
+use Rattle.std.specs.Prelude.{◌≡◌, ◌<◌, ◌⊎◌, true, List, All, Contains, Option, map, vec_capacity, vec_len}
 use Rattle.std.specs.List.{AllZip}
+use Rattle.std.specs.Option.{option_map}
 use Rattle.sc_core.specs.Journals.{Replays}
 use Rattle.sc_core.specs.declared.entries.Entry.{Entry}
 use Rattle.sc_core.specs.declared.journals.JobHistory.{JobHistory}
@@ -26,6 +27,14 @@ WasGivenUp entries logs lefts =
 pub record IsGivenUp (g : GaveUp) : Type 0 where
   pub replays : Replays g.history.opening g.history.entries.items g.history.end
   pub cause : WasGivenUp g.history.entries.items g.logs.items g.lefts.items
+
+-- how jobs went that were given up, until then
+abbrev pub histories_of : List GaveUp → List JobHistory
+histories_of gave_up = map (λ g. g.history) gave_up
+
+-- the same of one that may have been
+abbrev pub tried_in : Option GaveUp → Option JobHistory
+tried_in gave_up = option_map (λ g. g.history) gave_up
 
 -- each job has what its executors wrote down, and each that was given up its reason
 pub record AreKept (r : Records) : Type 0 where

@@ -5,7 +5,7 @@ ghost use Rattle.std.specs.Prelude.{◌≡◌, ◌<◌, IfErr, IfOk, length};
 ghost use Rattle.sc_context.specs.Contexts.{Evaluates, GivesNext, Stops};
 ghost use Rattle.sc_context.specs.Jobs.{AreResultsFor};
 ghost use Rattle.sc_context.specs.Progress.{next_node};
-ghost use Rattle.sc_context.specs.Records.{AreKept};
+ghost use Rattle.sc_context.specs.Records.{AreKept, histories_of};
 ghost use Rattle.sc_jobs.specs.JobData.{goal_action};
 ghost use Rattle.sc_jobs.specs.declared.goals.Goal.TheVariants as goals;
 ghost use Rattle.sc_stagecut.specs.Carrying.{HasBounds};
@@ -56,7 +56,7 @@ impl<W: Naming + Send + Sync, F: Files + Send> Context<W, F> {
         requires within { self.progress.actions < length W.work.script.actions }
         ensures given { IfOk result (λ g. GivesNext W.work self g.value g.context) }
         ensures stops { IfErr result (λ s. Stops W.work self s.why s.records.histories.items
-            (length s.records.gave_up.items) (F.state s.files)) }
+            (histories_of s.records.gave_up.items) (F.state s.files)) }
         ensures kept { IfErr result (λ s. AreKept s.records) }
     {
         let context = self.find_all_bounds(rt, alloc, gate, clock)?;
@@ -76,7 +76,7 @@ impl<W: Naming + Send + Sync, F: Files + Send> Context<W, F> {
             (next_node W.work self.progress) }
         ensures given { IfOk result (λ g. GivesNext W.work self g.value g.context) }
         ensures stops { IfErr result (λ s. Stops W.work self s.why s.records.histories.items
-            (length s.records.gave_up.items) (F.state s.files)) }
+            (histories_of s.records.gave_up.items) (F.state s.files)) }
         ensures kept { IfErr result (λ s. AreKept s.records) }
     {
         self.is_sound();

@@ -18,6 +18,7 @@ ghost use Rattle.sc_world.specs.Serial.{IsResting};
 use crate::starts::{locked, stores_at};
 use crate::went::{Went, finish};
 use sc_desk::Desk;
+use sc_exec::Stores;
 use sc_files::Files;
 use sc_staging::Output;
 use sc_store::Store;
@@ -32,7 +33,7 @@ pub(crate) struct Alone<W: Naming, F: Files> {
     /// What is left of it.
     pub(crate) went: Went<F>,
     /// The stores of its executors.
-    pub(crate) stores: Vec<Mutex<Store<W>>>,
+    pub(crate) stores: Stores<W>,
 }
 
 /// A world in which a job begins, and room for its stores behind locks.

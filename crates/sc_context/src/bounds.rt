@@ -7,7 +7,7 @@ ghost use Rattle.sc_context.specs.Bounding.{Finds, FindsAll, parts_of};
 ghost use Rattle.sc_context.specs.Contexts.{Stops};
 ghost use Rattle.sc_context.specs.Jobs.{AreResultsFor};
 ghost use Rattle.sc_context.specs.Progress.{next_node};
-ghost use Rattle.sc_context.specs.Records.{AreKept};
+ghost use Rattle.sc_context.specs.Records.{AreKept, histories_of};
 ghost use Rattle.sc_jobs.specs.JobData.{IsGoal};
 ghost use Rattle.sc_jobs.specs.declared.goals.Goal.TheVariants as goals;
 ghost use Rattle.sc_lineage.specs.ScriptData.{node_of_action};
@@ -41,7 +41,7 @@ impl<W: Naming + Send + Sync, F: Files + Send> Context<W, F> {
         requires within { self.progress.actions < length W.work.script.actions }
         ensures finds { IfOk result (FindsAll W.work self) }
         ensures stops { IfErr result (λ s. Stops W.work self s.why s.records.histories.items
-            (length s.records.gave_up.items) (F.state s.files)) }
+            (histories_of s.records.gave_up.items) (F.state s.files)) }
         ensures kept { IfErr result (λ s. AreKept s.records) }
     {
         let mut context = self;
@@ -84,7 +84,7 @@ impl<W: Naming + Send + Sync, F: Files + Send> Context<W, F> {
             (next_node W.work self.progress) (Some sort) }
         ensures finds { IfOk result (Finds W.work self sort) }
         ensures stops { IfErr result (λ s. Stops W.work self s.why s.records.histories.items
-            (length s.records.gave_up.items) (F.state s.files)) }
+            (histories_of s.records.gave_up.items) (F.state s.files)) }
         ensures kept { IfErr result (λ s. AreKept s.records) }
     {
         self.is_sound();

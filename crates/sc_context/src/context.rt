@@ -5,26 +5,25 @@ ghost use Rattle.std.specs.Prelude.{◌≡◌, ◌≤◌, IfErr, IfOk, None, len
 ghost use Rattle.sc_context.specs.Contexts.{IsReady, new_context};
 ghost use Rattle.sc_context.specs.Histories.{HasCome};
 ghost use Rattle.sc_context.specs.Progress.{first_progress};
-ghost use Rattle.sc_context.specs.Records.{AreKept};
+ghost use Rattle.sc_context.specs.Records.{AreKept, histories_of};
 ghost use Rattle.sc_desk.specs.Begins.{FitsLast};
 ghost use Rattle.sc_stagecut.specs.Carrying.{IsCarriedFor};
 
 use crate::records::Records;
 use crate::starts::{locked, new_stores};
 use sc_desk::Passed;
+use sc_exec::Stores;
 use sc_files::Files;
-use sc_store::Store;
 use sc_work::{Naming, SharedWork};
 use std::alloc::{AllocError, AllocFailed, Global};
 use std::marker::Model;
-use std::sync::Mutex;
 
 /// The jobs of a run so far, what goes on to the next one, and the files that saves write to.
 #[derive(Drop)]
 pub struct Context<W: Naming, F: Files> {
     pub(crate) work: SharedWork<W>,
     pub(crate) passed: Passed,
-    pub(crate) stores: Vec<Mutex<Store<W>>>,
+    pub(crate) stores: Stores<W>,
     pub(crate) records: Records,
     pub(crate) actions: u32,
     pub(crate) files: F,
@@ -34,17 +33,19 @@ impl<W: Naming, F: Files> Model for Context<W, F> {
     ghost use Rattle.std.specs.Coded.{codes};
     ghost use Rattle.sc_base.specs.Outside.{files_state_code};
     ghost use Rattle.sc_context.specs.Contexts.{ContextData, IsContext, context_data};
-    ghost use Rattle.sc_context.specs.Records.{AreKept};
+    ghost use Rattle.sc_context.specs.Records.{AreKept, histories_of};
 
     ghost Value = { ContextData };
 
     ghost coded = { Prim.hlevel (codes, files_state_code) };
 
     ghost view = { λ c.
-        context_data c.actions c.passed.carried c.records.histories.items (F.state c.files) };
+        context_data c.actions c.passed.carried c.records.histories.items
+        (histories_of c.records.gave_up.items) (F.state c.files) };
 
     ghost invariant = { λ c. IsContext W.work c.passed
-        (context_data c.actions c.passed.carried c.records.histories.items (F.state c.files))
+        (context_data c.actions c.passed.carried c.records.histories.items
+        (histories_of c.records.gave_up.items) (F.state c.files))
         × AreKept c.records };
 }
 
@@ -92,7 +93,7 @@ impl<W: Naming, F: Files> Context<W, F> {
     /// node; and so does what the last job left.
     pub fn is_sound(&self)
         ensures come { HasCome W.work (first_progress W.work) self.now.histories
-            self.now.progress }
+            self.now.given_up self.now.progress }
         ensures within { self.now.progress.actions ≤ length W.work.script.actions }
         ensures serves { IsCarriedFor W.work.script.nodes self.now.progress.carried }
         ensures places { length self.now.progress.carried.bounds ≡ length W.work.script.nodes }
@@ -104,6 +105,7 @@ impl<W: Naming, F: Files> Context<W, F> {
     /// How the jobs went, and the files.
     pub fn into_parts(self) -> (Records, F)
         ensures histories { result.0.histories.items ≡ self.histories }
+        ensures given_up { histories_of result.0.gave_up.items ≡ self.given_up }
         ensures kept { AreKept result.0 }
         ensures files { F.state result.1 ≡ self.files }
     {
@@ -115,7 +117,7 @@ impl<W: Naming, F: Files> Context<W, F> {
 #[derive(Drop)]
 struct Starts<W: Naming> {
     passed: Passed,
-    stores: Vec<Mutex<Store<W>>>,
+    stores: Stores<W>,
 }
 
 /// What the jobs of a work begin with.

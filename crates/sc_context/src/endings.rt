@@ -1,12 +1,13 @@
 //! A job that is over: how it went is recorded.
 #![tactic(auto)]
 
-ghost use Rattle.std.specs.Prelude.{◌≡◌, ◌++◌, IfErr, IfOk, IfSome, Ok, Option, length};
+ghost use Rattle.std.specs.Option.{option_to_list};
+ghost use Rattle.std.specs.Prelude.{◌≡◌, ◌++◌, IfErr, IfOk, IfSome, Ok, Option};
 ghost use Rattle.sc_base.specs.Outside.{FilesState};
 ghost use Rattle.sc_base.specs.Trees.{Path};
-ghost use Rattle.sc_context.specs.Endings.{CanBeKept, IsOver, IsRecorded, given_by, one_at_most};
+ghost use Rattle.sc_context.specs.Endings.{CanBeKept, IsOver, IsRecorded, given_by};
 ghost use Rattle.sc_context.specs.Goings.{RunsFrom};
-ghost use Rattle.sc_context.specs.Records.{AreKept, HasRoom, HasRoomToKeep, IsGivenUp};
+ghost use Rattle.sc_context.specs.Records.{AreKept, HasRoom, HasRoomToKeep, IsGivenUp, histories_of};
 ghost use Rattle.sc_core.specs.CoreData.{CoreData};
 ghost use Rattle.sc_desk.specs.DeskData.{PassedData};
 ghost use Rattle.sc_jobs.specs.declared.goals.Goal.{Goal};
@@ -17,17 +18,16 @@ use crate::stops::Stopped;
 use crate::went::Went;
 use sc_compute::TaskResult;
 use sc_desk::Passed;
+use sc_exec::Stores;
 use sc_files::Files;
-use sc_store::Store;
 use sc_work::{Naming, SharedWork};
-use std::sync::Mutex;
 
 /// A job that is done, and what goes on behind it.
 #[derive(Drop)]
 pub(crate) struct Ended<W: Naming, F: Files> {
     pub(crate) work: SharedWork<W>,
     pub(crate) passed: Passed,
-    pub(crate) stores: Vec<Mutex<Store<W>>>,
+    pub(crate) stores: Stores<W>,
     pub(crate) records: Records,
     pub(crate) actions: u32,
     /// Its results.
@@ -50,20 +50,21 @@ pub(crate) fn end_job<W: Naming, F: Files>(
         (dir : Option Path) (opened : FilesState)
         → RunsFrom W.work F.state passed last goal dir opened run
         → IfOk result (λ e. IsRecorded W.work passed last goal dir opened
-        records.histories.items e.records.histories.items e.passed (Ok e.results)
-        (F.state e.files)) }
+        records.histories.items (histories_of records.gave_up.items) e.records.histories.items
+        (histories_of e.records.gave_up.items) e.passed (Ok e.results) (F.state e.files)) }
     ensures over { (passed : PassedData) (last : Option CoreData) (goal : Goal)
         (dir : Option Path) (opened : FilesState)
         → RunsFrom W.work F.state passed last goal dir opened run
         → IfErr result (λ s. IsOver W.work passed last goal dir opened records.histories.items
-        s.records.histories.items s.why (length s.records.gave_up.items) (F.state s.files)) }
+        (histories_of records.gave_up.items) s.records.histories.items
+        (histories_of s.records.gave_up.items) s.why (F.state s.files)) }
     ensures actions { IfOk result (λ e. e.actions ≡ actions) }
     ensures recorded { IfOk result (λ e. AreKept e.records) }
     ensures kept { IfErr result (λ s. AreKept s.records) }
     ensures given { IfOk result (λ e. e.records.gave_up.items
-        ≡ records.gave_up.items ++ given_by run) }
+        ≡ records.gave_up.items ++ option_to_list (given_by run)) }
     ensures given_over { IfErr result (λ s. s.records.gave_up.items
-        ≡ records.gave_up.items ++ given_by run) }
+        ≡ records.gave_up.items ++ option_to_list (given_by run)) }
 {
     match run {
         Run::Went {
@@ -115,7 +116,7 @@ fn keep_given_up(records: &mut Records, gave_up: Option<GaveUp>)
     ensures kept { AreKept records.new }
     ensures histories { records.new.histories.items ≡ records.old.histories.items }
     ensures given { records.new.gave_up.items
-        ≡ records.old.gave_up.items ++ one_at_most gave_up }
+        ≡ records.old.gave_up.items ++ option_to_list gave_up }
 {
     match gave_up {
         Some(gave_up) => records.give_up(gave_up),

@@ -9,7 +9,7 @@ ghost use Rattle.sc_causes.specs.Raises.{RaisesLeaveNoValue};
 ghost use Rattle.sc_context.specs.Contexts.{IsEnded, IsReady, Stops};
 ghost use Rattle.sc_context.specs.Progress.{IsNext};
 ghost use Rattle.sc_context.specs.Crews.{IsCrew};
-ghost use Rattle.sc_context.specs.Records.{AreKept, HasRoom, IsSame};
+ghost use Rattle.sc_context.specs.Records.{AreKept, HasRoom, IsSame, histories_of};
 ghost use Rattle.sc_core.specs.Openings.{tracker_behind};
 ghost use Rattle.sc_core.specs.Sound.{HasLive};
 ghost use Rattle.sc_desk.specs.Begins.{Begins};
@@ -57,11 +57,12 @@ impl<W: Naming + Send + Sync, F: Files + Send> Context<W, F> {
         requires next { IsNext W.work self.progress goal }
         requires within { self.progress.actions < length W.work.script.actions }
         ensures ended { IfOk result (λ e. IsEnded W.work self goal e.passed
-            e.records.histories.items e.results.items (F.state e.files)) }
+            e.records.histories.items (histories_of e.records.gave_up.items) e.results.items
+            (F.state e.files)) }
         ensures actions { IfOk result (λ e. e.actions ≡ self.progress.actions) }
         ensures recorded { IfOk result (λ e. AreKept e.records) }
         ensures stops { IfErr result (λ s. Stops W.work self s.why s.records.histories.items
-            (length s.records.gave_up.items) (F.state s.files)) }
+            (histories_of s.records.gave_up.items) (F.state s.files)) }
         ensures kept { IfErr result (λ s. AreKept s.records) }
     {
         laws_of_ends();

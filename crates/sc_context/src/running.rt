@@ -21,11 +21,10 @@ use crate::went::{Went, finish};
 use sc_clock::Clock;
 use sc_core::Core;
 use sc_desk::{Again, Desk, Orders};
-use sc_exec::{Gate, Left, Verdict, into_logs, judge, work_job};
+use sc_exec::{Gate, Left, Stores, Verdict, into_logs, judge, work_job};
 use sc_files::Files;
 use sc_logs::ExecLog;
 use sc_staging::Output;
-use sc_store::Store;
 use sc_work::Naming;
 use std::alloc::Global;
 use std::sync::{Mutex, Wait};
@@ -51,7 +50,7 @@ pub(crate) enum Run<W: Naming, F: Files> {
         /// How it went before, where its executors gave it up.
         gave_up: Option<GaveUp>,
         /// The stores of its executors.
-        stores: Vec<Mutex<Store<W>>>,
+        stores: Stores<W>,
     },
     /// Its executors gave it up, and memory ran out before it began again.
     Refused {
@@ -79,7 +78,7 @@ pub(crate) fn run_begun<
     last: Option<&Core>,
     begun: Begun<W>,
     output: Output<F>,
-    stores: Vec<Mutex<Store<W>>>,
+    stores: Stores<W>,
     crew: Crew,
 ) -> Run<W, F>
     requires stand { FilesStand W.work begun.desk (output_dir output)
@@ -101,16 +100,7 @@ pub(crate) fn run_begun<
         logs,
         lefts,
     } = crew;
-    let (desk, output) = work_job(
-        rt,
-        alloc,
-        desk,
-        output,
-        stores.as_slice(),
-        gate,
-        clock,
-        &mut workers,
-    );
+    let (desk, output) = work_job(rt, alloc, desk, output, &stores, gate, clock, &mut workers);
     let how = judge(&desk, workers.as_slice());
     let (logs, lefts) = into_logs(workers, logs, lefts);
     match how {

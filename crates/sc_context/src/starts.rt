@@ -8,6 +8,7 @@ ghost use Rattle.sc_plan.specs.Orders.{wipes_of};
 ghost use Rattle.sc_world.specs.Runs.{AreReady};
 
 use sc_desk::Desk;
+use sc_exec::Stores;
 use sc_ids::{ExecId, Generation};
 use sc_store::Store;
 use sc_work::{Naming, SharedWork};
@@ -70,17 +71,15 @@ fn store_at<W: Naming>(
     Ok(store)
 }
 
-/// Stores behind locks of their own, in the same order, where there is room for them. It takes no
-/// memory.
-pub(crate) fn locked<W: Naming>(
-    stores: Vec<Store<W>>,
-    mut room: Vec<Mutex<Store<W>>>,
-) -> Vec<Mutex<Store<W>>>
+/// The stores of all executors behind locks of their own, in the same order, where there is room
+/// for them. It takes no memory.
+pub(crate) fn locked<W: Naming>(stores: Vec<Store<W>>, mut room: Vec<Mutex<Store<W>>>) -> Stores<W>
+    requires many { length stores.items ≡ W.work.limits.executors }
     requires empty { room.items ≡ [] }
     requires room { length stores.items ≤ vec_capacity room }
 {
     for store in stores {
         room.push_reserved(Mutex::new(store));
     }
-    room
+    Stores::of(room)
 }

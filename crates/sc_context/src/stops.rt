@@ -3,7 +3,7 @@
 
 ghost use Rattle.std.specs.Prelude.{◌≡◌};
 ghost use Rattle.sc_base.specs.declared.refusals.OrMemory.TheVariants.{OutOfMemory};
-ghost use Rattle.sc_context.specs.Records.{AreKept};
+ghost use Rattle.sc_context.specs.Records.{AreKept, histories_of};
 
 use crate::context::Context;
 use crate::records::Records;
@@ -56,6 +56,7 @@ impl<W: Naming, F: Files> Context<W, F> {
     pub(crate) fn without_memory(self) -> Stopped<F>
         ensures why { result.why ≡ OutOfMemory }
         ensures histories { result.records.histories.items ≡ self.histories }
+        ensures given_up { histories_of result.records.gave_up.items ≡ self.given_up }
         ensures kept { AreKept result.records }
         ensures files { F.state result.files ≡ self.files }
     {

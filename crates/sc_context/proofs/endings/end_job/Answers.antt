@@ -1,10 +1,12 @@
-use Rattle.std.proofs.Common.{◌≡◌, ◌∙◌, inl, inr, List, [], ◌∷◌, ◌++◌, ap, subst, sym}
+use Rattle.std.proofs.Common.{◌≡◌, ◌∙◌, inl, inr, List, [], ◌∷◌, ◌++◌, Some, ap, subst, sym}
+use Rattle.std.specs.Option.{option_to_list}
 use Rattle.sc_context.specs.Endings.{given_by}
-use Rattle.sc_context.specs.Goings.{HasRun, IsLeftOpen, RunsFrom}
+use Rattle.sc_context.specs.Goings.{HasRun, IsLeftOver, RunsFrom}
+use Rattle.sc_context.specs.Records.{tried_in}
 use Rattle.sc_core.specs.declared.journals.JobHistory.{JobHistory}
 use Rattle.sc_context.specs.declared.records.GaveUp.{GaveUp}
 use Rattle.sc_context.specs.declared.records.Records.{Records}
-use Rattle.sc_context.proofs.EndingLemmas.{some_more}
+use Rattle.sc_context.proofs.EndingLemmas.{histories_more}
 use Rattle.sc_context.proofs.endings.end_job.Goals as goal
 
 pub returns-in-Ok-clause-went : goal.returns-in-Ok-clause-went
@@ -12,15 +14,20 @@ returns-in-Ok-clause-went g c passed last to dir opened runs =
     let work = g.W.Naming.work in
     let state = g.F.Files.state in
     let went = c.in-Went.went in
+    let gave_up = c.in-Went.gave_up in
     let from = subst (RunsFrom work state passed last to dir opened) c.in-Went.is runs in
     record {
       history = went.history;
       all = ◌∙◌ {A = List JobHistory} c.keep.ensures.histories
           (ap (λ hs. hs ++ went.history ∷ []) c.keep_given_up.ensures.histories);
+      tried = tried_in gave_up;
+      all_given = histories_more c.args.records.gave_up.items gave_up
+          c.keep.new.self.gave_up.items
+          (◌∙◌ {A = List GaveUp} c.keep.ensures.given c.keep_given_up.ensures.given);
       began = c.is_sound.ensures;
       ended = c.is_sound-in-Went.ensures;
-      run = subst (λ rs. HasRun work passed last to dir opened went.history went.passed rs
-          (state went.files)) c.in-Ok.is from.0;
+      run = subst (λ rs. HasRun work passed last to dir opened (tried_in gave_up) went.history
+          went.passed rs (state went.files)) c.in-Ok.is from.0;
     }
 
 pub returns-in-Err-clause-over : goal.returns-in-Err-clause-over
@@ -28,6 +35,7 @@ returns-in-Err-clause-over g c passed last to dir opened runs =
     let work = g.W.Naming.work in
     let state = g.F.Files.state in
     let went = c.in-Went.went in
+    let gave_up = c.in-Went.gave_up in
     let from = subst (RunsFrom work state passed last to dir opened) c.in-Went.is runs in
     inl (
       went.passed,
@@ -35,10 +43,14 @@ returns-in-Err-clause-over g c passed last to dir opened runs =
         history = went.history;
         all = ◌∙◌ {A = List JobHistory} c.keep.ensures.histories
             (ap (λ hs. hs ++ went.history ∷ []) c.keep_given_up.ensures.histories);
+        tried = tried_in gave_up;
+        all_given = histories_more c.args.records.gave_up.items gave_up
+            c.keep.new.self.gave_up.items
+            (◌∙◌ {A = List GaveUp} c.keep.ensures.given c.keep_given_up.ensures.given);
         began = c.is_sound.ensures;
         ended = c.is_sound-in-Went.ensures;
-        run = subst (λ rs. HasRun work passed last to dir opened went.history went.passed rs
-            (state went.files)) c.in-Err.is from.0;
+        run = subst (λ rs. HasRun work passed last to dir opened (tried_in gave_up) went.history
+            went.passed rs (state went.files)) c.in-Err.is from.0;
       },
     )
 
@@ -46,6 +58,7 @@ pub returns-in-Refused-clause-over : goal.returns-in-Refused-clause-over
 returns-in-Refused-clause-over g c passed last to dir opened runs =
     let work = g.W.Naming.work in
     let state = g.F.Files.state in
+    let gave_up = c.in-Refused.gave_up in
     let from = subst (RunsFrom work state passed last to dir opened) c.in-Refused.is runs in
     let left = c.without_memory in
     let records = left.ensures.records in
@@ -53,22 +66,28 @@ returns-in-Refused-clause-over g c passed last to dir opened runs =
       left.ensures.why,
       ◌∙◌ {A = List JobHistory} (ap (λ (r : Records). r.histories.items) records)
           c.give_up.ensures.histories,
-      some_more c.args.records.gave_up.items c.in-Refused.gave_up
-          left.result.records.gave_up.items
-          (◌∙◌ {A = List GaveUp} (ap (λ (r : Records). r.gave_up.items) records)
-          c.give_up.ensures.given),
-      subst (IsLeftOpen dir opened) (sym left.ensures.files) from.1,
+      (
+        gave_up.history,
+        histories_more c.args.records.gave_up.items (Some gave_up)
+            left.result.records.gave_up.items
+            (◌∙◌ {A = List GaveUp} (ap (λ (r : Records). r.gave_up.items) records)
+            c.give_up.ensures.given),
+        subst (IsLeftOver work passed last to dir opened gave_up.history)
+            (sym left.ensures.files) from.1,
+      ),
     )
 
 pub returns-in-Ok-clause-given : goal.returns-in-Ok-clause-given
 returns-in-Ok-clause-given g c =
-    subst (λ run. c.keep.new.self.gave_up.items ≡ c.args.records.gave_up.items ++ given_by run)
+    subst (λ run. c.keep.new.self.gave_up.items
+    ≡ c.args.records.gave_up.items ++ option_to_list (given_by run))
     (sym c.in-Went.is)
     (◌∙◌ {A = List GaveUp} c.keep.ensures.given c.keep_given_up.ensures.given)
 
 pub returns-in-Err-clause-given_over : goal.returns-in-Err-clause-given_over
 returns-in-Err-clause-given_over g c =
-    subst (λ run. c.keep.new.self.gave_up.items ≡ c.args.records.gave_up.items ++ given_by run)
+    subst (λ run. c.keep.new.self.gave_up.items
+    ≡ c.args.records.gave_up.items ++ option_to_list (given_by run))
     (sym c.in-Went.is)
     (◌∙◌ {A = List GaveUp} c.keep.ensures.given c.keep_given_up.ensures.given)
 
@@ -76,7 +95,8 @@ pub returns-in-Refused-clause-given_over : goal.returns-in-Refused-clause-given_
 returns-in-Refused-clause-given_over g c =
     let left = c.without_memory in
     subst
-    (λ run. left.result.records.gave_up.items ≡ c.args.records.gave_up.items ++ given_by run)
+    (λ run. left.result.records.gave_up.items
+    ≡ c.args.records.gave_up.items ++ option_to_list (given_by run))
     (sym c.in-Refused.is)
     (◌∙◌ {A = List GaveUp} (ap (λ (r : Records). r.gave_up.items) left.ensures.records)
     c.give_up.ensures.given)

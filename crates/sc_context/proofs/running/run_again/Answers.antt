@@ -1,4 +1,4 @@
-use Rattle.std.proofs.Common.{◌∙◌, refl, subst}
+use Rattle.std.proofs.Common.{◌∙◌, subst}
 use Rattle.std.specs.Prelude.{IfOk}
 use Rattle.std.specs.Option.{option_map}
 use Rattle.sc_core.specs.Openings.{unregistered_core}
@@ -6,7 +6,7 @@ use Rattle.sc_staging.specs.Outputs.{output_dir, output_files}
 use Rattle.sc_desk.specs.Begins.{BeginsAgain}
 use Rattle.sc_desk.specs.DeskData.{DeskData}
 use Rattle.sc_context.proofs.AloneLemmas.{again_stands, again_unregistered}
-use Rattle.sc_context.proofs.RunningLemmas.{begins_again, is_given_up, logged_alone}
+use Rattle.sc_context.proofs.RunningLemmas.{begins_again, gives_up, logged_alone}
 use Rattle.sc_context.proofs.running.run_again.Goals as goal
 
 pub again-history-requires-clause-many : goal.again-history-requires-clause-many
@@ -65,8 +65,9 @@ returns-in-Ok-run_alone g c =
         c.in-Ok-run_alone.ensures.counted,
         logged_alone c.in-Ok-run_alone.alone.went.history c.new.result.items c.new.ensures.items
             c.in-Ok-run_alone.ensures.drivers,
-        is_given_up _ c.args.given.desk.journal.entries c.again-history.ensures.replays
-            c.again-history.ensures.entries c.requires.cause,
+        gives_up g.W.Naming.work c.args.given.desk _ c.again-history.ensures.opening
+            c.again-history.ensures.entries c.again-history.ensures.replays
+            (c.again-history.ensures.evidence c.again-history.ensures.replays) c.requires.cause,
       );
     }
 
@@ -74,8 +75,9 @@ pub returns-in-Ok : goal.returns-in-Ok
 returns-in-Ok g c =
     record {
       again = (
-        is_given_up _ c.args.given.desk.journal.entries c.again-history.ensures.replays
-            c.again-history.ensures.entries c.requires.cause,
+        gives_up g.W.Naming.work c.args.given.desk _ c.again-history.ensures.opening
+            c.again-history.ensures.entries c.again-history.ensures.replays
+            (c.again-history.ensures.evidence c.again-history.ensures.replays) c.requires.cause,
         c.close.ensures ∙ c.in-Err-run_alone.ensures.back,
       );
     }
@@ -84,8 +86,9 @@ pub returns : goal.returns
 returns g c =
     record {
       again = (
-        is_given_up _ c.args.given.desk.journal.entries c.again-history.ensures.replays
-            c.again-history.ensures.entries c.requires.cause,
+        gives_up g.W.Naming.work c.args.given.desk _ c.again-history.ensures.opening
+            c.again-history.ensures.entries c.again-history.ensures.replays
+            (c.again-history.ensures.evidence c.again-history.ensures.replays) c.requires.cause,
         c.close-in-Err.ensures,
       );
     }

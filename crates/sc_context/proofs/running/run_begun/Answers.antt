@@ -1,4 +1,4 @@
-use Rattle.std.proofs.Common.{◌≡◌, ◌≤◌, ◌∙◌, ℕ, All, List, ap, length, refl, subst, sym, vec_capacity}
+use Rattle.std.proofs.Common.{◌≤◌, ◌∙◌, ℕ, All, List, ap, length, subst, sym, vec_capacity}
 use Rattle.std.specs.Option.{option_map}
 use Rattle.std.proofs.lemmas.List.{with_items_is}
 use Rattle.sc_desk.specs.DeskData.{core_of}
@@ -30,7 +30,8 @@ pub judge-how-requires-clause-worked : goal.judge-how-requires-clause-worked
 judge-how-requires-clause-worked g c =
     let same = with_items_is c.args.crew.workers c.work_job-desk.new.workers
     (c.work_job-desk.auto.workers ∙ c.deref_mut.ensures.len) in
-    subst (λ (ws : List Worker). All HasCause ws) (sym (c.as_slice-2.ensures.value ∙ same))
+    subst (λ (ws : List Worker). All (HasCause g.W.Naming.work) ws)
+    (sym (c.as_slice.ensures.value ∙ same))
     c.work_job-desk.ensures.worked
 
 pub judge-how-requires-clause-places : goal.judge-how-requires-clause-places
@@ -38,7 +39,7 @@ judge-how-requires-clause-places g c =
     let same = with_items_is c.args.crew.workers c.work_job-desk.new.workers
     (c.work_job-desk.auto.workers ∙ c.deref_mut.ensures.len) in
     subst (λ (ws : List Worker). AreInPlace g.W.Naming.work.limits.executors ws)
-    (sym (c.as_slice-2.ensures.value ∙ same)) c.work_job-desk.ensures.places
+    (sym (c.as_slice.ensures.value ∙ same)) c.work_job-desk.ensures.places
 
 pub into_logs-logs-requires-clause-no_logs : goal.into_logs-logs-requires-clause-no_logs
 into_logs-logs-requires-clause-no_logs g c = c.requires.crew.no_logs
@@ -98,7 +99,7 @@ run_again-requires-clause-cause g c =
     (c.into_logs-logs.ensures.lefts ∙ ap lefts_of same)
     (given_by (core_of desk) desk.journal.entries workers c.judge-how.result c.in-GivenUp.is
     (subst (λ (ws : List Worker). IsVerdict (core_of desk) desk.journal.entries ws
-    c.judge-how.result) (c.as_slice-2.ensures.value ∙ same) c.judge-how.ensures))
+    c.judge-how.result) (c.as_slice.ensures.value ∙ same) c.judge-how.ensures))
 
 pub returns-in-Ended : goal.returns-in-Ended
 returns-in-Ended g c =
@@ -120,7 +121,7 @@ returns-in-Ended g c =
             (c.into_logs-logs.ensures.logs ∙ ap logs_of same)
             (logged_by (core_of desk) desk.journal.entries workers c.judge-how.result c.in-Ended.is
             (subst (λ (ws : List Worker). IsVerdict (core_of desk) desk.journal.entries ws
-            c.judge-how.result) (c.as_slice-2.ensures.value ∙ same) c.judge-how.ensures)),
+            c.judge-how.result) (c.as_slice.ensures.value ∙ same) c.judge-how.ensures)),
         tt,
       );
     }

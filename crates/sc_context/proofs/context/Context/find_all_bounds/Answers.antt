@@ -5,6 +5,7 @@ use Rattle.sc_base.specs.Lists.{at_or}
 use Rattle.sc_compute.specs.Stages.{bounds_at}
 use Rattle.sc_stagecut.specs.Carrying.{IsFirstLacking}
 use Rattle.sc_context.specs.Progress.{next_node}
+use Rattle.sc_context.specs.Records.{histories_of}
 use Rattle.sc_context.proofs.BoundLemmas.{fewer_behind, lacks_none, lacks_within}
 use Rattle.sc_context.proofs.ChainLemmas.{goes_on, stays, stops_behind, stops_short}
 use Rattle.sc_context.proofs.context.Context.find_all_bounds.Goals as goal
@@ -31,7 +32,7 @@ returns-in_err-context-in-Ok-Some-clause-stops g c =
     let stopped = c.in_err-context-in-Ok-Some.field-0.0 in
     rw (p.1, p.2)
     (stops_behind g.W.Naming.work c.args.self c.loop-sort.context stopped.why
-    stopped.records.histories.items (length stopped.records.gave_up.items)
+    stopped.records.histories.items (histories_of stopped.records.gave_up.items)
     (g.F.Files.state stopped.files) c.loop-sort.invariant
     c.in_err-context-in-Ok-Some.ensures.stops)
 
@@ -40,12 +41,12 @@ returns-in-Err-clause-stops g c =
     let left = c.without_memory.result in
     let files = g.F.Files.state left.files in
     let histories = left.records.histories.items in
-    let given_up = length left.records.gave_up.items in
+    let given_up = histories_of left.records.gave_up.items in
     stops_behind g.W.Naming.work c.args.self c.loop-sort.context left.why histories given_up
     files c.loop-sort.invariant
     (stops_short g.W.Naming.work c.loop-sort.context left.why histories given_up files
     c.is_sound.ensures.come c.without_memory.ensures.why c.without_memory.ensures.histories
-    c.without_memory.ensures.files)
+    c.without_memory.ensures.given_up c.without_memory.ensures.files)
 
 pub loop-sort-init : goal.loop-sort-init
 loop-sort-init g c = stays g.W.Naming.work c.args.self

@@ -2,10 +2,12 @@ use Rattle.std.proofs.Common.{◌∙◌, ◌≤◌, [], ◌∷◌, Some, None, l
 use Rattle.sc_base.specs.Lists.{at_or}
 use Rattle.sc_ids.proofs.ChangeLemmas.{length_change_at}
 use Rattle.std.specs.List.{slice_get}
+use Rattle.std.specs.Option.{option_to_list}
 use Rattle.sc_stagecut.specs.Carrying.{CarriedData, after_job, with_bounds}
 use Rattle.sc_jobs.specs.declared.goals.Goal.TheVariants as goals
 use Rattle.sc_desk.specs.Begins.{IsPassedFor}
 use Rattle.sc_desk.specs.DeskData.{PassedData, passed_data}
+use Rattle.sc_context.specs.Records.{histories_of}
 use Rattle.sc_context.specs.declared.records.Records.{Records}
 use Rattle.sc_context.proofs.BoundLemmas.{found_passed, lacking_is}
 use Rattle.sc_context.proofs.ChainLemmas.{stops_ended}
@@ -22,11 +24,13 @@ returns-in_default-clause-stops g c =
     let e = c.in_ok-ended.ended in
     let left = c.without_memory in
     stops_ended g.W.Naming.work c.args.self (goals.Bounds c.args.sort) left.result.why e.passed
-    e.records.histories.items left.result.records.histories.items e.results.items
-    (length left.result.records.gave_up.items) (g.F.Files.state e.files)
-    (g.F.Files.state left.result.files) c.requires.next c.is_sound.ensures.come
-    c.in_ok-ended.ensures.ended left.ensures.why
-    (ap (λ (r : Records). r.histories.items) left.ensures.records) left.ensures.files
+    e.records.histories.items (histories_of e.records.gave_up.items)
+    left.result.records.histories.items (histories_of left.result.records.gave_up.items)
+    e.results.items (g.F.Files.state e.files) (g.F.Files.state left.result.files)
+    c.requires.next c.is_sound.ensures.come c.in_ok-ended.ensures.ended left.ensures.why
+    (ap (λ (r : Records). r.histories.items) left.ensures.records)
+    (ap (λ (r : Records). histories_of r.gave_up.items) left.ensures.records)
+    left.ensures.files
 
 pub invariant_of-result : goal.invariant_of-result
 invariant_of-result g c =
@@ -55,8 +59,9 @@ invariant_of-result g c =
     omega (arith, many, c.requires.within) in (
       context_behind work c.args.self (goals.Bounds sort) e.passed
           (passed_data c.set_bounds.new.self c.passed.inside.ordered) e.records.histories.items
-          e.results.items e.actions (g.F.Files.state e.files) c.is_sound.ensures.come ended
-          carried many within serves places,
+          (histories_of e.records.gave_up.items) e.results.items e.actions
+          (g.F.Files.state e.files) c.is_sound.ensures.come ended carried many within serves
+          places,
       c.in_ok-ended.ensures.recorded,
     )
 
@@ -73,13 +78,15 @@ returns-clause-finds g c =
     c.in-Ok.ensures in
     let gone = gone_behind work c.args.self (goals.Bounds sort) e.passed
     (passed_data c.set_bounds.new.self c.passed.inside.ordered) e.records.histories.items
-    e.results.items e.actions (g.F.Files.state e.files) c.is_sound.ensures.come ended carried
-    c.in_ok-ended.ensures.actions in
+    (histories_of e.records.gave_up.items) e.results.items e.actions (g.F.Files.state e.files)
+    c.is_sound.ensures.come ended carried c.in_ok-ended.ensures.actions in
     record {
       on = record {
         actions = c.in_ok-ended.ensures.actions;
         more = ended.history ∷ [];
         all = ended.all;
+        given = option_to_list ended.tried;
+        all_given = ended.all_given;
         come = gone.come;
         left = gone.left;
         files = ended.left.left;

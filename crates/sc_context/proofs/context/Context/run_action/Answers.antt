@@ -1,6 +1,6 @@
-use Rattle.std.proofs.Common.{length}
 use Rattle.std.proofs.lemmas.Result.{IfErr-weaker, IfOk-weaker}
 use Rattle.sc_context.specs.Contexts.{GivesNext, Stops}
+use Rattle.sc_context.specs.Records.{histories_of}
 use Rattle.sc_context.proofs.ChainLemmas.{gives_behind, stops_behind}
 use Rattle.sc_context.proofs.context.Context.run_action.Goals as goal
 
@@ -19,10 +19,10 @@ returns-clause-stops g c =
     let work = g.W.Naming.work in
     IfErr-weaker c.run_own_job.result
     (λ x. Stops work c.in_ok-context.context x.why x.records.histories.items
-    (length x.records.gave_up.items) (g.F.Files.state x.files))
+    (histories_of x.records.gave_up.items) (g.F.Files.state x.files))
     (λ x. Stops work c.args.self x.why x.records.histories.items
-    (length x.records.gave_up.items) (g.F.Files.state x.files))
+    (histories_of x.records.gave_up.items) (g.F.Files.state x.files))
     (λ x h. stops_behind work c.args.self c.in_ok-context.context x.why
-    x.records.histories.items (length x.records.gave_up.items) (g.F.Files.state x.files)
+    x.records.histories.items (histories_of x.records.gave_up.items) (g.F.Files.state x.files)
     c.in_ok-context.ensures.finds.on h)
     c.run_own_job.ensures.stops
