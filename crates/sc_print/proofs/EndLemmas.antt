@@ -26,65 +26,67 @@ use Rattle.sc_print.proofs.OverLemmas.{done_all, done_further, gone_further, non
 use Rattle.sc_print.proofs.PrintLemmas.{printed-all, printed-none, with_more-append}
 
 -- want of memory leaves the files as they are
-still-over : (work : WorkData) (before after : FilesState) (histories : List JobHistory)
-    (given_up k : ℕ) → HasDoneOver work before after histories k
+still-over : (work : WorkData) (before after : FilesState)
+    (histories given_up : List JobHistory) (k : ℕ)
+    → HasDoneOver work before after histories given_up k
     → EndsOver work before after histories given_up k OutOfMemory
 still-over work before after histories given_up k done =
     record {
       front = histories;
+      given_front = given_up;
       mid = after;
       done = done;
       more = [];
       all = sym (append-nil histories);
+      given = [];
+      all_given = sym (append-nil given_up);
       over = unchanged_stops (dir_of_job work (goals.Action k)) after after OutOfMemory refl tt;
-      counted = still_counts given_up after after refl;
+      counted = still_counts after after refl;
     }
 
 -- nothing is printed, and no job has run
 pub nothing_done : (work : WorkData) (state : SinkState) (before after : FilesState)
-    → after ≡ before → (histories : List JobHistory) → histories ≡ [] → (given_up : ℕ)
+    → after ≡ before → (histories given_up : List JobHistory) → histories ≡ [] → given_up ≡ []
     → Prints work state state before after (Err OutOfMemory) histories given_up
-nothing_done work state before after still histories none given_up =
-    subst (λ f. Prints work state state before f (Err OutOfMemory) histories given_up)
-    (sym still) (
-    subst (λ hs. Prints work state state before before (Err OutOfMemory) hs given_up)
-    (sym none) (
-    record {
+nothing_done work state before after still histories given_up none none_given =
+    subst (λ f. Prints work state state before f (Err OutOfMemory) histories given_up) (sym still)
+    (subst (λ gs. Prints work state state before before (Err OutOfMemory) histories gs)
+    (sym none_given)
+    (subst (λ hs. Prints work state state before before (Err OutOfMemory) hs []) (sym none)
+    (record {
       k = 0;
       printed = printed-none work state;
       actions = 0;
       printed_all = omega arith;
       but_one = omega arith;
-      jobs = inl (first_progress work, refl, inl refl);
-      over = still-over work before before [] given_up 0 (none_over work before);
-    }
-    )
-    )
+      jobs = inl (first_progress work, refl, inl (refl, refl));
+      over = still-over work before before [] [] 0 (none_over work before);
+    })))
 
 module _ (laws : SavesAreLawful) (work : WorkData) (start now : SinkState) (before : FilesState)
     (c : ContextData) (so_far : HasPrinted work start now c.progress.actions)
-    (gone : HaveGone work (first_progress work) c.histories c.progress before c.files)
+    (gone : HaveGone work (first_progress work) c.histories c.given_up c.progress before c.files)
   where
     -- all is printed, and all jobs are done
     pub all_done : length work.script.actions ≤ c.progress.actions
         → c.progress.actions ≤ length work.script.actions
-        → (histories : List JobHistory) (given_up : ℕ) (files : FilesState)
-        → histories ≡ c.histories → files ≡ c.files → (done : Unit {0})
+        → (histories given_up : List JobHistory) (files : FilesState)
+        → histories ≡ c.histories → given_up ≡ c.given_up → files ≡ c.files → (done : Unit {0})
         → Prints work start now before files (Ok done) histories given_up
-    all_done past within histories given_up files same still done =
+    all_done past within histories given_up files same same_given still done =
         let all : c.progress.actions ≡ length work.script.actions = omega (arith, past, within) in (
           printed-all work start now c.progress.actions past so_far,
-          done_all work before c gone laws (length work.script.actions) all histories files same
-              still,
+          done_all work before c gone laws (length work.script.actions) all histories given_up
+              files same same_given still,
         )
 
     -- what ends the running at the next action ends the whole
     pub printing-stops : (after : SinkState) (files : FilesState) (why : OrMemory PrintFault)
-        (histories : List JobHistory) (given_up : ℕ)
+        (histories given_up : List JobHistory)
         → StopsNext work now after c files why histories given_up
         → Prints work start after before files (Err why) histories given_up
     printing-stops after files (Fault (Aborted n abort)) histories given_up x =
-        subst (λ k. HasPrinted work start after k × IsAborted work k histories abort
+        subst (λ k. HasPrinted work start after k × IsAborted work k histories given_up abort
         × EndsOver work before files histories given_up k (Fault (faults.Aborted abort)))
         (sym x.0) (
           subst (λ s. HasPrinted work start s c.progress.actions) (sym x.1) so_far,
@@ -93,7 +95,7 @@ module _ (laws : SavesAreLawful) (work : WorkData) (start now : SinkState) (befo
               files x.2,
         )
     printing-stops after files (Fault (Exists n path)) histories given_up x =
-        subst (λ k. HasPrinted work start after k × HasDone work histories k
+        subst (λ k. HasPrinted work start after k × HasDone work histories given_up k
         × EndsOver work before files histories given_up k (Fault (faults.Exists path))) (sym x.0) (
           subst (λ s. HasPrinted work start s c.progress.actions) (sym x.1) so_far,
           x.2.shows,
@@ -101,7 +103,7 @@ module _ (laws : SavesAreLawful) (work : WorkData) (start now : SinkState) (befo
               files x.2,
         )
     printing-stops after files (Fault (Device n path)) histories given_up x =
-        subst (λ k. HasPrinted work start after k × IsHalted work k histories
+        subst (λ k. HasPrinted work start after k × IsHalted work k histories given_up
         × EndsOver work before files histories given_up k (Fault (faults.Device path))) (sym x.0) (
           subst (λ s. HasPrinted work start s c.progress.actions) (sym x.1) so_far,
           x.2.shows,
@@ -110,14 +112,14 @@ module _ (laws : SavesAreLawful) (work : WorkData) (start now : SinkState) (befo
         )
     printing-stops after files (Fault (Driver n fault)) histories given_up x =
         subst (λ k. StopsAtDriver work start after k fault
-        × HasDoneOver work before files histories (k + 1)) (sym x.0) (
+        × HasDoneOver work before files histories given_up (k + 1)) (sym x.0) (
           record {
             action = x.3.0;
             is_action = x.3.1;
             faults_so = x.3.2;
             printed = subst (λ s. HasPrinted work start s c.progress.actions) (sym x.1) so_far;
           },
-          done_further work before c gone laws histories files x.2,
+          done_further work before c gone laws histories given_up files x.2,
         )
     printing-stops after files (Fault Write) histories given_up x = (
       record {
@@ -135,7 +137,7 @@ module _ (laws : SavesAreLawful) (work : WorkData) (start now : SinkState) (befo
             (take x.1.4.n x.1.0 ∷ []);
         rose = subst (λ n. Rose n after.faults) so_far.quiet x.1.4.rose;
       },
-      done_further work before c gone laws histories files x.0,
+      done_further work before c gone laws histories given_up files x.0,
     )
     printing-stops after files OutOfMemory histories given_up (same, inl stops) =
         record {
@@ -157,8 +159,8 @@ module _ (laws : SavesAreLawful) (work : WorkData) (start now : SinkState) (befo
           jobs = inl (
             goes.next,
             goes.one_more,
-            inl (gone_further work before c gone histories files goes).come,
+            inl (gone_further work before c gone histories given_up files goes).come,
           );
           over = still-over work before files histories given_up (c.progress.actions + 1)
-              (done_further work before c gone laws histories files goes);
+              (done_further work before c gone laws histories given_up files goes);
         }

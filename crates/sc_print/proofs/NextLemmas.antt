@@ -21,8 +21,9 @@ use Rattle.sc_print.proofs.PrintLemmas.{slice_get-at, with_more-none}
 
 -- where a context ran no further the running ends, and the sink stays as it is
 pub context-stops : (work : WorkData) (state : SinkState) (c : ContextData) (number : ℕ)
-    → number ≡ c.progress.actions → (why : OrMemory JobFault) (histories : List JobHistory)
-    (given_up : ℕ) (files : FilesState) → Stops work c why histories given_up files
+    → number ≡ c.progress.actions → (why : OrMemory JobFault)
+    (histories given_up : List JobHistory) (files : FilesState)
+    → Stops work c why histories given_up files
     → StopsNext work state state c files (fault_of number why) histories given_up
 context-stops work state c number same (Fault (faults.Aborted abort)) histories given_up files
     stops =
@@ -56,6 +57,8 @@ module _ (work : WorkData) (before after : SinkState) (c next : ContextData)
           one_more = gives.one_more;
           more = gives.more;
           all = gives.all;
+          given = gives.given;
+          all_given = gives.all_given;
           come = gives.come;
           left = gives.left;
         }
@@ -73,6 +76,8 @@ module _ (work : WorkData) (before after : SinkState) (c next : ContextData)
           one_more = gives.one_more;
           more = gives.more;
           all = gives.all;
+          given = gives.given;
+          all_given = gives.all_given;
           come = gives.come;
           left = gives.left;
         }
@@ -81,31 +86,36 @@ module _ (work : WorkData) (before after : SinkState) (c next : ContextData)
 
     -- its jobs are done
     further : (value : Evaluated) → GivesNext work c value next
-        → GoesOneFurther work c next.histories next.files
+        → GoesOneFurther work c next.histories next.given_up next.files
     further value gives =
         record {
           next = next.progress;
           one_more = gives.one_more;
           more = gives.more;
           all = gives.all;
+          given = gives.given;
+          all_given = gives.all_given;
           come = gives.come;
           left = gives.left;
         }
 
     -- and the running ends at it
     pub next-stops : (value : Evaluated) → GivesNext work c value next
-        → (histories : List JobHistory) (given_up : ℕ) (files : FilesState)
-        → histories ≡ next.histories → files ≡ next.files → (why : OrMemory PrintFault)
+        → (histories given_up : List JobHistory) (files : FilesState)
+        → histories ≡ next.histories → given_up ≡ next.given_up → files ≡ next.files
+        → (why : OrMemory PrintFault)
         → WritesValue number value before after (Err why)
         → StopsNext work before after c files why histories given_up
-    next-stops value gives histories given_up files as_there still why writes =
+    next-stops value gives histories given_up files as_there given_there still why writes =
         subst (λ hs. StopsNext work before after c files why hs given_up) (sym as_there)
-        (subst (λ f. StopsNext work before after c f why next.histories given_up) (sym still)
-        (by value gives why writes))
+        (subst (λ gs. StopsNext work before after c files why next.histories gs)
+        (sym given_there)
+        (subst (λ f. StopsNext work before after c f why next.histories next.given_up)
+        (sym still) (by value gives why writes)))
       where
         by : (value : Evaluated) → GivesNext work c value next → (why : OrMemory PrintFault)
             → WritesValue number value before after (Err why)
-            → StopsNext work before after c next.files why next.histories given_up
+            → StopsNext work before after c next.files why next.histories next.given_up
         by (evaluated.Prints text) gives (Fault (Aborted k abort)) writes = absurd writes
         by (evaluated.Prints text) gives (Fault (Exists k path)) writes = absurd writes
         by (evaluated.Prints text) gives (Fault (Device k path)) writes = absurd writes
@@ -125,7 +135,7 @@ module _ (work : WorkData) (before after : SinkState) (c next : ContextData)
         by evaluated.Saves gives why writes = absurd (search (rules, writes.0))
         by (evaluated.Faults fault) gives why writes =
             let e : why ≡ Fault (Driver number fault) = search (rules, writes.0) in
-            subst (λ w. StopsNext work before after c next.files w next.histories given_up)
+            subst (λ w. StopsNext work before after c next.files w next.histories next.given_up)
             (sym e) (
               same,
               writes.1,

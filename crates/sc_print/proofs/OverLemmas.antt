@@ -23,28 +23,29 @@ use Rattle.sc_print.specs.Printing.{EndsOver, GoesOneFurther, HasDoneOver, Print
 use Rattle.sc_print.proofs.SavedLemmas.{later-same, left-later, left-saved}
 
 -- jobs that were done one behind the other from the first on
-pub done_over : (laws : SavesAreLawful) (work : WorkData) (histories : List JobHistory)
+pub done_over : (laws : SavesAreLawful) (work : WorkData) (histories given_up : List JobHistory)
     (p : Progress) (before after : FilesState)
-    → HaveGone work (first_progress work) histories p before after
-    → HasDoneOver work before after histories p.actions
-done_over laws work histories p before after gone =
+    → HaveGone work (first_progress work) histories given_up p before after
+    → HasDoneOver work before after histories given_up p.actions
+done_over laws work histories given_up p before after gone =
     record {
       progress = p;
       come = gone.come;
       at = refl;
       left = gone.left;
-      later = left-later work histories (first_progress work) p gone.come before after gone.left;
+      later = left-later work histories given_up (first_progress work) p gone.come before after
+          gone.left;
       saved = λ opening shown apart.
-          left-saved laws work opening apart histories (first_progress work) p gone.come before
-          after gone.left shown;
+          left-saved laws work opening apart histories given_up (first_progress work) p gone.come
+          before after gone.left shown;
     }
 
 -- no job was done
-pub none_over : (work : WorkData) (files : FilesState) → HasDoneOver work files files [] 0
+pub none_over : (work : WorkData) (files : FilesState) → HasDoneOver work files files [] [] 0
 none_over work files =
     record {
       progress = first_progress work;
-      come = refl;
+      come = (refl, refl);
       at = refl;
       left = refl;
       later = later-same files;
@@ -54,68 +55,83 @@ none_over work files =
 -- nor in a context in which none has run
 pub gone_first : (work : WorkData) (files : FilesState) (c : ContextData)
     → c ≡ new_context work files
-    → HaveGone work (first_progress work) c.histories c.progress files c.files
+    → HaveGone work (first_progress work) c.histories c.given_up c.progress files c.files
 gone_first work files c new =
-    subst (λ (x : ContextData). HaveGone work (first_progress work) x.histories x.progress files
-    x.files) (sym new) (record { come = refl; left = refl })
+    subst (λ (x : ContextData). HaveGone work (first_progress work) x.histories x.given_up
+    x.progress files x.files) (sym new) (record { come = (refl, refl); left = refl })
 
 module _ (work : WorkData) (before : FilesState) (c : ContextData)
-    (gone : HaveGone work (first_progress work) c.histories c.progress before c.files)
+    (gone : HaveGone work (first_progress work) c.histories c.given_up c.progress before c.files)
   where
     -- those of a context, with its histories and files as they are handed back
     pub done_all : (laws : SavesAreLawful) (k : ℕ) → c.progress.actions ≡ k
-        → (histories : List JobHistory) (files : FilesState) → histories ≡ c.histories
-        → files ≡ c.files → HasDoneOver work before files histories k
-    done_all laws k all histories files same still =
-        subst (λ n. HasDoneOver work before files histories n) all
-        (done_over laws work histories c.progress before files
-        (subst (λ f. HaveGone work (first_progress work) histories c.progress before f) (sym still)
-        (subst (λ hs. HaveGone work (first_progress work) hs c.progress before c.files) (sym same)
-        gone)))
+        → (histories given_up : List JobHistory) (files : FilesState) → histories ≡ c.histories
+        → given_up ≡ c.given_up → files ≡ c.files
+        → HasDoneOver work before files histories given_up k
+    done_all laws k all histories given_up files same same_given still =
+        subst (λ n. HasDoneOver work before files histories given_up n) all
+        (done_over laws work histories given_up c.progress before files
+        (subst (λ f. HaveGone work (first_progress work) histories given_up c.progress before f)
+        (sym still)
+        (subst (λ gs. HaveGone work (first_progress work) histories gs c.progress before c.files)
+        (sym same_given)
+        (subst (λ hs. HaveGone work (first_progress work) hs c.given_up c.progress before c.files)
+        (sym same) gone))))
 
     -- more jobs were done behind those of a context
-    gone_more : (histories more : List JobHistory) (q : Progress) (files : FilesState)
-        → histories ≡ c.histories ++ more → (come : HasCome work c.progress more q)
-        → HaveLeft work c.progress more q come c.files files
-        → HaveGone work (first_progress work) histories q before files
-    gone_more histories more q files all come left =
-        subst (λ hs. HaveGone work (first_progress work) hs q before files) (sym all)
-        (gone_then work (first_progress work) c.progress q c.histories more before c.files files
-        gone (record { come = come; left = left }))
+    gone_more : (histories given_up more given : List JobHistory) (q : Progress)
+        (files : FilesState) → histories ≡ c.histories ++ more → given_up ≡ c.given_up ++ given
+        → (come : HasCome work c.progress more given q)
+        → HaveLeft work c.progress more given q come c.files files
+        → HaveGone work (first_progress work) histories given_up q before files
+    gone_more histories given_up more given q files all all_given come left =
+        subst (λ gs. HaveGone work (first_progress work) histories gs q before files)
+        (sym all_given)
+        (subst (λ hs. HaveGone work (first_progress work) hs (c.given_up ++ given) q before files)
+        (sym all)
+        (gone_then work (first_progress work) c.progress q c.histories c.given_up more given before
+        c.files files gone (record { come = come; left = left })))
 
     -- those of the next action, which was printed
     pub gone_printed : (state then : SinkState) (next : ContextData)
         → PrintsNext work state then c next
-        → HaveGone work (first_progress work) next.histories next.progress before next.files
+        → HaveGone work (first_progress work) next.histories next.given_up next.progress before
+        next.files
     gone_printed state then next one =
-        gone_more next.histories one.more next.progress next.files one.all one.come one.left
+        gone_more next.histories next.given_up one.more one.given next.progress next.files one.all
+        one.all_given one.come one.left
 
     -- those of the next action
-    pub gone_further : (histories : List JobHistory) (files : FilesState)
-        → (goes : GoesOneFurther work c histories files)
-        → HaveGone work (first_progress work) histories goes.next before files
-    gone_further histories files goes =
-        gone_more histories goes.more goes.next files goes.all goes.come goes.left
+    pub gone_further : (histories given_up : List JobHistory) (files : FilesState)
+        → (goes : GoesOneFurther work c histories given_up files)
+        → HaveGone work (first_progress work) histories given_up goes.next before files
+    gone_further histories given_up files goes =
+        gone_more histories given_up goes.more goes.given goes.next files goes.all goes.all_given
+        goes.come goes.left
 
-    pub done_further : (laws : SavesAreLawful) (histories : List JobHistory) (files : FilesState)
-        → GoesOneFurther work c histories files
-        → HasDoneOver work before files histories (c.progress.actions + 1)
-    done_further laws histories files goes =
-        subst (λ k. HasDoneOver work before files histories k) goes.one_more
-        (done_over laws work histories goes.next before files (gone_further histories files goes))
+    pub done_further : (laws : SavesAreLawful) (histories given_up : List JobHistory)
+        (files : FilesState) → GoesOneFurther work c histories given_up files
+        → HasDoneOver work before files histories given_up (c.progress.actions + 1)
+    done_further laws histories given_up files goes =
+        subst (λ k. HasDoneOver work before files histories given_up k) goes.one_more
+        (done_over laws work histories given_up goes.next before files
+        (gone_further histories given_up files goes))
 
     -- the next action came to no end
     pub stopped_over : (laws : SavesAreLawful) (why : OrMemory JobFault)
-        (histories : List JobHistory) (given_up : ℕ) (files : FilesState)
+        (histories given_up : List JobHistory) (files : FilesState)
         → Stops work c why histories given_up files
         → EndsOver work before files histories given_up c.progress.actions why
     stopped_over laws why histories given_up files stops =
         record {
           front = c.histories;
+          given_front = c.given_up;
           mid = c.files;
-          done = done_over laws work c.histories c.progress before c.files gone;
-          more = stops.behind.0;
-          all = stops.behind.1;
+          done = done_over laws work c.histories c.given_up c.progress before c.files gone;
+          more = stops.behind.more;
+          all = stops.behind.all;
+          given = stops.behind.given;
+          all_given = stops.behind.all_given;
           over = stops.over;
           counted = stops.counted;
         }
@@ -131,8 +147,8 @@ stops-later (Some dir) before after why (inl stops) =
     subst (λ s. IsLaterFiles before s) (sym stops.0) (later-same before)
 stops-later (Some dir) before after why (inr stops) = stops.0
 
-ends-later : (work : WorkData) (before after : FilesState) (histories : List JobHistory)
-    (given_up k : ℕ) (why : OrMemory JobFault)
+ends-later : (work : WorkData) (before after : FilesState)
+    (histories given_up : List JobHistory) (k : ℕ) (why : OrMemory JobFault)
     → EndsOver work before after histories given_up k why → IsLaterFiles before after
 ends-later work before after histories given_up k why ends =
     later-then before ends.mid after ends.done.later
@@ -140,7 +156,7 @@ ends-later work before after histories given_up k why ends =
 
 -- however the running ends, it leaves later files
 pub prints-later : (work : WorkData) (start now : SinkState) (before after : FilesState)
-    (end : Result (Unit {0}) (OrMemory PrintFault)) (histories : List JobHistory) (given_up : ℕ)
+    (end : Result (Unit {0}) (OrMemory PrintFault)) (histories given_up : List JobHistory)
     → Prints work start now before after end histories given_up → IsLaterFiles before after
 prints-later work start now before after (Ok done) histories given_up x = x.1.later
 prints-later work start now before after (Err (Fault (Aborted k abort))) histories given_up x =

@@ -44,15 +44,15 @@ leaves-later None work goal h before after left =
 leaves-later (Some dir) work goal h before after left = left.1
 
 -- and so do jobs one behind the other
-pub left-later : (work : WorkData) (histories : List JobHistory) (p q : Progress)
-    (come : HasCome work p histories q) (before after : FilesState)
-    → HaveLeft work p histories q come before after → IsLaterFiles before after
-left-later work [] p q come before after left =
+pub left-later : (work : WorkData) (histories given_up : List JobHistory) (p q : Progress)
+    (come : HasCome work p histories given_up q) (before after : FilesState)
+    → HaveLeft work p histories given_up q come before after → IsLaterFiles before after
+left-later work [] given_up p q come before after left =
     subst (λ s. IsLaterFiles before s) (sym left) (later-same before)
-left-later work (h ∷ histories) p q (mid, done, come) before after (then, leaves, left) =
+left-later work (h ∷ histories) given_up p q come before after (then, leaves, left) =
     later-then before then after
-    (leaves-later (dir_of_job work done.goal) work done.goal h before then leaves.left)
-    (left-later work histories mid q come then after left)
+    (leaves-later (dir_of_job work come.done.goal) work come.done.goal h before then leaves.left)
+    (left-later work histories come.rest come.mid q come.then then after left)
 
 -- ---- what an action leaves by its outcome
 
@@ -154,29 +154,31 @@ module _ (laws : SavesAreLawful) (work : WorkData) (opening : Tree)
         (sym left.0.gives ∙ ap (action_outcome work) is)
 
     -- so does a job that is done, by the actions that then have their value
-    job-saved : (p : Progress) (goal : Goal) → IsNext work p goal → (h : JobHistory)
-        (before after : FilesState) → before.shown ≡ Some (saved_by work p.actions opening)
-        → LeavesFiles work goal h before after
+    job-saved : (p : Progress) (goal : Goal) → IsNext work p goal → (tried : Option JobHistory)
+        (h : JobHistory) (before after : FilesState)
+        → before.shown ≡ Some (saved_by work p.actions opening)
+        → LeavesFiles work goal tried h before after
         → after.shown ≡ Some (saved_by work (actions_behind goal p.actions) opening)
-    job-saved p (goals.Action number) next h before after shown left =
+    job-saved p (goals.Action number) next tried h before after shown left =
         action-saved p.actions h before after shown
         (goal_action work (goals.Action p.actions)) refl
-        (subst (λ n. LeavesFiles work (goals.Action n) h before after) next.0 left).left
+        (subst (λ n. LeavesFiles work (goals.Action n) tried h before after) next.0 left).left
         ∙ ap Some (sym (next-leaves work work.script.actions p.actions opening))
         ∙ ap (λ n. Some (saved_by work n opening)) (sym (add-one p.actions))
-    job-saved p (goals.Bounds sort) next h before after shown left =
+    job-saved p (goals.Bounds sort) next tried h before after shown left =
         ap (λ (s : FilesState). s.shown) left.left ∙ shown
 
     -- and jobs one behind the other
-    pub left-saved : (histories : List JobHistory) (p q : Progress)
-        (come : HasCome work p histories q) (before after : FilesState)
-        → HaveLeft work p histories q come before after
+    pub left-saved : (histories given_up : List JobHistory) (p q : Progress)
+        (come : HasCome work p histories given_up q) (before after : FilesState)
+        → HaveLeft work p histories given_up q come before after
         → before.shown ≡ Some (saved_by work p.actions opening)
         → after.shown ≡ Some (saved_by work q.actions opening)
-    left-saved [] p q come before after left shown =
+    left-saved [] given_up p q come before after left shown =
         ap (λ (s : FilesState). s.shown) left ∙ shown
-        ∙ ap (λ (r : Progress). Some (saved_by work r.actions opening)) (sym come)
-    left-saved (h ∷ histories) p q (mid, done, come) before after (then, leaves, left) shown =
-        left-saved histories mid q come then after left
-        (job-saved p done.goal done.is.next h before then shown leaves
+        ∙ ap (λ (r : Progress). Some (saved_by work r.actions opening)) (sym come.0)
+    left-saved (h ∷ histories) given_up p q come before after (then, leaves, left) shown =
+        let done = come.done in
+        left-saved histories come.rest come.mid q come.then then after left
+        (job-saved p done.goal done.is.next come.tried h before then shown leaves
         ∙ ap (λ (r : Progress). Some (saved_by work r.actions opening)) (sym done.behind))

@@ -62,64 +62,67 @@ pub record StopsAtWrite (work : WorkData) (before after : SinkState) : Type 0 wh
 -- show, and the saved directories are kept apart, there is what the saves among these actions leave
 -- by the sequential meaning, and nothing else has changed.
 pub record HasDoneOver (work : WorkData) (before after : FilesState)
-    (histories : List JobHistory) (k : ℕ) : Type 0 where
+    (histories given_up : List JobHistory) (k : ℕ) : Type 0 where
   pub progress : Progress
-  pub come : HasCome work (first_progress work) histories progress
+  pub come : HasCome work (first_progress work) histories given_up progress
   pub at : progress.actions ≡ k
-  pub left : HaveLeft work (first_progress work) histories progress come before after
+  pub left : HaveLeft work (first_progress work) histories given_up progress come before after
   pub later : IsLaterFiles before after
   pub saved : (opening : Tree) → before.shown ≡ Some opening → AreApart work.script opening
       → after.shown ≡ Some (saved_by work k opening)
 
 -- The first k actions are done, and the next one came to no end: how the files stand then, and what
--- they have counted since these actions were done, where so many jobs were given up.
-pub record EndsOver (work : WorkData) (before after : FilesState) (histories : List JobHistory)
-    (given_up k : ℕ) (why : OrMemory JobFault) : Type 0 where
+-- they have counted since these actions were done.
+pub record EndsOver (work : WorkData) (before after : FilesState)
+    (histories given_up : List JobHistory) (k : ℕ) (why : OrMemory JobFault) : Type 0 where
   pub front : List JobHistory
+  pub given_front : List JobHistory
   pub mid : FilesState
-  pub done : HasDoneOver work before mid front k
+  pub done : HasDoneOver work before mid front given_front k
   pub more : List JobHistory
   pub all : histories ≡ front ++ more
+  pub given : List JobHistory
+  pub all_given : given_up ≡ given_front ++ given
   pub over : StopsFiles work k mid after why
-  pub counted : HasCounted more why given_up mid after
+  pub counted : HasCounted more given why mid after
 
 -- ---- how it ends
 
 -- memory ran out: some actions are printed, and the jobs of these are done and perhaps those of one
 -- more, which wasn't printed
 pub record CutsShort (work : WorkData) (before after : SinkState) (files then : FilesState)
-    (histories : List JobHistory) (given_up : ℕ) : Type 0 where
+    (histories given_up : List JobHistory) : Type 0 where
   pub k : ℕ
   pub printed : HasPrinted work before after k
   pub actions : ℕ
   pub printed_all : k ≤ actions
   pub but_one : actions ≤ k + 1
-  pub jobs : IsHalted work actions histories
+  pub jobs : IsHalted work actions histories given_up
   pub over : EndsOver work files then histories given_up actions OutOfMemory
 
 -- What the running of a work's actions answers, by what the sink has then taken, by how the jobs
--- went, how many were given up, and what these left of the files: all actions have their texts; a
+-- went, and those that were given up, and what these left of the files: all actions have texts; a
 -- job for the next one was aborted; its directory was there, or a call on its files failed; its
 -- results have no value together; the sink failed; or memory ran out.
 abbrev pub Prints : WorkData → SinkState → SinkState → FilesState → FilesState
-    → Result (Unit {0}) (OrMemory PrintFault) → List JobHistory → ℕ → Type 0
+    → Result (Unit {0}) (OrMemory PrintFault) → List JobHistory → List JobHistory → Type 0
 Prints work before after files then (Ok done) histories given_up =
     PrintsAll work before after
-    × HasDoneOver work files then histories (length work.script.actions)
+    × HasDoneOver work files then histories given_up (length work.script.actions)
 Prints work before after files then (Err (Fault (Aborted k abort))) histories given_up =
-    HasPrinted work before after k × IsAborted work k histories abort
+    HasPrinted work before after k × IsAborted work k histories given_up abort
     × EndsOver work files then histories given_up k (Fault (faults.Aborted abort))
 Prints work before after files then (Err (Fault (Exists k path))) histories given_up =
-    HasPrinted work before after k × HasDone work histories k
+    HasPrinted work before after k × HasDone work histories given_up k
     × EndsOver work files then histories given_up k (Fault (faults.Exists path))
 Prints work before after files then (Err (Fault (Device k path))) histories given_up =
-    HasPrinted work before after k × IsHalted work k histories
+    HasPrinted work before after k × IsHalted work k histories given_up
     × EndsOver work files then histories given_up k (Fault (faults.Device path))
 Prints work before after files then (Err (Fault (Driver k fault))) histories given_up =
-    StopsAtDriver work before after k fault × HasDoneOver work files then histories (k + 1)
+    StopsAtDriver work before after k fault × HasDoneOver work files then histories given_up (k + 1)
 Prints work before after files then (Err (Fault Write)) histories given_up =
     (stops : StopsAtWrite work before after)
-    × HasDoneOver work files then histories (stops.k + 1)
+    × HasDoneOver work files then histories given_up (stops.k + 1)
 Prints work before after files then (Err OutOfMemory) histories given_up =
     CutsShort work before after files then histories given_up
 
@@ -174,18 +177,22 @@ pub record PrintsNext (work : WorkData) (before after : SinkState) (c next : Con
   pub one_more : next.progress.actions ≡ c.progress.actions + 1
   pub more : List JobHistory
   pub all : next.histories ≡ c.histories ++ more
-  pub come : HasCome work c.progress more next.progress
-  pub left : HaveLeft work c.progress more next.progress come c.files next.files
+  pub given : List JobHistory
+  pub all_given : next.given_up ≡ c.given_up ++ given
+  pub come : HasCome work c.progress more given next.progress
+  pub left : HaveLeft work c.progress more given next.progress come c.files next.files
 
 -- the jobs of the next action are done
-pub record GoesOneFurther (work : WorkData) (c : ContextData) (histories : List JobHistory)
-    (files : FilesState) : Type 0 where
+pub record GoesOneFurther (work : WorkData) (c : ContextData)
+    (histories given_up : List JobHistory) (files : FilesState) : Type 0 where
   pub next : Progress
   pub one_more : next.actions ≡ c.progress.actions + 1
   pub more : List JobHistory
   pub all : histories ≡ c.histories ++ more
-  pub come : HasCome work c.progress more next
-  pub left : HaveLeft work c.progress more next come c.files files
+  pub given : List JobHistory
+  pub all_given : given_up ≡ c.given_up ++ given
+  pub come : HasCome work c.progress more given next
+  pub left : HaveLeft work c.progress more given next come c.files files
 
 -- what is told where a context ran no further
 abbrev pub fault_of : ℕ → OrMemory JobFault → OrMemory PrintFault
@@ -194,10 +201,10 @@ fault_of k (Fault (faults.Exists path)) = Fault (Exists k path)
 fault_of k (Fault (faults.Device path)) = Fault (Device k path)
 fault_of k OutOfMemory = OutOfMemory
 
--- What ends the running at the next action, by how the jobs went, how many were given up, and what
--- they left of the files.
+-- What ends the running at the next action, by how the jobs went, those that were given up too, and
+-- what they left of the files.
 abbrev pub StopsNext : WorkData → SinkState → SinkState → ContextData → FilesState
-    → OrMemory PrintFault → List JobHistory → ℕ → Type 0
+    → OrMemory PrintFault → List JobHistory → List JobHistory → Type 0
 StopsNext work before after c files (Fault (Aborted n abort)) histories given_up =
     (n ≡ c.progress.actions) × (after ≡ before)
     × Stops work c (Fault (faults.Aborted abort)) histories given_up files
@@ -208,14 +215,15 @@ StopsNext work before after c files (Fault (Device n path)) histories given_up =
     (n ≡ c.progress.actions) × (after ≡ before)
     × Stops work c (Fault (faults.Device path)) histories given_up files
 StopsNext work before after c files (Fault (Driver n fault)) histories given_up =
-    (n ≡ c.progress.actions) × (after ≡ before) × GoesOneFurther work c histories files
+    (n ≡ c.progress.actions) × (after ≡ before) × GoesOneFurther work c histories given_up files
     × ((action : ActionData) × (slice_get work.script.actions c.progress.actions ≡ Some action)
     × (action_outcome work action ≡ faulty fault))
 StopsNext work before after c files (Fault Write) histories given_up =
-    GoesOneFurther work c histories files
+    GoesOneFurther work c histories given_up files
     × ((text : List ℕ) × (action : ActionData)
     × (slice_get work.script.actions c.progress.actions ≡ Some action)
     × (action_outcome work action ≡ prints text) × FailsInText text before after)
 StopsNext work before after c files OutOfMemory histories given_up =
     (after ≡ before)
-    × (Stops work c OutOfMemory histories given_up files ⊎ GoesOneFurther work c histories files)
+    × (Stops work c OutOfMemory histories given_up files
+    ⊎ GoesOneFurther work c histories given_up files)

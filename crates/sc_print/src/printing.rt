@@ -4,7 +4,7 @@
 ghost use Rattle.std.specs.Prelude.{◌≡◌, ◌<◌, ◌≤◌, IfErr, IfOk, length};
 ghost use Rattle.sc_base.specs.Outside.{IsLaterFiles};
 ghost use Rattle.sc_context.specs.Contexts.{new_context};
-ghost use Rattle.sc_context.specs.Records.{AreKept};
+ghost use Rattle.sc_context.specs.Records.{AreKept, histories_of};
 ghost use Rattle.sc_print.specs.Printing.{Prints, PrintsNext, StopsNext, fault_of};
 
 use crate::faults::PrintFault;
@@ -61,7 +61,7 @@ pub fn print_work<
     ensures kept { AreKept result.records }
     ensures prints { Prints W.work (K.state sink.old) (K.state sink.new) (F.state files)
         (F.state result.files) result.end result.records.histories.items
-        (length result.records.gave_up.items) }
+        (histories_of result.records.gave_up.items) }
 {
     match new_context::<W, F>(alloc, work, files) {
         Ok(context) => print_actions(rt, alloc, context, sink, gate, clock),
@@ -111,7 +111,7 @@ fn print_actions<
     ensures kept { AreKept result.records }
     ensures prints { Prints W.work (K.state sink.old) (K.state sink.new) first.files
         (F.state result.files) result.end result.records.histories.items
-        (length result.records.gave_up.items) }
+        (histories_of result.records.gave_up.items) }
 {
     meaning_is_lawful();
     let actions = first.work().get().script().actions().len();
@@ -167,7 +167,7 @@ fn print_action<
         (PrintsNext W.work (K.state sink.old) (K.state sink.new) context) }
     ensures stops { IfErr result (λ s. StopsNext W.work (K.state sink.old) (K.state sink.new)
         context (F.state s.files) s.why s.records.histories.items
-        (length s.records.gave_up.items)) }
+        (histories_of s.records.gave_up.items)) }
     ensures kept { IfErr result (λ s. AreKept s.records) }
 {
     let action = context.actions();

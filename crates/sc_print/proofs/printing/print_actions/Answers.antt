@@ -2,6 +2,7 @@ use Rattle.std.proofs.Common.{◌≡◌, ◌∙◌, ◌≤◌, Ok, Err, ap, arit
 use Rattle.std.proofs.lemmas.List.{length-map}
 use Rattle.sc_lineage.specs.ScriptData.{ScriptData, WorkData}
 use Rattle.sc_lineage.specs.Views.{action_data_of}
+use Rattle.sc_context.specs.Records.{histories_of}
 use Rattle.sc_print.proofs.EndLemmas.{all_done, printing-stops}
 use Rattle.sc_print.proofs.OverLemmas.{gone_first, gone_printed, prints-later}
 use Rattle.sc_print.proofs.PrintLemmas.{printed-first, printed-more}
@@ -33,14 +34,14 @@ returns-in-Err-clause-prints g c =
     c.loop-alloc.context c.loop-alloc.invariant.printed c.loop-alloc.invariant.gone
     (g.K.Sink.state c.print_action.new.sink) (g.F.Files.state c.in-Err.stop.files)
     c.in-Err.stop.why c.in-Err.stop.records.histories.items
-    (length c.in-Err.stop.records.gave_up.items) c.in-Err.ensures.stops
+    (histories_of c.in-Err.stop.records.gave_up.items) c.in-Err.ensures.stops
 
 pub returns-in-Err-clause-files_later : goal.returns-in-Err-clause-files_later
 returns-in-Err-clause-files_later g c =
     prints-later g.W.Naming.work (g.K.Sink.state c.args.sink.now)
     (g.K.Sink.state c.print_action.new.sink) c.args.first.files
     (g.F.Files.state c.in-Err.stop.files) (Err c.in-Err.stop.why)
-    c.in-Err.stop.records.histories.items (length c.in-Err.stop.records.gave_up.items)
+    c.in-Err.stop.records.histories.items (histories_of c.in-Err.stop.records.gave_up.items)
     (returns-in-Err-clause-prints g c)
 
 pub returns-clause-prints : goal.returns-clause-prints
@@ -56,9 +57,9 @@ returns-clause-prints g c =
     all_done c.meaning_is_lawful.ensures.saves g.W.Naming.work (g.K.Sink.state c.args.sink.now)
     (g.K.Sink.state c.loop-alloc.sink) c.args.first.files c.loop-alloc.context
     c.loop-alloc.invariant.printed c.loop-alloc.invariant.gone past c.is_sound.ensures.within
-    parts.result.0.histories.items (length parts.result.0.gave_up.items)
+    parts.result.0.histories.items (histories_of parts.result.0.gave_up.items)
     (g.F.Files.state parts.result.1)
-    parts.ensures.histories parts.ensures.files tt
+    parts.ensures.histories parts.ensures.given_up parts.ensures.files tt
 
 pub returns-clause-files_later : goal.returns-clause-files_later
 returns-clause-files_later g c =
@@ -66,4 +67,4 @@ returns-clause-files_later g c =
     (g.K.Sink.state c.loop-alloc.sink) c.args.first.files
     (g.F.Files.state c.into_parts-records.result.1) (Ok tt)
     c.into_parts-records.result.0.histories.items
-    (length c.into_parts-records.result.0.gave_up.items) (returns-clause-prints g c)
+    (histories_of c.into_parts-records.result.0.gave_up.items) (returns-clause-prints g c)

@@ -11,7 +11,7 @@ invariant-loop-alloc g l = record {
   printed : HasPrinted g.W.Naming.work (g.K.Sink.state l.initial.sink) (g.K.Sink.state l.sink)
       l.context.progress.actions;
   gone : HaveGone g.W.Naming.work (first_progress g.W.Naming.work) l.context.histories
-      l.context.progress l.fn.first.files l.context.files;
+      l.context.given_up l.context.progress l.fn.first.files l.context.files;
 }
 
 abbrev pub decreases-loop-alloc : goal.decreases-loop-alloc
