@@ -30,7 +30,7 @@ abbrev RaisesOrSaves : WorkData → ActionData → Type 0
 RaisesOrSaves work action = (action_outcome work action ≡ never) ⊎ (is_saving action ≡ true)
 
 module _ (law : HaveOneReading) (plans : PlansHaveOneReading) (run : RunData)
-    (history : List JobHistory) (given_up : ℕ) (work : WorkData)
+    (history given_up : List JobHistory) (work : WorkData)
     (read : HasReadWork run.words run.reads work) (none_planned : work.plan ≡ []) where
   -- the work that was run is this one
   this_work : (other : WorkData) → HasReadWork run.words run.reads other → other ≡ work
@@ -64,7 +64,7 @@ module _ (law : HaveOneReading) (plans : PlansHaveOneReading) (run : RunData)
       by action there (inr saves) = (action, there, saves)
 
 pub tells_no_failure : HaveOneReading → PlansHaveOneReading → (run : RunData)
-    (history : List JobHistory) (given_up : ℕ) (status : Status) → Ends run history given_up status
+    (history given_up : List JobHistory) (status : Status) → Ends run history given_up status
     → TellsNoFailure run.words run.reads status
 tells_no_failure law plans run history given_up status ends = λ work read none_planned. (
   (λ e. no_loss law plans run history given_up work read none_planned

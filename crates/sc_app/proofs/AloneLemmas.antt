@@ -1,5 +1,5 @@
 -- In each job of a run attempts are authorised alone.
-use Rattle.std.proofs.Common.{◌≡◌, ◌⊎◌, ℕ, inl, inr, List, [], ◌∷◌, All, refl, sym, subst}
+use Rattle.std.proofs.Common.{◌≡◌, ◌⊎◌, ℕ, inl, inr, List, [], ◌∷◌, All, Option, refl, sym, subst}
 use Rattle.std.proofs.lemmas.List.Elements.{All-append, All-cons, All-nil}
 use Rattle.sc_core.specs.declared.journals.JobHistory.{JobHistory}
 use Rattle.sc_history.specs.Committing.{GrantsAreSole, WinnersCommit}
@@ -31,9 +31,9 @@ module _ (sole : GrantsAreSole) (winners : WinnersCommit) where
       (grants-given given)
 
   -- in a job that went so
-  alone-in : (work : WorkData) (p : Progress) (goal : Goal) (h : JobHistory)
-      → IsHistory work p goal h → IsAuthorisedAlone h
-  alone-in work p goal h is =
+  alone-in : (work : WorkData) (p : Progress) (goal : Goal) (tried : Option JobHistory)
+      (h : JobHistory) → IsHistory work p goal tried h → IsAuthorisedAlone h
+  alone-in work p goal tried h is =
       record {
         sole = grants-in h;
         winners = λ partition winner won.
@@ -42,45 +42,51 @@ module _ (sole : GrantsAreSole) (winners : WinnersCommit) where
       }
 
   -- in jobs that were done
-  alone-come : (work : WorkData) (p : Progress) (histories : List JobHistory) (q : Progress)
-      → HasCome work p histories q → All IsAuthorisedAlone histories
-  alone-come work p [] q come = All-nil IsAuthorisedAlone
-  alone-come work p (h ∷ histories) q (mid, done, come) =
-      All-cons IsAuthorisedAlone h histories (alone-in work p done.goal h done.is)
-      (alone-come work mid histories q come)
+  alone-come : (work : WorkData) (p : Progress) (histories given_up : List JobHistory)
+      (q : Progress) → HasCome work p histories given_up q → All IsAuthorisedAlone histories
+  alone-come work p [] given_up q come = All-nil IsAuthorisedAlone
+  alone-come work p (h ∷ histories) given_up q come =
+      All-cons IsAuthorisedAlone h histories
+      (alone-in work p come.done.goal come.tried h come.done.is)
+      (alone-come work come.mid histories come.rest q come.then)
 
   -- and in one more
-  alone-gone : (work : WorkData) (histories : List JobHistory) (p : Progress) (goal : Goal)
-      (h : JobHistory) → HasGone work histories p goal h → All IsAuthorisedAlone histories
-  alone-gone work histories p goal h gone =
+  alone-gone : (work : WorkData) (histories given_up : List JobHistory) (p : Progress)
+      (goal : Goal) (h : JobHistory) → HasGone work histories given_up p goal h
+      → All IsAuthorisedAlone histories
+  alone-gone work histories given_up p goal h gone =
       subst (λ hs. All IsAuthorisedAlone hs) (sym gone.all)
       (All-append IsAuthorisedAlone gone.before (h ∷ [])
-      (alone-come work (first_progress work) gone.before p gone.come)
-      (All-cons IsAuthorisedAlone h [] (alone-in work p goal h gone.is)
+      (alone-come work (first_progress work) gone.before gone.given_before p gone.come)
+      (All-cons IsAuthorisedAlone h [] (alone-in work p goal gone.tried h gone.is)
       (All-nil IsAuthorisedAlone)))
 
-  alone-halted : (work : WorkData) (k : ℕ) (histories : List JobHistory)
-      → IsHalted work k histories → All IsAuthorisedAlone histories
-  alone-halted work k histories (inl (p, at, inl come)) =
-      alone-come work (first_progress work) histories p come
-  alone-halted work k histories (inl (p, at, inr (goal, h, gone, kept))) =
-      alone-gone work histories p goal h gone
-  alone-halted work k histories (inr (is, (abort, aborted))) =
-      alone-gone work histories aborted.progress aborted.goal aborted.history aborted.gone
+  alone-halted : (work : WorkData) (k : ℕ) (histories given_up : List JobHistory)
+      → IsHalted work k histories given_up → All IsAuthorisedAlone histories
+  alone-halted work k histories given_up (inl (p, at, inl come)) =
+      alone-come work (first_progress work) histories given_up p come
+  alone-halted work k histories given_up (inl (p, at, inr (inl given))) =
+      alone-come work (first_progress work) histories given.given_before p given.come
+  alone-halted work k histories given_up (inl (p, at, inr (inr (goal, h, gone, kept)))) =
+      alone-gone work histories given_up p goal h gone
+  alone-halted work k histories given_up (inr (is, (abort, aborted))) =
+      alone-gone work histories given_up aborted.progress aborted.goal aborted.history
+      aborted.gone
 
   -- where no job was begun
   alone-none : (histories : List JobHistory) → histories ≡ [] → All IsAuthorisedAlone histories
   alone-none histories none =
       subst (λ hs. All IsAuthorisedAlone hs) (sym none) (All-nil IsAuthorisedAlone)
 
-  alone-by : (run : RunData) (history : List JobHistory) (given_up : ℕ) (status : Status)
-      → Ends run history given_up status → (status ≡ statuses.Done → RanAllJobs run history)
+  alone-by : (run : RunData) (history given_up : List JobHistory) (status : Status)
+      → Ends run history given_up status
+      → (status ≡ statuses.Done → RanAllJobs run history given_up)
       → All IsAuthorisedAlone history
   alone-by run history given_up statuses.Done ends jobs = done (jobs refl)
     where
-      done : RanAllJobs run history → All IsAuthorisedAlone history
+      done : RanAllJobs run history given_up → All IsAuthorisedAlone history
       done (work, read, over) =
-          alone-come work (first_progress work) history over.progress over.come
+          alone-come work (first_progress work) history given_up over.progress over.come
   alone-by run history given_up statuses.Usage ends jobs = alone-none history ends.nothing_ran.0
   alone-by run history given_up (statuses.Script fault) ends jobs =
       alone-none history ends.nothing_ran.0
@@ -90,26 +96,29 @@ module _ (sole : GrantsAreSole) (winners : WinnersCommit) where
       alone-none history ends.nothing_ran.0
   alone-by run history given_up (statuses.Aborted abort) ends jobs =
       let aborted = ends.aborted in
-      alone-gone ends.work history aborted.progress aborted.goal aborted.history aborted.gone
+      alone-gone ends.work history given_up aborted.progress aborted.goal aborted.history
+      aborted.gone
   alone-by run history given_up (statuses.DriverFault k fault) ends jobs =
-      alone-come ends.work (first_progress ends.work) history ends.jobs.progress ends.jobs.come
+      alone-come ends.work (first_progress ends.work) history given_up ends.jobs.progress
+      ends.jobs.come
   alone-by run history given_up (statuses.OutputExists dir) ends jobs =
-      alone-come ends.work (first_progress ends.work) history ends.jobs.0 ends.jobs.1
+      alone-come ends.work (first_progress ends.work) history given_up ends.jobs.0 ends.jobs.1
   alone-by run history given_up (statuses.Device path) ends jobs =
-      alone-halted ends.work ends.k history ends.jobs
+      alone-halted ends.work ends.k history given_up ends.jobs
   alone-by run history given_up statuses.WriteFault ends jobs =
-      alone-come ends.work (first_progress ends.work) history ends.jobs.progress ends.jobs.come
+      alone-come ends.work (first_progress ends.work) history given_up ends.jobs.progress
+      ends.jobs.come
   alone-by run history given_up statuses.OutOfMemory ends jobs = by ends.stands
     where
       by : (NothingWritten run × NothingRan history given_up) ⊎ StandsBehind run history given_up
           → All IsAuthorisedAlone history
       by (inl nothing) = alone-none history nothing.1.0
       by (inr behind) =
-          alone-halted behind.work behind.stands.actions history behind.stands.jobs
+          alone-halted behind.work behind.stands.actions history given_up behind.stands.jobs
   alone-by run history given_up (statuses.NotText name) ends jobs =
       alone-none history ends.nothing_ran.0
 
   -- however a run ended
-  pub alone : (run : RunData) (history : List JobHistory) (given_up : ℕ) (status : Status)
+  pub alone : (run : RunData) (history given_up : List JobHistory) (status : Status)
       → IsRun run history given_up status → All IsAuthorisedAlone history
   alone run history given_up status is = alone-by run history given_up status is.ends is.jobs

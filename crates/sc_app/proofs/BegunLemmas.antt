@@ -85,8 +85,8 @@ begun word (Some name) executors before mid after first reads bytes script plan 
     }
 
 module _ (words : List (List ℕ)) (command : Command)
-    (is_command : command_of words ≡ Some command) (history : List JobHistory)
-    (given_up : ℕ) (none_ran : NothingRan history given_up) where
+    (is_command : command_of words ≡ Some command) (history given_up : List JobHistory)
+    (none_ran : NothingRan history given_up) where
   abbrev name : List ℕ
   name = command.script
 

@@ -12,7 +12,7 @@ use Rattle.sc_app.specs.Runs.{RunData, HasReadWork, IsNextName}
 use Rattle.sc_app.proofs.ReadingLemmas.{no_bad_text, no_fault, no_next, no_next_plan, no_plan_fault}
 
 module _ (law : HaveOneReading) (plans : PlansHaveOneReading) (run : RunData)
-    (history : List JobHistory) (given_up : ℕ) (work : WorkData)
+    (history given_up : List JobHistory) (work : WorkData)
     (read : HasReadWork run.words run.reads work)
   where
     -- the words are a command

@@ -25,7 +25,7 @@ use Rattle.sc_words.specs.declared.commands.Command.{Command}
 
 -- ---- a fault of the script
 
-module _ (law : HaveOneReading) (run : RunData) (history : List JobHistory) (given_up : ℕ)
+module _ (law : HaveOneReading) (run : RunData) (history given_up : List JobHistory)
     (taken : Taken) (fault : ScriptFault)
     (is : run.reads ≡ reads_of taken) (faulty : FaultsScript taken.script fault) where
   abbrev rest : List Read
@@ -74,15 +74,15 @@ module _ (law : HaveOneReading) (run : RunData) (history : List JobHistory) (giv
   tells_fault_here (statuses.NotText name) ends =
       absurd (none ends.script ends.plan (ends.inputs ++ (name, ends.bytes) ∷ []) ends.read)
 
-pub tells_fault : HaveOneReading → (run : RunData) (history : List JobHistory) (given_up : ℕ)
+pub tells_fault : HaveOneReading → (run : RunData) (history given_up : List JobHistory)
     (status : Status) → Ends run history given_up status → TellsFault run.reads status
 tells_fault law run history given_up status ends = λ taken fault is faulty.
     tells_fault_here law run history given_up taken fault is faulty status ends
 
 -- ---- a fault of the plan
 
-module _ (law : PlansHaveOneReading) (run : RunData) (history : List JobHistory)
-    (given_up : ℕ) (command : Command) (taken : Taken)
+module _ (law : PlansHaveOneReading) (run : RunData) (history given_up : List JobHistory)
+    (command : Command) (taken : Taken)
     (bytes : List ℕ) (fault : PlanFault) (is_command : command_of run.words ≡ Some command)
     (is : run.reads ≡ reads_of taken) (has : taken.plan ≡ Some bytes)
     (faulty : FaultsPlan command.limits.executors bytes fault) where
@@ -138,8 +138,8 @@ module _ (law : PlansHaveOneReading) (run : RunData) (history : List JobHistory)
   tells_plan_here (statuses.NotText name) ends =
       absurd (no_plan ends.script ends.plan (ends.inputs ++ (name, ends.bytes) ∷ []) ends.read)
 
-pub tells_plan_fault : PlansHaveOneReading → (run : RunData) (history : List JobHistory)
-    (given_up : ℕ) (status : Status) → Ends run history given_up status
+pub tells_plan_fault : PlansHaveOneReading → (run : RunData) (history given_up : List JobHistory)
+    (status : Status) → Ends run history given_up status
     → TellsPlanFault run.words run.reads status
 tells_plan_fault law run history given_up status ends =
     λ command taken bytes fault is_command is has faulty.
@@ -167,7 +167,7 @@ text_or_last (x ∷ inputs) last zero input all h e =
 text_or_last (x ∷ inputs) last (suc k) input all h e =
     text_or_last inputs last k input all.1 (omega arith) e
 
-module _ (run : RunData) (history : List JobHistory) (given_up : ℕ) (taken : Taken)
+module _ (run : RunData) (history given_up : List JobHistory) (taken : Taken)
     (name content : List ℕ)
     (is : run.reads ≡ reads_of taken) (has : Contains taken.inputs (name, content))
     (no_text : IsUtf8 content → ⊥) where
@@ -242,7 +242,7 @@ module _ (run : RunData) (history : List JobHistory) (given_up : ℕ) (taken : T
       inl (ap (λ (n : List ℕ). statuses.NotText n)
       (only_last ends.script ends.plan ends.inputs last ends.bytes ends.read ends.is_next.texts))
 
-pub tells_not_text : (run : RunData) (history : List JobHistory) (given_up : ℕ) (status : Status)
+pub tells_not_text : (run : RunData) (history given_up : List JobHistory) (status : Status)
     → Ends run history given_up status → TellsNotText run.reads status
 tells_not_text run history given_up status ends = λ taken name content is has no_text.
     tells_not_text_here run history given_up taken name content is has no_text status ends

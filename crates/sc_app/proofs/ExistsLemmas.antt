@@ -1,5 +1,6 @@
 -- A directory that is there when an action is to save to it is told.
 use Rattle.std.proofs.Common.{◌≡◌, ◌∙◌, ◌⊎◌, ℕ, zero, suc, ◌+◌, ◌<◌, ◌≤◌, inl, inr, true, false, true≢false, List, [], ◌∷◌, length, Option, Some, None, refl, sym, ap, subst, arith}
+use Rattle.std.specs.Option.{option_to_list}
 use Rattle.std.specs.Prelude.{slice_get, unwrap_or}
 use Rattle.std.proofs.lemmas.Option.{slice_get_within}
 use Rattle.sc_base.specs.Lists.{at_or}
@@ -24,6 +25,7 @@ use Rattle.sc_context.specs.Files.{HaveLeft, LeavesFiles, LeavesIn, StopsIn}
 use Rattle.sc_context.specs.Histories.{HasCome}
 use Rattle.sc_context.specs.Progress.{IsNext, Progress, actions_behind, first_progress}
 use Rattle.sc_context.specs.declared.stops.JobFault.TheVariants as faults
+use Rattle.sc_context.proofs.FilesLemmas.{gone_once}
 use Rattle.sc_print.specs.Printing.{EndsOver, HasDoneOver}
 use Rattle.sc_print.proofs.SavedLemmas.{left-saved}
 use Rattle.sc_app.specs.declared.ran.Status.{Status}
@@ -64,57 +66,62 @@ module _ (laws : SavesAreLawful) (names : NamesLieWithin) (work : WorkData) (ope
 
   module _ (k : ℕ) (dir : Path) (saves : SavesAt work k dir) where
     -- a save that is done found no directory there
-    in-job : (p : Progress) (goal : Goal) → IsNext work p goal → (h : JobHistory)
-        (before after : FilesState) → before.shown ≡ Some (behind p.actions)
-        → LeavesFiles work goal h before after → p.actions ≤ k → k < actions_behind goal p.actions
-        → has_dir (behind k) dir ≡ false
-    in-job p (goals.Bounds sort) next h before after shown left least more =
+    in-job : (p : Progress) (goal : Goal) → IsNext work p goal → (tried : Option JobHistory)
+        (h : JobHistory) (before after : FilesState) → before.shown ≡ Some (behind p.actions)
+        → LeavesFiles work goal tried h before after → p.actions ≤ k
+        → k < actions_behind goal p.actions → has_dir (behind k) dir ≡ false
+    in-job p (goals.Bounds sort) next tried h before after shown left least more =
         absurd (omega (arith, least, more))
-    in-job p (goals.Action number) next h before after shown left least more =
+    in-job p (goals.Action number) next tried h before after shown left least more =
         let same : p.actions ≡ k = omega (arith, least, more) in
         let leaves : LeavesIn (Some dir) work (goals.Action k) h before after =
         subst (λ d. LeavesIn d work (goals.Action k) h before after)
         (dir-saved work.script.actions k saves.0 dir saves.1)
-        (subst (λ n. LeavesFiles work (goals.Action n) h before after) (next.0 ∙ same) left).left
+        (subst (λ n. LeavesFiles work (goals.Action n) tried h before after) (next.0 ∙ same)
+        left).left
         in
         (was-so (λ t u. (has_dir t dir ≡ false) × IsUnderWay dir t u) before.shown
         leaves.0.mid.shown (behind k) (shown ∙ ap (λ n. Some (behind n)) same)
         leaves.0.way.way).1.0
 
     -- in jobs one behind the other, up to past it
-    in-jobs : (histories : List JobHistory) (p q : Progress) (come : HasCome work p histories q)
-        (before after : FilesState) → HaveLeft work p histories q come before after
+    in-jobs : (histories given_up : List JobHistory) (p q : Progress)
+        (come : HasCome work p histories given_up q) (before after : FilesState)
+        → HaveLeft work p histories given_up q come before after
         → before.shown ≡ Some (behind p.actions) → p.actions ≤ k → k < q.actions
         → has_dir (behind k) dir ≡ false
-    in-jobs [] p q come before after left shown least more =
-        let same : q.actions ≡ p.actions = ap (λ (r : Progress). r.actions) come in
+    in-jobs [] given_up p q come before after left shown least more =
+        let same : q.actions ≡ p.actions = ap (λ (r : Progress). r.actions) come.0 in
         absurd (omega (arith, same, least, more))
-    in-jobs (h ∷ histories) p q (mid, done, come) before after (then, leaves, left) shown least
-        more =
-        let now : mid.actions ≡ actions_behind done.goal p.actions =
+    in-jobs (h ∷ histories) given_up p q come before after (then, leaves, left) shown least more =
+        let done = come.done in
+        let now : come.mid.actions ≡ actions_behind done.goal p.actions =
         ap (λ (r : Progress). r.actions) done.behind in
-        let saved = left-saved laws work opening apart (h ∷ []) p mid (mid, done, refl) before then
-        (then, leaves, refl) shown in
-        by (in_order k mid.actions)
-        (λ past. in-job p done.goal done.is.next h before then shown leaves least
+        let one = gone_once work p come.mid come.tried h before then done leaves in
+        let saved = left-saved laws work opening apart (h ∷ []) (option_to_list come.tried) p
+        come.mid one.come before then one.left shown in
+        by (in_order k come.mid.actions)
+        (λ past. in-job p done.goal done.is.next come.tried h before then shown leaves least
         (subst (λ n. k < n) now past))
-        (λ still. in-jobs histories mid q come then after left saved still more)
+        (λ still. in-jobs histories come.rest come.mid q come.then then after left saved still
+        more)
       where
-        by : (k < mid.actions) ⊎ ((k ≡ mid.actions) ⊎ (mid.actions < k))
-            → (k < mid.actions → has_dir (behind k) dir ≡ false)
-            → (mid.actions ≤ k → has_dir (behind k) dir ≡ false) → has_dir (behind k) dir ≡ false
+        by : (k < come.mid.actions) ⊎ ((k ≡ come.mid.actions) ⊎ (come.mid.actions < k))
+            → (k < come.mid.actions → has_dir (behind k) dir ≡ false)
+            → (come.mid.actions ≤ k → has_dir (behind k) dir ≡ false)
+            → has_dir (behind k) dir ≡ false
         by (inl past) one others = one past
         by (inr (inl same)) one others = others (omega (arith, same))
         by (inr (inr more)) one others = others (omega (arith, more))
 
     -- so the action isn't done where it is there
-    pub not-done : (before after : FilesState) (history : List JobHistory) (n : ℕ)
-        → before.shown ≡ Some opening → HasDoneOver work before after history n → k < n
+    pub not-done : (before after : FilesState) (history given_up : List JobHistory) (n : ℕ)
+        → before.shown ≡ Some opening → HasDoneOver work before after history given_up n → k < n
         → has_dir (behind k) dir ≡ true → ⊥
-    not-done before after history n shown over past there =
+    not-done before after history given_up n shown over past there =
         true≢false (sym there
-        ∙ in-jobs history (first_progress work) over.progress over.come before after over.left shown
-        (omega arith) (subst (λ m. k < m) (sym over.at) past))
+        ∙ in-jobs history given_up (first_progress work) over.progress over.come before after
+        over.left shown (omega arith) (subst (λ m. k < m) (sym over.at) past))
 
   -- what stood in the way of a save that was refused: its directory itself
   in-its-way : (i : ℕ) (dir path : Path) → SavesAt work i dir → (u : Tree)
@@ -125,7 +132,7 @@ module _ (laws : SavesAreLawful) (names : NamesLieWithin) (work : WorkData) (ope
       laws.apart work i dir opening apart saves staging.1 in
       absurd (true≢false (sym staging.2 ∙ bare.dirs (staging_path dir) (names.staging dir)))
 
-  pub refused : (before after : FilesState) (history : List JobHistory) (given_up i : ℕ)
+  pub refused : (before after : FilesState) (history given_up : List JobHistory) (i : ℕ)
       (path : Path) → before.shown ≡ Some opening
       → EndsOver work before after history given_up i (Fault (faults.Exists path))
       → SavesAt work i path × (has_dir (behind i) path ≡ true)
@@ -145,7 +152,7 @@ module _ (laws : SavesAreLawful) (names : NamesLieWithin) (work : WorkData) (ope
           subst (λ d. SavesAt work i d × (has_dir (behind i) d ≡ true)) (sym way.0) (saves, way.1)
 
 module _ (law : HaveOneReading) (plans : PlansHaveOneReading) (laws : SavesAreLawful)
-    (names : NamesLieWithin) (run : RunData) (history : List JobHistory) (given_up : ℕ)
+    (names : NamesLieWithin) (run : RunData) (history given_up : List JobHistory)
     (work : WorkData) (k : ℕ) (dir : Path) (read : HasReadWork run.words run.reads work)
     (way : IsFirstInTheWay run work k dir) where
   abbrev Told : Status → Type 0
@@ -158,20 +165,20 @@ module _ (law : HaveOneReading) (plans : PlansHaveOneReading) (laws : SavesAreLa
 
   -- the action wasn't done
   undone : (other : WorkData) → HasReadWork run.words run.reads other → (n : ℕ)
-      (after : FilesState) (histories : List JobHistory)
-      → HasDoneOver other run.files_before after histories n → k < n → ⊥
-  undone other was n after histories over past =
+      (after : FilesState) (histories given : List JobHistory)
+      → HasDoneOver other run.files_before after histories given n → k < n → ⊥
+  undone other was n after histories given over past =
       not-done laws names work way.opening way.apart k dir way.saves run.files_before after
-      histories n way.shown
-      (subst (λ (w : WorkData). HasDoneOver w run.files_before after histories n) (this other was)
-      over) past way.there
+      histories given n way.shown
+      (subst (λ (w : WorkData). HasDoneOver w run.files_before after histories given n)
+      (this other was) over) past way.there
 
   known : k < length work.script.actions
   known = slice_get_within work.script.actions k (save_action way.saves.0 dir) way.saves.1
 
-  told-done : RanAllJobs run history → ⊥
+  told-done : RanAllJobs run history given_up → ⊥
   told-done (other, was, over) =
-      undone other was (length other.script.actions) run.files_after history over
+      undone other was (length other.script.actions) run.files_after history given_up over
       (subst (λ (w : WorkData). k < length w.script.actions) (sym (this other was)) known)
 
   -- a directory that stopped the run is this one
@@ -200,11 +207,12 @@ module _ (law : HaveOneReading) (plans : PlansHaveOneReading) (laws : SavesAreLa
           ∙ ap (λ n. dir_of_action (at_or work.script.actions n (collect_action 0))) same
           ∙ dir-saved work.script.actions k way.saves.0 dir way.saves.1 in
           cc
-      by (inr (inr more)) = absurd (undone other was i ends.mid ends.front ends.done more)
+      by (inr (inr more)) =
+          absurd (undone other was i ends.mid ends.front ends.given_front ends.done more)
 
   -- the driver has no fault before it
   told-driver : (other : WorkData) → HasReadWork run.words run.reads other → (i : ℕ)
-      → HasDoneOver other run.files_before run.files_after history (i + 1)
+      → HasDoneOver other run.files_before run.files_after history given_up (i + 1)
       → (a : ActionData) → slice_get other.script.actions i ≡ Some a → (HasText other a → ⊥) → ⊥
   told-driver other was i over a is none = by (in_order i k)
     where
@@ -214,12 +222,12 @@ module _ (law : HaveOneReading) (plans : PlansHaveOneReading) (laws : SavesAreLa
           (has_text work work.script.actions k i a way.texts less
           (subst (λ (w : WorkData). slice_get w.script.actions i ≡ Some a) (this other was) is)))
       by (inr (inl same)) =
-          undone other was (i + 1) run.files_after history over (omega (arith, same))
+          undone other was (i + 1) run.files_after history given_up over (omega (arith, same))
       by (inr (inr more)) =
-          undone other was (i + 1) run.files_after history over (omega (arith, more))
+          undone other was (i + 1) run.files_after history given_up over (omega (arith, more))
 
   told : (status : Status) → Ends run history given_up status
-      → (status ≡ statuses.Done → RanAllJobs run history) → Told status
+      → (status ≡ statuses.Done → RanAllJobs run history given_up) → Told status
   told statuses.Done ends jobs = absurd (told-done (jobs refl))
   told statuses.Usage ends jobs = absurd (not_refused law plans run history given_up work read ends)
   told (statuses.Script f) ends jobs =
@@ -242,7 +250,7 @@ module _ (law : HaveOneReading) (plans : PlansHaveOneReading) (laws : SavesAreLa
       absurd (not_bad law plans run history given_up work read name ends)
 
 pub tells_exists : HaveOneReading → PlansHaveOneReading → SavesAreLawful → NamesLieWithin
-    → (run : RunData) (history : List JobHistory) (given_up : ℕ) (status : Status)
+    → (run : RunData) (history given_up : List JobHistory) (status : Status)
     → IsRun run history given_up status → TellsExists run status
 tells_exists law plans laws names run history given_up status is = λ work k dir read way.
     told law plans laws names run history given_up work k dir read way status is.ends is.jobs

@@ -73,7 +73,7 @@ HasPlace work before after =
     ⊎ ((opening : Tree) × (before.shown ≡ Some opening) × CanSaveAll work.script opening)
 
 module _ (laws : SavesAreLawful) (names : NamesLieWithin) (work : WorkData)
-    (before after : FilesState) (history : List JobHistory) (given_up k : ℕ) where
+    (before after : FilesState) (history given_up : List JobHistory) (k : ℕ) where
   -- where all can be saved, the directory of the next save isn't there, nor anything under it
   next-apart : (opening : Tree) (dir : Path) → CanSaveAll work.script opening
       → dir_of_job work (goals.Action k) ≡ Some dir → IsApart dir (saved_by work k opening)
@@ -111,8 +111,8 @@ module _ (laws : SavesAreLawful) (names : NamesLieWithin) (work : WorkData)
               (in-the-way ends.mid.shown after.shown dir path (saved_by work k room.0)
               (ends.done.saved room.0 room.1 room.2.apart) over.1.2)
 
-module _ (work : WorkData) (before after : FilesState) (history : List JobHistory)
-    (given_up k : ℕ) where
+module _ (work : WorkData) (before after : FilesState) (history given_up : List JobHistory)
+    (k : ℕ) where
   -- a call that wasn't done shows in the faults
   not-done : (mid : FilesState) → IsLaterFiles before mid
       → (Rose before.faults after.faults → ⊥) → HasPlace work before after

@@ -56,7 +56,7 @@ has_place run work was good = by_room good.room
         inr (room.opening, room.shown, room.free taken work.script read.is read.is_script)
 
 module _ (laws : SavesAreLawful) (names : NamesLieWithin) where
-  pub ends_well : (run : RunData) (history : List JobHistory) (given_up : ℕ) (status : Status)
+  pub ends_well : (run : RunData) (history given_up : List JobHistory) (status : Status)
       → Ends run history given_up status → IsGood run → EndsWell status
   ends_well run history given_up statuses.Done ends good = tt
   ends_well run history given_up statuses.Usage ends good = good.command ends.no_command
@@ -92,7 +92,7 @@ module _ (laws : SavesAreLawful) (names : NamesLieWithin) where
       }) ends.read.is))
 
 -- and one that is done has printed the meaning
-pub zero_means_text : (run : RunData) (history : List JobHistory) (given_up : ℕ)
+pub zero_means_text : (run : RunData) (history given_up : List JobHistory)
     (status : Status) → Ends run history given_up status → ZeroMeansText run status
 zero_means_text run history given_up status ends = λ done.
     subst (λ s. Ends run history given_up s) done ends

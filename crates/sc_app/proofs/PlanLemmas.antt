@@ -26,8 +26,8 @@ use Rattle.sc_words.specs.declared.commands.Command.{Command}
 use Rattle.sc_app.proofs.AskedLemmas.{told_cause, usage-none, asks}
 
 module _ (words : List (List ℕ)) (command : Command)
-    (is_command : command_of words ≡ Some command) (history : List JobHistory)
-    (given_up : ℕ) (none_ran : NothingRan history given_up) where
+    (is_command : command_of words ≡ Some command) (history given_up : List JobHistory)
+    (none_ran : NothingRan history given_up) where
   abbrev name : List ℕ
   name = command.script
 

@@ -116,7 +116,7 @@ module _ (words : List (List ℕ)) (command : Command)
           (sym none)
 
       -- the reading of the inputs stops the run
-      pub inputs-stop : (history : List JobHistory) (given_up : ℕ) → NothingRan history given_up
+      pub inputs-stop : (history given_up : List JobHistory) → NothingRan history given_up
           → (after : SourceState) (sink : SinkState) (files : FilesState) (more : List Read)
           (stop : OrMemory InputStop)
           → TakesAsWork script plan command.limits before after reads more (Err stop)
@@ -203,13 +203,13 @@ module _ (words : List (List ℕ)) (command : Command)
         quiet = quiet-more start before after began.quiet inputs.quiet
 
         -- a run that read all, with how its jobs went and with what its end says
-        module _ (histories : List JobHistory) (given_up : ℕ) (sink sink' : SinkState)
+        module _ (histories given_up : List JobHistory) (sink sink' : SinkState)
             (files files' : FilesState) where
           abbrev ran : RunData
           ran = run_of words more (outside_of start sink) (outside_of after sink') files files'
 
           all_read : (status : Status) → name_missed status ≡ [] → (status ≡ statuses.Usage → ⊥)
-              → (status ≡ statuses.Done → RanAllJobs ran histories)
+              → (status ≡ statuses.Done → RanAllJobs ran histories given_up)
               → Ends ran histories given_up status → IsRun ran histories given_up status
           all_read status none other jobs ends =
               record {
@@ -222,7 +222,7 @@ module _ (words : List (List ℕ)) (command : Command)
 
           -- all actions were printed
           pub run-done : PrintsAll work sink sink'
-              → HasDoneOver work files files' histories (length work.script.actions)
+              → HasDoneOver work files files' histories given_up (length work.script.actions)
               → IsRun ran histories given_up statuses.Done
           run-done prints jobs =
               all_read statuses.Done refl (λ e. cc) (λ e. (work, has_work, jobs)) (record {
@@ -298,7 +298,7 @@ module _ (words : List (List ℕ)) (command : Command)
 pub no-command : (words : List (List ℕ)) (source : SourceState) (sink : SinkState)
     (files : FilesState) → (AreTaken words → ⊥) → command_of words ≡ None
     → IsRun (run_of words [] (outside_of source sink) (outside_of source sink) files files) []
-    0 statuses.Usage
+    [] statuses.Usage
 no-command words source sink files refused none =
     record {
       reads = inl refl;
@@ -319,7 +319,7 @@ no-command words source sink files refused none =
 pub no-memory : (words : List (List ℕ)) (source : SourceState) (sink : SinkState)
     (files : FilesState)
     → IsRun (run_of words [] (outside_of source sink) (outside_of source sink) files files) []
-    0 statuses.OutOfMemory
+    [] statuses.OutOfMemory
 no-memory words source sink files =
     record {
       reads = inl refl;
@@ -331,3 +331,20 @@ no-memory words source sink files =
       jobs = λ e. absurd cc;
       usage = ((λ e. absurd cc), (λ r. inr refl));
     }
+
+-- the same where it is known that nothing was read and that no job ran
+pub no-memory-yet : (words : List (List ℕ)) (reads : List Read)
+    (history given_up : List JobHistory) (source : SourceState) (sink : SinkState)
+    (files : FilesState) → reads ≡ [] → NothingRan history given_up
+    → IsRun (run_of words reads (outside_of source sink) (outside_of source sink) files files)
+    history given_up statuses.OutOfMemory
+no-memory-yet words reads history given_up source sink files empty none =
+    subst (λ rs. IsRun
+    (run_of words rs (outside_of source sink) (outside_of source sink) files files) history
+    given_up statuses.OutOfMemory) (sym empty)
+    (subst (λ hs. IsRun
+    (run_of words [] (outside_of source sink) (outside_of source sink) files files) hs given_up
+    statuses.OutOfMemory) (sym none.0)
+    (subst (λ gs. IsRun
+    (run_of words [] (outside_of source sink) (outside_of source sink) files files) [] gs
+    statuses.OutOfMemory) (sym none.1) (no-memory words source sink files)))

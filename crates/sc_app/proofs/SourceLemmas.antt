@@ -1,5 +1,5 @@
 -- What holds of a run over what it read from.
-use Rattle.std.proofs.Common.{◌≡◌, ◌∙◌, ℕ, List, Option, Some, None, subst, ap, rules}
+use Rattle.std.proofs.Common.{◌≡◌, ◌∙◌, ℕ, List, Option, Some, None, refl, subst, ap, rules}
 use Rattle.sc_base.specs.Outside.{Files, IsLaterSource, SourceState}
 use Rattle.sc_gen.specs.Script.{GeneratedData, shown_files}
 use Rattle.sc_app.specs.Sources.{Over, OverMade, RunsOver, files_of_words}
@@ -29,6 +29,16 @@ pub over_out : (words : List (List ℕ)) (P : SourceState → SourceState → Ty
     → ((before after : SourceState) → P before after → R)
     → (s s' : SourceState) → Over words P s s' → R
 over_out words P R gives s s' h = made_out (files_of_words words) P R gives s s' h
+
+-- what holds of any source that isn't read from holds of a run that reads nothing
+made_still : (made : Option GeneratedData) (P : SourceState → SourceState → Type 0)
+    (s : SourceState) → ((source : SourceState) → P source source) → OverMade made P s s
+made_still None P s holds = holds s
+made_still (Some made) P s holds = (refl, (made.misses, holds (shown_files made)))
+
+pub over_still : (words : List (List ℕ)) (P : SourceState → SourceState → Type 0)
+    (s : SourceState) → ((source : SourceState) → P source source) → Over words P s s
+over_still words P s holds = made_still (files_of_words words) P s holds
 
 -- a source that shows the files that are made goes on to show them
 pub runs_over : (made before after : GeneratedData) (P : SourceState → SourceState → Type 0)

@@ -107,7 +107,7 @@ module _ (law : HaveOneReading) (plans : PlansHaveOneReading) (run : RunData) (w
       (number, same, cc)
 
 module _ (law : HaveOneReading) (plans : PlansHaveOneReading) (run : RunData)
-    (history : List JobHistory) (given_up : ℕ) (work : WorkData)
+    (history given_up : List JobHistory) (work : WorkData)
     (k : ℕ) (action : ActionData)
     (read : HasReadWork run.words run.reads work) (first : IsFirstWithout work k action)
     (is : action_outcome work action ≡ never) where
@@ -144,13 +144,13 @@ module _ (law : HaveOneReading) (plans : PlansHaveOneReading) (run : RunData)
       absurd (not_bad law plans run history given_up work read name ends)
 
 pub tells_never : HaveOneReading → PlansHaveOneReading → (run : RunData)
-    (history : List JobHistory) (given_up : ℕ) (status : Status) → Ends run history given_up status
+    (history given_up : List JobHistory) (status : Status) → Ends run history given_up status
     → TellsNever run.words run.reads status
 tells_never law plans run history given_up status ends = λ work k action read first is.
     tells_never_here law plans run history given_up work k action read first is status ends
 
 module _ (law : HaveOneReading) (plans : PlansHaveOneReading) (run : RunData)
-    (history : List JobHistory) (given_up : ℕ) (work : WorkData)
+    (history given_up : List JobHistory) (work : WorkData)
     (k : ℕ) (action : ActionData)
     (fault : DriverFault) (read : HasReadWork run.words run.reads work)
     (first : IsFirstWithout work k action)
@@ -190,7 +190,7 @@ module _ (law : HaveOneReading) (plans : PlansHaveOneReading) (run : RunData)
       absurd (not_bad law plans run history given_up work read name ends)
 
 pub tells_driver_fault : HaveOneReading → PlansHaveOneReading → (run : RunData)
-    (history : List JobHistory) (given_up : ℕ) (status : Status) → Ends run history given_up status
+    (history given_up : List JobHistory) (status : Status) → Ends run history given_up status
     → TellsDriverFault run.words run.reads status
 tells_driver_fault law plans run history given_up status ends = λ work k action fault read first is.
     tells_driver_here law plans run history given_up work k action fault read first is status ends

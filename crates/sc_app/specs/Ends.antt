@@ -35,15 +35,15 @@ abbrev pub NothingWritten : RunData → Type 0
 NothingWritten run = (run.after.sink ≡ run.before.sink) × NothingSaved run
 
 -- no job was begun, and so none was given up
-abbrev pub NothingRan : List JobHistory → ℕ → Type 0
-NothingRan history given_up = (history ≡ []) × (given_up ≡ 0)
+abbrev pub NothingRan : List JobHistory → List JobHistory → Type 0
+NothingRan history given_up = (history ≡ []) × (given_up ≡ [])
 
 -- no count of the source rose
 abbrev pub NothingMissed : RunData → Type 0
 NothingMissed run = IsQuietSource run.before.source run.after.source
 
 -- the words are refused, so they are no command, and nothing was touched
-pub record EndsForUsage (run : RunData) (history : List JobHistory) (given_up : ℕ)
+pub record EndsForUsage (run : RunData) (history given_up : List JobHistory)
     : Type 0 where
   pub refused : AreTaken run.words → ⊥
   pub no_command : command_of run.words ≡ None
@@ -53,7 +53,7 @@ pub record EndsForUsage (run : RunData) (history : List JobHistory) (given_up : 
   pub nothing_saved : NothingSaved run
 
 -- the bytes read as the script have this fault
-pub record EndsForScript (run : RunData) (history : List JobHistory) (given_up : ℕ)
+pub record EndsForScript (run : RunData) (history given_up : List JobHistory)
     (fault : ScriptFault) : Type 0 where
   pub bytes : List ℕ
   pub is : run.reads ≡ script_read bytes ∷ []
@@ -63,7 +63,7 @@ pub record EndsForScript (run : RunData) (history : List JobHistory) (given_up :
   pub nothing_ran : NothingRan history given_up
 
 -- the bytes read as the plan, behind a script without a fault, have this fault
-pub record EndsForPlan (run : RunData) (history : List JobHistory) (given_up : ℕ)
+pub record EndsForPlan (run : RunData) (history given_up : List JobHistory)
     (fault : PlanFault) : Type 0 where
   pub command : Command
   pub bytes : List ℕ
@@ -83,7 +83,7 @@ why_of true = Missing
 why_of false = Failed
 
 -- the next name is missing, or couldn't be read
-pub record EndsForInput (run : RunData) (history : List JobHistory) (given_up : ℕ)
+pub record EndsForInput (run : RunData) (history given_up : List JobHistory)
     (name : List ℕ) (missing : Bool) : Type 0 where
   pub is_next : IsNextName run name
   pub cause : IsUnreadable run.before.source run.after.source name (why_of missing)
@@ -91,7 +91,7 @@ pub record EndsForInput (run : RunData) (history : List JobHistory) (given_up : 
   pub nothing_ran : NothingRan history given_up
 
 -- the input read last isn't text, and those before it are
-pub record EndsForText (run : RunData) (history : List JobHistory) (given_up : ℕ)
+pub record EndsForText (run : RunData) (history given_up : List JobHistory)
     (name : List ℕ) : Type 0 where
   pub script : ScriptData
   pub plan : List PlanLine
@@ -107,64 +107,64 @@ pub record EndsForText (run : RunData) (history : List JobHistory) (given_up : �
 -- All was read, and a job for an action was aborted, the last that was begun, which shows why. The
 -- texts of the actions before it stand, and what they saved; of its own save, where it has one, its
 -- directory stands at most.
-pub record EndsForAbort (run : RunData) (history : List JobHistory) (given_up : ℕ) (abort : Abort)
+pub record EndsForAbort (run : RunData) (history given_up : List JobHistory) (abort : Abort)
     : Type 0 where
   pub work : WorkData
   pub read : HasReadWork run.words run.reads work
   pub quiet : NothingMissed run
   pub k : ℕ
   pub printed : HasPrinted work run.before.sink run.after.sink k
-  pub aborted : IsAborted work k history abort
+  pub aborted : IsAborted work k history given_up abort
   pub over : EndsOver work run.files_before run.files_after history given_up k
       (Fault (job_faults.Aborted abort))
 
 -- all was read, and the results of an action have no value
-pub record EndsForDriver (run : RunData) (history : List JobHistory) (k : ℕ) (fault : DriverFault)
-    : Type 0 where
+pub record EndsForDriver (run : RunData) (history given_up : List JobHistory) (k : ℕ)
+    (fault : DriverFault) : Type 0 where
   pub work : WorkData
   pub read : HasReadWork run.words run.reads work
   pub quiet : NothingMissed run
   pub stops : StopsAtDriver work run.before.sink run.after.sink k fault
-  pub jobs : HasDoneOver work run.files_before run.files_after history (k + 1)
+  pub jobs : HasDoneOver work run.files_before run.files_after history given_up (k + 1)
 
 -- All was read, and this directory is there already, to which an action saves, or which is its
 -- staging area: a count of the files rose, and nothing in it has changed. The texts of the actions
 -- before it stand, and what they saved.
-pub record EndsForExists (run : RunData) (history : List JobHistory) (given_up : ℕ) (dir : Path)
+pub record EndsForExists (run : RunData) (history given_up : List JobHistory) (dir : Path)
     : Type 0 where
   pub work : WorkData
   pub read : HasReadWork run.words run.reads work
   pub quiet : NothingMissed run
   pub k : ℕ
   pub printed : HasPrinted work run.before.sink run.after.sink k
-  pub jobs : HasDone work history k
+  pub jobs : HasDone work history given_up k
   pub over : EndsOver work run.files_before run.files_after history given_up k
       (Fault (job_faults.Exists dir))
 
 -- All was read, and a call on the files of an action that saves failed where these were opened,
 -- committed or aborted: a count of the files rose. The texts of the actions before it stand, and
 -- what they saved.
-pub record EndsForDevice (run : RunData) (history : List JobHistory) (given_up : ℕ) (path : Path)
+pub record EndsForDevice (run : RunData) (history given_up : List JobHistory) (path : Path)
     : Type 0 where
   pub work : WorkData
   pub read : HasReadWork run.words run.reads work
   pub quiet : NothingMissed run
   pub k : ℕ
   pub printed : HasPrinted work run.before.sink run.after.sink k
-  pub jobs : IsHalted work k history
+  pub jobs : IsHalted work k history given_up
   pub over : EndsOver work run.files_before run.files_after history given_up k
       (Fault (job_faults.Device path))
 
 -- all was read, and the sink failed
-pub record EndsForWrite (run : RunData) (history : List JobHistory) : Type 0 where
+pub record EndsForWrite (run : RunData) (history given_up : List JobHistory) : Type 0 where
   pub work : WorkData
   pub read : HasReadWork run.words run.reads work
   pub quiet : NothingMissed run
   pub stops : StopsAtWrite work run.before.sink run.after.sink
-  pub jobs : HasDoneOver work run.files_before run.files_after history (stops.k + 1)
+  pub jobs : HasDoneOver work run.files_before run.files_after history given_up (stops.k + 1)
 
 -- behind the texts of some actions, whose jobs are done, and perhaps jobs of one more
-pub record StandsBehind (run : RunData) (history : List JobHistory) (given_up : ℕ)
+pub record StandsBehind (run : RunData) (history given_up : List JobHistory)
     : Type 0 where
   pub work : WorkData
   pub read : HasReadWork run.words run.reads work
@@ -173,7 +173,7 @@ pub record StandsBehind (run : RunData) (history : List JobHistory) (given_up : 
 
 -- memory ran out before the first job, or behind the texts of some actions; no count of the source
 -- or the sink rose
-pub record EndsForMemory (run : RunData) (history : List JobHistory) (given_up : ℕ)
+pub record EndsForMemory (run : RunData) (history given_up : List JobHistory)
     : Type 0 where
   pub quiet : NothingMissed run
   pub stands : (NothingWritten run × NothingRan history given_up)

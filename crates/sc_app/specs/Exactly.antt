@@ -77,7 +77,8 @@ pub record IsFirstWithout (work : WorkData) (k : ℕ) (action : ActionData) : Ty
 abbrev pub TellsAbort : Status → Type 0
 TellsAbort status = (abort : Abort) × (status ≡ statuses.Aborted abort)
 
--- if the first action without a text is never, a job was aborted
+-- if a partition of the first action without a text raises, a job was aborted, unless memory ran
+-- out or something outside failed
 abbrev pub TellsNever : List (List ℕ) → List Read → Status → Type 0
 TellsNever words reads status = (work : WorkData) (k : ℕ) (action : ActionData)
     → HasReadWork words reads work → IsFirstWithout work k action

@@ -14,23 +14,24 @@ use Rattle.sc_words.specs.Words.{command_of}
 use Rattle.sc_words.specs.declared.commands.Command.{Command}
 
 -- a work was read, and the jobs of all its actions are done, and have left the files so
-abbrev pub RanAllJobs : RunData → List JobHistory → Type 0
-RanAllJobs run history = (work : WorkData) × HasReadWork run.words run.reads work
-    × HasDoneOver work run.files_before run.files_after history (length work.script.actions)
+abbrev pub RanAllJobs : RunData → List JobHistory → List JobHistory → Type 0
+RanAllJobs run history given_up = (work : WorkData) × HasReadWork run.words run.reads work
+    × HasDoneOver work run.files_before run.files_after history given_up
+    (length work.script.actions)
 
--- a run with its status: what it read, what it asked for, how it ended, how its jobs went, and how
--- many were given up
-pub record IsRun (run : RunData) (history : List JobHistory) (given_up : ℕ) (status : Status)
+-- a run with its status: what it read, what it asked for, how it ended, and how its jobs went, and
+-- those that were given up
+pub record IsRun (run : RunData) (history given_up : List JobHistory) (status : Status)
     : Type 0 where
   pub reads : AreReads run
   pub asked : AsksOnce run status
   pub ends : Ends run history given_up status
-  pub jobs : status ≡ statuses.Done → RanAllJobs run history
+  pub jobs : status ≡ statuses.Done → RanAllJobs run history given_up
   pub usage : TellsUsage run.words status
 
 -- a run of this command, whatever the words that asked for it
-abbrev pub IsRunOf : Command → List Read → List JobHistory → ℕ → Outside → Outside → FilesState
-    → FilesState → Status → Type 0
+abbrev pub IsRunOf : Command → List Read → List JobHistory → List JobHistory → Outside → Outside
+    → FilesState → FilesState → Status → Type 0
 IsRunOf command reads history given_up before after files_before files_after status =
     (words : List (List ℕ)) → command_of words ≡ Some command
     → IsRun (run_of words reads before after files_before files_after) history given_up status

@@ -50,12 +50,14 @@ abbrev pub ZeroMeansText : RunData → Status → Type 0
 ZeroMeansText run status = status ≡ statuses.Done → PrintsMeaning run
 
 -- And the history is that of the work that was read: a job for each action, which is done, behind
--- those that found the bounds which it needed, and no other. Each job that saves was committed: the
--- part of each partition was renamed from that of its winner, one for each partition.
-abbrev pub ZeroShowsJobs : RunData → List JobHistory → Status → Type 0
-ZeroShowsJobs run history status = status ≡ statuses.Done
+-- those that found the bounds which it needed, and no other. Those that were given up are runs of
+-- these jobs too, in order. Each job that saves was committed: the part of each partition was
+-- renamed from that of its winner, one for each partition.
+abbrev pub ZeroShowsJobs : RunData → List JobHistory → List JobHistory → Status → Type 0
+ZeroShowsJobs run history given_up status = status ≡ statuses.Done
     → (work : WorkData) → HasReadWork run.words run.reads work
-    → HasDoneOver work run.files_before run.files_after history (length work.script.actions)
+    → HasDoneOver work run.files_before run.files_after history given_up
+    (length work.script.actions)
 
 -- ---- what histories show
 
@@ -76,9 +78,9 @@ pub record IsAuthorisedAlone (h : JobHistory) : Type 0 where
 
 -- ---- what each other status means, and what stands then
 
--- each status has its cause, and this is what stands, where so many jobs were given up; the history
--- shows why a job was aborted
-abbrev pub Ends : RunData → List JobHistory → ℕ → Status → Type 0
+-- each status has its cause, and this is what stands, by how the jobs went, and those that were
+-- given up; the history shows why a job was aborted
+abbrev pub Ends : RunData → List JobHistory → List JobHistory → Status → Type 0
 Ends run history given_up statuses.Done = PrintsMeaning run
 -- 2: the words are no command, and nothing was touched
 Ends run history given_up statuses.Usage = EndsForUsage run history given_up
@@ -93,13 +95,14 @@ Ends run history given_up (statuses.Input name missing) =
 -- and what was saved
 Ends run history given_up (statuses.Aborted abort) = EndsForAbort run history given_up abort
 -- 9: the results of an action have no value together; the texts before it stand, and what was saved
-Ends run history given_up (statuses.DriverFault k fault) = EndsForDriver run history k fault
+Ends run history given_up (statuses.DriverFault k fault) =
+    EndsForDriver run history given_up k fault
 -- 10: a directory is there already that an action was to make; likewise
 Ends run history given_up (statuses.OutputExists dir) = EndsForExists run history given_up dir
 -- 11: a call on the files of an action that saves failed; likewise
 Ends run history given_up (statuses.Device path) = EndsForDevice run history given_up path
 -- 12: the sink failed; the texts before stand, and a prefix of one more, and what was saved
-Ends run history given_up statuses.WriteFault = EndsForWrite run history
+Ends run history given_up statuses.WriteFault = EndsForWrite run history given_up
 -- 13: memory ran out; the texts of some actions stand, and what these saved
 Ends run history given_up statuses.OutOfMemory = EndsForMemory run history given_up
 -- 15: the input that was read last isn't UTF-8; nothing was written

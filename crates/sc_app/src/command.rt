@@ -11,7 +11,7 @@ ghost use Rattle.sc_app.specs.Handed.{IsRun};
 ghost use Rattle.sc_app.specs.Promises.{Ends, GoodRunsEndWell, GrantsOneAlone, IsAuthorisedAlone, ZeroMeansText, ZeroShowsJobs};
 ghost use Rattle.sc_app.specs.Runs.{AreReads, AsksOnce, run_of};
 ghost use Rattle.sc_app.specs.Sources.{Over};
-ghost use Rattle.sc_context.specs.Records.{AreKept, IsGivenUp, IsLogged};
+ghost use Rattle.sc_context.specs.Records.{AreKept, IsGivenUp, IsLogged, histories_of};
 
 use crate::ran::{Ran, Status};
 use crate::workloads::run_command;
@@ -110,7 +110,8 @@ pub fn run<
         ZeroShowsJobs (run_of (map string_bytes words.now) result.read.items
         (outside_of before (K.state sink.old)) (outside_of after (K.state sink.new))
         (F.state files) (F.state result.files))
-        result.history.items result.status) (S.state source.old) (S.state source.new) }
+        result.history.items (histories_of result.gave_up.items) result.status)
+        (S.state source.old) (S.state source.new) }
 
     // However it ends, in each job at most one attempt of a partition at a time is granted that it
     // may commit, and each winner was granted it, then moved its part, then told its success.
@@ -133,7 +134,7 @@ pub fn run<
         Ends (run_of (map string_bytes words.now) result.read.items
         (outside_of before (K.state sink.old)) (outside_of after (K.state sink.new))
         (F.state files) (F.state result.files))
-        result.history.items (length result.gave_up.items) result.status)
+        result.history.items (histories_of result.gave_up.items) result.status)
         (S.state source.old) (S.state source.new) }
 
     // Usage comes only where `clap` refuses the words, and there unless memory runs out.
@@ -236,7 +237,7 @@ fn run_words<
 ) -> (Status, F)
     requires empty { reads.old.items ≡ [] }
     requires none_ran { NothingRan records.old.histories.items
-        (length records.old.gave_up.items) }
+        (histories_of records.old.gave_up.items) }
     requires kept { AreKept records.old }
     ensures later { IsLaterSource (S.state source.old) (S.state source.new) }
     ensures sink_later { (K.state sink.old).faults ≤ (K.state sink.new).faults }
@@ -246,7 +247,7 @@ fn run_words<
         IsRun (run_of (map string_bytes words.now) reads.new.items
         (outside_of before (K.state sink.old)) (outside_of after (K.state sink.new))
         (F.state files) (F.state result.1)) records.new.histories.items
-        (length records.new.gave_up.items) result.0)
+        (histories_of records.new.gave_up.items) result.0)
         (S.state source.old) (S.state source.new) }
 {
     match read_words(alloc, words) {

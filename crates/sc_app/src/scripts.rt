@@ -1,12 +1,12 @@
 //! The run of one script.
 #![tactic(auto)]
 
-ghost use Rattle.std.specs.Prelude.{◌≡◌, ◌≤◌, [], length};
+ghost use Rattle.std.specs.Prelude.{◌≡◌, ◌≤◌, []};
 ghost use Rattle.sc_base.specs.Outside.{IsLaterFiles, IsLaterSource, outside_of};
 ghost use Rattle.sc_ids.specs.LimitRanges.{AreLimits};
 ghost use Rattle.sc_app.specs.Ends.{NothingRan};
 ghost use Rattle.sc_app.specs.Handed.{IsRunOf};
-ghost use Rattle.sc_context.specs.Records.{AreKept};
+ghost use Rattle.sc_context.specs.Records.{AreKept, histories_of};
 
 use crate::ran::Status;
 use crate::stops::{status_of_input, status_of_plan, status_of_print, status_of_script};
@@ -48,7 +48,7 @@ pub(crate) fn run_script<
 ) -> (Status, F)
     requires empty { reads.old.items ≡ [] }
     requires none_ran { NothingRan records.old.histories.items
-        (length records.old.gave_up.items) }
+        (histories_of records.old.gave_up.items) }
     requires kept { AreKept records.old }
     requires limits { AreLimits command.limits }
     ensures later { IsLaterSource (S.state source.old) (S.state source.new) }
@@ -56,7 +56,7 @@ pub(crate) fn run_script<
     ensures files_later { IsLaterFiles (F.state files) (F.state result.1) }
     ensures kept { AreKept records.new }
     ensures run { IsRunOf command reads.new.items records.new.histories.items
-        (length records.new.gave_up.items)
+        (histories_of records.new.gave_up.items)
         (outside_of (S.state source.old) (K.state sink.old))
         (outside_of (S.state source.new) (K.state sink.new)) (F.state files) (F.state result.1)
         result.0 }
@@ -70,7 +70,7 @@ pub(crate) fn run_script<
         Ok(plan) => plan,
         Err(stop) => return (status_of_plan(stop), files),
     };
-    let work = match read_work(alloc, source, script, plan, limits, reads) {
+    let work = match read_work(rt, alloc, source, script, plan, limits, reads) {
         Ok(work) => work,
         Err(stop) => return (status_of_input(stop), files),
     };

@@ -7,7 +7,7 @@ ghost use Rattle.sc_ids.specs.LimitRanges.{AreLimits};
 ghost use Rattle.sc_app.specs.Ends.{NothingRan};
 ghost use Rattle.sc_app.specs.Handed.{IsRunOf};
 ghost use Rattle.sc_app.specs.Sources.{OverMade, RunsOver, files_for, files_made};
-ghost use Rattle.sc_context.specs.Records.{AreKept};
+ghost use Rattle.sc_context.specs.Records.{AreKept, histories_of};
 
 use crate::ran::Status;
 use crate::scripts::run_script;
@@ -47,7 +47,7 @@ pub(crate) fn run_command<
 ) -> (Status, F)
     requires empty { reads.old.items ≡ [] }
     requires none_ran { NothingRan records.old.histories.items
-        (length records.old.gave_up.items) }
+        (histories_of records.old.gave_up.items) }
     requires kept { AreKept records.old }
     requires limits { AreLimits command.limits }
     ensures later { IsLaterSource (S.state source.old) (S.state source.new) }
@@ -56,7 +56,7 @@ pub(crate) fn run_command<
     ensures kept { AreKept records.new }
     ensures run { OverMade (files_made command) (λ before after.
         IsRunOf command reads.new.items records.new.histories.items
-        (length records.new.gave_up.items)
+        (histories_of records.new.gave_up.items)
         (outside_of before (K.state sink.old)) (outside_of after (K.state sink.new))
         (F.state files) (F.state result.1) result.0) (S.state source.old) (S.state source.new) }
 {
@@ -91,7 +91,7 @@ fn run_workload<
 ) -> (Status, F)
     requires empty { reads.old.items ≡ [] }
     requires none_ran { NothingRan records.old.histories.items
-        (length records.old.gave_up.items) }
+        (histories_of records.old.gave_up.items) }
     requires kept { AreKept records.old }
     requires limits { AreLimits command.limits }
     ensures sink_later { (K.state sink.old).faults ≤ (K.state sink.new).faults }
@@ -99,7 +99,7 @@ fn run_workload<
     ensures kept { AreKept records.new }
     ensures run { RunsOver (files_for command.script workload) (λ before after.
         IsRunOf command reads.new.items records.new.histories.items
-        (length records.new.gave_up.items)
+        (histories_of records.new.gave_up.items)
         (outside_of before (K.state sink.old)) (outside_of after (K.state sink.new))
         (F.state files) (F.state result.1) result.0) }
 {

@@ -1,5 +1,6 @@
-use Rattle.std.proofs.Common.{List, Result, Err, Ok, length, subst}
+use Rattle.std.proofs.Common.{List, Result, Err, Ok, subst}
 use Rattle.sc_base.specs.declared.refusals.OrMemory.{OrMemory}
+use Rattle.sc_context.specs.Records.{histories_of}
 use Rattle.sc_print.specs.declared.faults.PrintFault.{PrintFault}
 use Rattle.sc_print.specs.Printing.{Prints}
 use Rattle.sc_read.specs.declared.reads.Read.{Read}
@@ -16,8 +17,8 @@ returns-in-Err-clause-run g c =
     let taken = subst (λ (rs : List Read). TakesAsScript before after c.args.command.script rs
     c.read_script.new.reads.items (Err c.in-Err.stop)) c.requires.empty c.in-Err.ensures.script in
     rw c.status_of_script.ensures (λ words is. script-stops words c.args.command is
-    c.args.records.now.histories.items (length c.args.records.now.gave_up.items) c.requires.none_ran
-    before after (g.K.Sink.state c.args.sink.now) (g.F.Files.state c.args.files)
+    c.args.records.now.histories.items (histories_of c.args.records.now.gave_up.items)
+    c.requires.none_ran before after (g.K.Sink.state c.args.sink.now) (g.F.Files.state c.args.files)
     c.read_script.new.reads.items c.in-Err.stop taken)
 
 pub returns-in-Err-read_plan-clause-run : goal.returns-in-Err-read_plan-clause-run
@@ -28,9 +29,10 @@ returns-in-Err-read_plan-clause-run g c =
     let taken = subst (λ (rs : List Read). TakesAsScript start mid c.args.command.script rs
     c.read_script.new.reads.items (Ok c.in-Ok.script)) c.requires.empty c.in-Ok.ensures.script in
     rw c.status_of_plan.ensures (λ words is. plan-stops words c.args.command is
-    c.args.records.now.histories.items (length c.args.records.now.gave_up.items) c.requires.none_ran
-    start mid c.in-Ok.ensures.later c.read_script.new.reads.items taken.0 taken.1 c.in-Ok.script
-    taken.2 after (g.K.Sink.state c.args.sink.now) (g.F.Files.state c.args.files)
+    c.args.records.now.histories.items (histories_of c.args.records.now.gave_up.items)
+    c.requires.none_ran start mid c.in-Ok.ensures.later c.read_script.new.reads.items taken.0
+    taken.1 c.in-Ok.script taken.2 after (g.K.Sink.state c.args.sink.now)
+    (g.F.Files.state c.args.files)
     c.read_plan.new.reads.items c.in-Err-read_plan.stop c.in-Err-read_plan.ensures.plan)
 
 pub returns-in-Err-read_work-clause-run : goal.returns-in-Err-read_work-clause-run
@@ -47,8 +49,8 @@ returns-in-Err-read_work-clause-run g c =
     let after = g.S.Source.state c.read_work.new.source in
     rw c.status_of_input.ensures (λ words is. inputs-stop words c.args.command is start before
     c.read_plan.new.reads.items c.in-Ok.script c.in-Ok-read_plan.plan began
-    c.args.records.now.histories.items (length c.args.records.now.gave_up.items) c.requires.none_ran
-    after (g.K.Sink.state c.args.sink.now) (g.F.Files.state c.args.files)
+    c.args.records.now.histories.items (histories_of c.args.records.now.gave_up.items)
+    c.requires.none_ran after (g.K.Sink.state c.args.sink.now) (g.F.Files.state c.args.files)
     c.read_work.new.reads.items c.in-Err-read_work.stop
     c.in-Err-read_work.ensures.work)
 
@@ -70,7 +72,7 @@ returns-in-Ok-end-clause-run g c =
     let files' = g.F.Files.state c.print_work-end.result.files in
     let work = c.in-Ok-read_work.work in
     let histories = c.print_work-end.result.records.histories.items in
-    let given_up = length c.print_work-end.result.records.gave_up.items in
+    let given_up = histories_of c.print_work-end.result.records.gave_up.items in
     let prints = subst (λ (r : Result (Unit {0}) (OrMemory PrintFault)). Prints work sink sink'
     files files' r histories given_up) c.in-Ok-end.is c.print_work-end.ensures.prints in
     λ words is. run-done words c.args.command is start before c.read_plan.new.reads.items
@@ -97,7 +99,7 @@ returns-clause-run g c =
     let files' = g.F.Files.state c.print_work-end.result.files in
     let work = c.in-Ok-read_work.work in
     let histories = c.print_work-end.result.records.histories.items in
-    let given_up = length c.print_work-end.result.records.gave_up.items in
+    let given_up = histories_of c.print_work-end.result.records.gave_up.items in
     let prints = subst (λ (r : Result (Unit {0}) (OrMemory PrintFault)). Prints work sink sink'
     files files' r histories given_up) c.in-Err-end.is c.print_work-end.ensures.prints in
     rw c.status_of_print.ensures (λ words is. printing-stops words c.args.command is start before
