@@ -11,14 +11,19 @@ use crate::stops::InputStop;
 use sc_base::OrMemory;
 use sc_input::Source;
 use sc_lineage::Input;
+use sc_lines::lines_by;
 use sc_value::{Name, Octets};
 use std::alloc::Global;
+use std::thread::Threads;
 
-/// Reads the input of a name, and keeps what was read.
-pub(crate) fn read_input<S: Source>(
+/// Reads the input of a name, and keeps what was read. Its lines are found by at most so many
+/// threads.
+pub(crate) fn read_input<S: Source, R: Threads + Sync>(
+    rt: &R,
     alloc: Global,
     source: &mut S,
     name: &Name,
+    threads: u32,
     reads: &mut Vec<Read>,
 ) -> Result<Input, OrMemory<InputStop>>
     ensures later { IsLaterSource (S.state source.old) (S.state source.new) }
@@ -31,7 +36,7 @@ pub(crate) fn read_input<S: Source>(
     reads.reserve(1)?;
     match read_file(source, name) {
         Ok(bytes) => {
-            let input = as_input(alloc, own, named, &bytes);
+            let input = as_input(rt, alloc, own, named, &bytes, threads);
             reads.push(Read { role, bytes }).unwrap();
             input
         }
@@ -46,17 +51,19 @@ pub(crate) fn read_input<S: Source>(
 }
 
 /// The input of a name with these bytes, or that they aren't text.
-fn as_input(
+fn as_input<R: Threads + Sync>(
+    rt: &R,
     alloc: Global,
     own: Name,
     named: Name,
     bytes: &Octets,
+    threads: u32,
 ) -> Result<Input, OrMemory<InputStop>>
     requires { named ≡ own }
     ensures { IsInputOf own bytes.now result }
 {
-    match Input::new(alloc, own, bytes.share()?) {
-        Ok(input) => Ok(input),
+    match lines_by(rt, alloc, bytes, threads) {
+        Ok(lines) => Ok(Input::new(own, bytes.share()?, lines)),
         Err(error) => match error {
             OrMemory::Fault(_) => Err(OrMemory::Fault(InputStop::NotText { name: named })),
             OrMemory::OutOfMemory => Err(OrMemory::OutOfMemory),

@@ -6,7 +6,7 @@ use sc_script::ScriptFault;
 use sc_value::Name;
 
 /// Why a name gave no bytes.
-#[derive(Clone, Copy, Debug, PartialEq, Eq)]
+#[derive(Clone, Copy)]
 pub enum Unreadable {
     /// There is no file of this name.
     Missing,
@@ -15,7 +15,7 @@ pub enum Unreadable {
 }
 
 /// Why there is no script.
-#[derive(Clone, Copy, Debug, PartialEq, Eq)]
+#[derive(Clone, Copy)]
 pub enum ScriptStop {
     /// Its file gave no bytes.
     Unreadable(Unreadable),

@@ -16,15 +16,18 @@ use sc_input::Source;
 use sc_lineage::{Script, Work};
 use sc_plan::Plan;
 use std::alloc::Global;
+use std::thread::Threads;
 
 /// A script with its inputs, each of which is asked for once, in the order in which the script
 /// names them first, under this plan and these limits. What was read is kept behind what was kept
-/// before.
+/// before. The lines of an input are found by as many threads as there are executors, where it is
+/// long.
 ///
 /// # Errors
 ///
 /// The first input that gave no bytes or isn't text, or want of memory.
-pub fn read_work<S: Source>(
+pub fn read_work<S: Source, R: Threads + Sync>(
+    rt: &R,
     alloc: Global,
     source: &mut S,
     script: Script,
@@ -41,7 +44,7 @@ pub fn read_work<S: Source>(
     let names = names_of(alloc, &script)?;
     let mut inputs = Vec::new(alloc);
     for name in &names {
-        inputs.push(read_input(alloc, source, name, reads)?)?;
+        inputs.push(read_input(rt, alloc, source, name, limits.executors, reads)?)?;
     }
     Ok(Work::new(script, inputs, plan, limits))
 }
