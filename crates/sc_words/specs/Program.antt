@@ -61,13 +61,20 @@ gen_app = record {
   subs = [];
 }
 
--- the program's command: a subcommand has to be there, and the words come without its name
-abbrev pub program : App
-program = record {
+-- the program's command without its subcommands: one has to be there, and the words come without
+-- the program's name
+abbrev pub bare_program : App
+bare_program = record {
   top = record (new_app (codes "spark_run")).top {
-    is_leaf = false;
     no_binary_name = true;
     subcommand_required = true;
   };
+  subs = [];
+}
+
+-- the program's command
+abbrev pub program : App
+program = record {
+  top = record bare_program.top { is_leaf = false };
   subs = run_app.top ∷ gen_app.top ∷ [];
 }

@@ -5,7 +5,7 @@ use sc_ids::Limits;
 use sc_value::Name;
 
 /// A workload that is to be generated: `gen --seed S --size N`.
-#[derive(Clone, Copy, Debug, PartialEq, Eq)]
+#[derive(Clone, Copy)]
 pub struct Workload {
     /// The seed, from 0 to 2,147,483,647.
     pub seed: u32,
@@ -28,5 +28,5 @@ pub struct Command {
 }
 
 /// The words are no command.
-#[derive(Clone, Copy, Debug, PartialEq, Eq)]
+#[derive(Clone, Copy)]
 pub struct Usage;
