@@ -1,3 +1,4 @@
+pub mod CrewLemmas
 pub mod JobLemmas
 pub mod RoomLemmas
 pub mod WorldLemmas

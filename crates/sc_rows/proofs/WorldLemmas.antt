@@ -1,12 +1,15 @@
 -- The worlds that tests begin are worlds of a job that begins.
-use Rattle.std.proofs.Common.{◌≡◌, List, None, Option, Some, subst, sym}
+use Rattle.std.proofs.Common.{◌≡◌, List, None, Option, Some, refl, subst, sym}
 use Rattle.std.specs.Prelude.{IfSome}
 use Rattle.sc_base.specs.Outside.{Changes, FilesState}
 use Rattle.sc_base.specs.Trees.{Path, Tree}
 use Rattle.sc_lineage.specs.ScriptData.{WorkData}
 use Rattle.sc_jobs.specs.declared.goals.Goal.TheVariants as goals
-use Rattle.sc_desk.specs.DeskData.{DeskData, core_of}
+use Rattle.sc_desk.specs.Begins.{Begins, BeginsAgain}
+use Rattle.sc_desk.specs.DeskData.{DeskData, PassedData, core_of, passed_data}
 use Rattle.sc_desk.specs.Files.{FilesGoOn, FilesStand, dir_of_job}
+use Rattle.sc_desk.specs.declared.orders.Ordered.{Ordered}
+use Rattle.sc_desk.proofs.AgainLemmas.{again_is_begun}
 use Rattle.sc_staging.specs.Opening.{IsOpened}
 use Rattle.sc_store.specs.StoreData.{StoreData}
 use Rattle.sc_world.specs.Runs.{AreReady, idle_world}
@@ -14,7 +17,7 @@ use Rattle.sc_world.specs.WorldData.{WorldData}
 use Rattle.sc_context.specs.Starts.{new_stores}
 use Rattle.sc_context.proofs.ReadyLemmas.{ready_opening}
 use Rattle.sc_context.proofs.StartLemmas.{fresh_ready}
-use Rattle.sc_rows.specs.Worlds.{IsFirstDesk, IsNewlyOpened}
+use Rattle.sc_rows.specs.Worlds.{IsFirstDesk, IsNewlyOpened, IsOfFirst}
 
 pub first_ready : (work : WorkData) (desk : DeskData) → IsFirstDesk work desk
     → AreReady work (new_stores work) (core_of desk).dag.tracker (core_of desk).told
@@ -47,3 +50,32 @@ newly_opened dir own before after is opened =
     made a None opened = tt
     made None (Some t) opened = absurd opened
     made (Some u) (Some t) opened = (u, opened.made)
+
+-- where the first job of a run begins again, behind whichever orders, it is a first job too
+pub again_first : (work : WorkData) (d after : DeskData) (orders : List Ordered)
+    → IsOfFirst work d → BeginsAgain work d None orders after → IsFirstDesk work after
+again_first work d after orders is again = (
+  behind,
+  again_is_begun work behind None None (goals.Action 0) first d after orders begins is.job
+      is.carried refl again,
+)
+  where
+    behind : PassedData
+    behind = passed_data is.begins.0.carried orders
+
+    first : DeskData
+    first = record (is.first) { ordered = orders }
+
+    begins : Begins work behind None (goals.Action 0) first
+    begins =
+        record {
+          goal_is = is.begins.1.goal_is;
+          cut = is.begins.1.cut;
+          carried_on = is.begins.1.carried_on;
+          ordered = refl;
+          opening = is.begins.1.opening;
+          entries = is.begins.1.entries;
+          core = is.begins.1.core;
+          results = is.begins.1.results;
+          shelf = is.begins.1.shelf;
+        }

@@ -15,3 +15,10 @@ IsFirstDesk work desk =
 -- both directories of a save were just made
 abbrev pub IsNewlyOpened : Path → Tree → Type 0
 IsNewlyOpened dir t = (u : Tree) × (t ≡ opened_tree dir u)
+
+-- a desk is that of the first job later on
+pub record IsOfFirst (work : WorkData) (d : DeskData) : Type 0 where
+  pub first : DeskData
+  pub begins : IsFirstDesk work first
+  pub job : d.job ≡ first.job
+  pub carried : d.carried ≡ first.carried

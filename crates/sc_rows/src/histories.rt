@@ -29,7 +29,7 @@ use std::{str, time};
 
 /// A count of words in two partitions: stage 0 makes two map outputs, and stage 1 reads them for
 /// two results.
-const WORD_COUNT: &str = r#"
+pub const WORD_COUNT: &str = r#"
 l = text "in.txt" 2
 w = flatMap l (words x)
 p = map w (pair x 1)

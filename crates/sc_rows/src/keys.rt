@@ -7,6 +7,7 @@ use sc_hash::{bucket, hash_of};
 use sc_keys::Keys;
 use sc_value::{Key, Text};
 use std::process::Abort;
+use std::thread::Threads;
 
 /// In each line a key's kind, its `hashCode` in Java, the remainder of that by 7 as `Math.floorMod`
 /// has it, and the key: a text, or a number as a `Long`.
@@ -100,7 +101,7 @@ const RANGES: &str = r#"
 "#;
 
 /// The ranges of literals, as they are written.
-fn ranges_of<R: Abort + AllocGlobal>(rt: &R, literals: &str, n: u32) -> String {
+fn ranges_of<R: Abort + AllocGlobal + Threads + Sync>(rt: &R, literals: &str, n: u32) -> String {
     let script = format!(in rt.alloc(); "l = parallelize 1 {literals}\n").expect(rt, "memory");
     let stream = last_stream(rt, script.as_str(), "");
     let keys = Keys::of(rt.alloc(), &stream.rows).expect(rt, "memory");

@@ -10,6 +10,7 @@ use sc_columns::Rows;
 use sc_keys::Keys;
 use std::alloc::{AllocError, Global};
 use std::process::Abort;
+use std::thread::Threads;
 
 /// How rows are held, in words: a pair as its two columns, lists by their items, and runs of rows
 /// with a `+` between them.
@@ -82,7 +83,7 @@ fn assert_made<R: Abort + AllocGlobal>(rt: &R, rows: &Rows, line: &str) {
 
 /// Sees that the last node of a script is held so. The script is a line with literals, which are
 /// `n0`, and definitions, each of which reads the one before, a `|` between them.
-fn assert_held<R: Abort + AllocGlobal>(rt: &R, line: &str) {
+fn assert_held<R: Abort + AllocGlobal + Threads + Sync>(rt: &R, line: &str) {
     let (operations, want) = line.rsplit_once(" | ").unwrap_or((line, "no layout"));
     let lines = operations
         .replace(rt.alloc(), " | ", "\n")

@@ -16,6 +16,7 @@ use sc_lineage::Work;
 use sc_work::{Naming, SharedWork};
 use std::marker::Brand;
 use std::process::Abort;
+use std::thread::Threads;
 
 const LEAVES: &str = r#"==== who left leaves no more, and the first that did stops all others
 --executors=3
@@ -88,7 +89,7 @@ fn answers_of<W: Naming, R: Abort + AllocGlobal>(rt: &R, work: Work, lines: Stri
 }
 
 /// Sees that a case holds.
-fn assert_leaves<R: Abort + AllocGlobal>(rt: &R, case: &str) {
+fn assert_leaves<R: Abort + AllocGlobal + Threads + Sync>(rt: &R, case: &str) {
     let (label, rest) = halves(case, "\n");
     let (word, want) = halves(rest, "\n----\n");
     let work = work_of(rt, WORD_COUNT, "", word, INPUT);

@@ -18,6 +18,8 @@
 #![tactic(auto)]
 
 #[cfg(test)]
+mod alone;
+#[cfg(test)]
 mod calls;
 #[cfg(test)]
 mod claims;
@@ -29,6 +31,8 @@ mod committing;
 mod copies;
 #[cfg(test)]
 mod crews;
+#[cfg(test)]
+mod executors;
 #[cfg(test)]
 mod failures;
 #[cfg(test)]

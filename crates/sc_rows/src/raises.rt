@@ -9,6 +9,7 @@ use crate::works::halves;
 use std::alloc::{AllocError, Global};
 use std::process::Abort;
 use std::str;
+use std::thread::Threads;
 
 /// Literals, an expression over each of them as `x`, and the rows that a map with it gives up to a
 /// raise, of this kind.
@@ -228,7 +229,7 @@ p = coalesce o 1
 "#;
 
 /// Sees that each row of a table of literals and one of scripts holds.
-fn assert_raises<R: Abort + AllocGlobal>(rt: &R, rows: &str, chains: &str) {
+fn assert_raises<R: Abort + AllocGlobal + Threads + Sync>(rt: &R, rows: &str, chains: &str) {
     for line in rows.lines() {
         if !line.is_empty() {
             assert_row(rt, line);
@@ -243,7 +244,7 @@ fn assert_raises<R: Abort + AllocGlobal>(rt: &R, rows: &str, chains: &str) {
 }
 
 /// Sees that a map of literals gives the rows of a line, and then raises.
-fn assert_row<R: Abort + AllocGlobal>(rt: &R, line: &str) {
+fn assert_row<R: Abort + AllocGlobal + Threads + Sync>(rt: &R, line: &str) {
     let (literals, rest) = halves(line, " | ");
     let (expr, want) = halves(rest, " | ");
     let script = format!(in rt.alloc(); "l = parallelize 1 {literals}\nm = map l {expr}\n");
@@ -255,7 +256,7 @@ fn assert_row<R: Abort + AllocGlobal>(rt: &R, line: &str) {
 
 /// Sees that the last node of a script, of which each reads the one before, gives these rows and
 /// then this raise.
-fn assert_stream<R: Abort + AllocGlobal>(rt: &R, script: &str, want: &str) {
+fn assert_stream<R: Abort + AllocGlobal + Threads + Sync>(rt: &R, script: &str, want: &str) {
     let (rows, raise) = halves(want, "! ");
     let stream = last_stream(rt, script, "");
     let mut out = Vec::new(rt.alloc());
@@ -328,7 +329,7 @@ fn ones_but(
 
 /// Sees that over lines of 1, so many before an odd one and so many behind it, these nodes stop
 /// before the odd one, by this raise.
-fn assert_stops<R: Abort + AllocGlobal>(
+fn assert_stops<R: Abort + AllocGlobal + Threads + Sync>(
     rt: &R,
     nodes: &str,
     odd: &str,
@@ -344,7 +345,12 @@ fn assert_stops<R: Abort + AllocGlobal>(
 }
 
 /// Sees that these nodes stop before the odd line, whatever its place.
-fn assert_stops_anywhere<R: Abort + AllocGlobal>(rt: &R, nodes: &str, odd: &str, kind: &str) {
+fn assert_stops_anywhere<R: Abort + AllocGlobal + Threads + Sync>(
+    rt: &R,
+    nodes: &str,
+    odd: &str,
+    kind: &str,
+) {
     for place in &PLACES {
         assert_stops(rt, nodes, odd, kind, *place);
     }

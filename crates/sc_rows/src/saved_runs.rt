@@ -228,7 +228,8 @@ const PLANS: [&str; 7] = [
     "fail 0 0 0\nfail 0 1 0\n",
     "late 0 0 0 1\n",
     "twice 0 0 0\ntwice 0 1 0\n",
-    // The holder's report is late, and an executor, which may be its own, is told lost before it.
+    // The holder's report is late, and an executor is told lost before it, which may be the
+    // holder's own; in `alone` it is.
     "late 0 0 0 9\nlose 0 1 1\n",
     "fail 0 0 0\ntwice 0 0 1\nlate 0 1 0 3\nlose 0 1 2\n",
     "lose 1 0 0\n",

@@ -6,9 +6,14 @@ use sc_expr::Raise;
 use sc_lineage::Stream;
 use sc_ops::run_node;
 use std::process::Abort;
+use std::thread::Threads;
 
 /// The first partition of the last node of a script, of which each node reads the one before.
-pub fn last_stream<R: Abort + AllocGlobal>(rt: &R, script: &str, input: &str) -> Stream {
+pub fn last_stream<R: Abort + AllocGlobal + Threads + Sync>(
+    rt: &R,
+    script: &str,
+    input: &str,
+) -> Stream {
     let work = work_of(rt, script, "", "", input);
     let mut inputs = Vec::new(rt.alloc());
     for (i, _) in work.script().nodes().iter().enumerate() {

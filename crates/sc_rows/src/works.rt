@@ -7,6 +7,7 @@ use sc_read::{read_plan, read_script, read_work};
 use sc_value::{Name, Octets};
 use sc_words::read_words;
 use std::process::Abort;
+use std::thread::Threads;
 
 /// The text of `in.txt` where a table has none.
 pub const INPUT: &str = "b a\nb\n";
@@ -53,7 +54,7 @@ pub fn words_of<R: Abort + AllocGlobal>(rt: &R, more: &str) -> Vec<String> {
 }
 
 /// The work of a script over this text of `in.txt`, under a plan and with more words.
-pub fn work_of<R: Abort + AllocGlobal>(
+pub fn work_of<R: Abort + AllocGlobal + Threads + Sync>(
     rt: &R,
     script: &str,
     plan: &str,
@@ -79,6 +80,6 @@ pub fn work_of<R: Abort + AllocGlobal>(
     ) else {
         panic!(rt; "no plan")
     };
-    let work = read_work(alloc, &mut source, script, plan, limits, &mut reads);
+    let work = read_work(rt, alloc, &mut source, script, plan, limits, &mut reads);
     work.ok().expect(rt, "inputs")
 }

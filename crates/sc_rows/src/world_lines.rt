@@ -33,6 +33,7 @@ use sc_work::{Naming, SharedWork};
 use sc_world::{Applied, Kept, Step, World};
 use std::marker::{Brand, Model};
 use std::process::Abort;
+use std::thread::Threads;
 
 /// A count of words in two partitions: stage 0 makes two map outputs, and stage 1 reads them for
 /// two results.
@@ -160,7 +161,7 @@ fn node_of(action: &Action) -> NodeId
 }
 
 /// An empty store for each executor, in the order of their numbers.
-fn new_stores<W: Naming, R: Abort + AllocGlobal>(rt: &R, work: &SharedWork<W>) -> Vec<Store<W>>
+pub fn new_stores<W: Naming, R: Abort + AllocGlobal>(rt: &R, work: &SharedWork<W>) -> Vec<Store<W>>
     ensures { result.items ≡ new_stores W.work }
 {
     work.is_named();
@@ -294,14 +295,18 @@ fn tell<W: Naming, F: Files, R: Abort + AllocGlobal>(
 }
 
 /// Writes the directories and files that stand.
-fn push_files<R: Abort + AllocGlobal>(rt: &R, files: &MemFiles, told: &mut String) {
+pub fn push_files<R: Abort + AllocGlobal>(rt: &R, files: &MemFiles, told: &mut String) {
     let stands = String::from_utf8(standing(rt, files)).ok();
     told.push_str(stands.expect(rt, "a text").as_str())
         .expect(rt, "memory");
 }
 
 /// Writes the results that are there.
-fn push_results<W: Naming, R: Abort + AllocGlobal>(rt: &R, world: &World<W>, told: &mut String) {
+pub fn push_results<W: Naming, R: Abort + AllocGlobal>(
+    rt: &R,
+    world: &World<W>,
+    told: &mut String,
+) {
     let results = results_of(rt, world);
     told.push_str(results.as_str()).expect(rt, "memory");
 }
@@ -318,12 +323,17 @@ fn results_of<W: Naming, R: Abort + AllocGlobal>(rt: &R, world: &World<W>) -> St
 }
 
 /// Sees that a case holds of the world of a word count over two lines.
-pub fn assert_world<R: Abort + AllocGlobal>(rt: &R, case: &str) {
+pub fn assert_world<R: Abort + AllocGlobal + Threads + Sync>(rt: &R, case: &str) {
     assert_world_of(rt, WORD_COUNT, INPUT, case);
 }
 
 /// Sees that a case holds of the world of the first action of a script, over this text of `in.txt`.
-pub fn assert_world_of<R: Abort + AllocGlobal>(rt: &R, script: &str, input: &str, case: &str) {
+pub fn assert_world_of<R: Abort + AllocGlobal + Threads + Sync>(
+    rt: &R,
+    script: &str,
+    input: &str,
+    case: &str,
+) {
     let (label, rest) = halves(case, "\n");
     let (word, rest) = halves(rest, "\n");
     let (plan, rest) = halves(rest, "----\n");

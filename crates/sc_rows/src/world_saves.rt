@@ -15,6 +15,7 @@ use sc_lineage::Work;
 use sc_work::Naming;
 use std::marker::Brand;
 use std::process::Abort;
+use std::thread::Threads;
 
 /// A line that is saved.
 const SAVE: &str = r#"
@@ -118,7 +119,12 @@ out/ out/_temporary/ out/_temporary/c-0-0-1-0=b
  "#;
 
 /// Sees that each case of a table holds of the world of a script that saves, over this text.
-fn assert_worlds<R: Abort + AllocGlobal>(rt: &R, script: &str, input: &str, table: &str) {
+fn assert_worlds<R: Abort + AllocGlobal + Threads + Sync>(
+    rt: &R,
+    script: &str,
+    input: &str,
+    table: &str,
+) {
     for case in table.split("==== ") {
         if !case.is_empty() {
             assert_world_of(rt, script, input, case);
