@@ -193,9 +193,10 @@ def case_of(name: str, parts: list[Part], cells: dict[bytes, bytes], tables: int
     return Case(name, found, files, int(settings.get(b"status", b"0")), wanted)
 
 
-def cases_of(path: pathlib.Path) -> Iterator[Case]:
-    """The cases of a file."""
-    if not (text := path.read_bytes()).startswith(f"# cases/{path.name}: ".encode()):
+def cases_of(path: pathlib.Path, folder: str = "cases") -> Iterator[Case]:
+    """The cases of a file in a folder of the repository."""
+    file = f"{folder}/{path.name}"
+    if not (text := path.read_bytes()).startswith(f"# {file}: ".encode()):
         raise Malformed("1: doesn't begin with its subject")
     for claim, line, parts in blocks(text):
         while parts and parts[-1].lines[-1:] == [b""]:
@@ -209,7 +210,7 @@ def cases_of(path: pathlib.Path) -> Iterator[Case]:
         for choice in itertools.product(*tables):
             cells = {mark: cell for _, row in choice for mark, cell in row.items()}
             place = "-".join(str(number) for number, _ in choice) or str(line)
-            yield case_of(f"cases/{path.name}:{place}: {claim}", parts, cells, len(tables))
+            yield case_of(f"{file}:{place}: {claim}", parts, cells, len(tables))
 
 
 def differences(program: pathlib.Path, case: Case) -> list[str]:

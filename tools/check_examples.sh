@@ -1,6 +1,6 @@
 #!/usr/bin/env bash
 # Runs each example and compares what it does with what its folder says, and then the examples of
-# the guide and the cookbook, and the cases of cases/.
+# the guide and the cookbook, the cases of cases/, and spark_story over the cases and examples.
 #
 #   tools/check_examples.sh
 #
@@ -107,6 +107,7 @@ done
 if command -v python3 >/dev/null 2>&1; then
   python3 "$top/tools/check_guide.py" || result=1
   python3 "$top/tools/check_cases.py" || result=1
+  python3 "$top/tools/check_story.py" || result=1
 else
   echo "skipped: the checks of tools/ that are written in Python (no python3)"
 fi

@@ -51,6 +51,9 @@ m = map l (* x 10)
 save m "out"
 collect m
 """,
+    "saves_with_a_copy": """l = parallelize 4 1 2 3 4
+save l "out"
+""",
     "gathers_on_threads": """l = parallelize 8 1 2 3 4 5 6 7 8 9 10 11 12
 p = map l (pair (% x 3) x)
 g = groupByKey p 4
@@ -61,9 +64,11 @@ count c
 """,
 }
 PLANS = {
+    "saves_with_a_copy": "late 0 0 0 9\n",
     "saves_by_repeated_and_late_attempts": "fail 0 0 0\nlate 0 1 0 2\ntwice 0 2 0\nfail 0 3 0\n",
     "gathers_on_threads": "drop 0 5\nlate 0 2 0 3\n",
 }
+WORDS = {"saves_with_a_copy": [b"--speculation"]}
 
 
 @dataclasses.dataclass(frozen=True)
@@ -190,7 +195,8 @@ def own_runs() -> list[check_cases.Case]:
     files = {path.name.encode(): path.read_bytes() for path in folder.iterdir() if path.is_file()}
     found = [check_cases.Case("examples/saving", [b"run", b"job.spark"], files, 0, {})]
     for name, script in RUNS.items():
-        words, files = [b"run", b"job.spark"], {b"job.spark": script.encode()}
+        words = [b"run", b"job.spark", *WORDS.get(name, [])]
+        files = {b"job.spark": script.encode()}
         if name in PLANS:
             words += [b"--plan", b"plan.txt"]
             files[b"plan.txt"] = PLANS[name].encode()

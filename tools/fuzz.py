@@ -1,7 +1,8 @@
 #!/usr/bin/env python3
 """Runs random scripts under random fault plans, and compares with the plain meaning.
 
-    tools/fuzz.py PROGRAM [--seed SEED] [--count COUNT] [--mutate] [--keep FOLDER] [--show]
+    tools/fuzz.py PROGRAM [--seed SEED] [--count COUNT] [--times TIMES] [--executors LEAST MOST]
+                  [--saving] [--counted] [--told] [--mutate] [--keep FOLDER] [--show]
 
 PROGRAM is a built one, such as crates/spark_run/out/spark_run. A case is made of each of the seeds
 SEED, SEED + 1 and so on: a script with inputs, a plan, and words that set executors and limits, the
@@ -23,33 +24,34 @@ it means. Must hold:
 With --mutate the script, the plan or an input is spoiled: its bytes are flipped, cut, doubled or
 spliced. tools/fuzzing/reader.py then says by the document which fault of which line comes, or what
 the script has become, which must print what it means. No such run may take more than a second of
-the processor. One whose text would be too large to compare has to end with a status of a run, and
-one that would leave its folder isn't run.
+the processor. One whose text would be too large to compare has to end with a status of a run, if it
+ends within LIMIT seconds, and one that would leave its folder isn't run.
 
-Prints a paragraph for each case that differs, with its seed, and at the end how many cases ended
-with which status. Ends with 1 where one differs. With --keep the files of such a case are left in
-FOLDER/SEED, and with --show each case is printed, whatever comes.
+Each case is run TIMES times (1), with LEAST to MOST executors where these are said, and with
+--saving only where it saves under a plan that says something. With --counted PROGRAM ends its
+standard error with a line such as '0 given up, 3 jobs', which says what became of its jobs: none
+may be given up. The built program has no such line; a scratch one that prints the length of `run`'s
+`gave_up` does. With --told PROGRAM is spark_story, and of its standard error the lines that begin
+with two blanks aren't compared.
+
+Prints a paragraph for each run that differs, with its seed, and at the end how many runs ended
+with which status, and the sums of what was counted. Ends with 1 where one differs. With --keep the
+files of such a case are left in FOLDER/SEED, and with --show each run is printed, whatever comes.
 """
 import argparse
-import collections
 import pathlib
 import re
-import resource
 import shlex
-import subprocess
 import sys
-import tempfile
+from collections import Counter
+from collections.abc import Iterator
 from dataclasses import dataclass, field
 
 from fuzzing.cases import Case, random_case
 from fuzzing.mutations import Unjudged, mutated_case
+from fuzzing.runs import NO_END, Folders, Ran, put_files, run, without_counts, without_told
 
-# The directories that stand, with the bytes of their files.
-Folders = dict[str, dict[str, bytes]]
-
-LIMIT = 60
 MOST_SECONDS = 1
-NO_END = 124
 RAN = (0, 6, 7, 8, 9, 10)
 SHOWN = 600
 ABORTS = {
@@ -57,64 +59,6 @@ ABORTS = {
     7: re.compile(r"stage limit: stage (\d+)\n"),
     8: re.compile(r"no executor\n"),
 }
-
-
-@dataclass(frozen=True)
-class Ran:
-    """How a run ended, what it printed, and how many seconds of the processor it took."""
-
-    status: int
-    out: str
-    err: str
-    saved: Folders = field(default_factory=dict)
-    seconds: float = 0
-
-
-def put_files(case: Case, folder: pathlib.Path) -> None:
-    folder.mkdir(parents=True, exist_ok=True)
-    for name, content in case.files.items():
-        (folder / name).write_bytes(content)
-    for name in case.script.there:
-        (folder / name).mkdir(parents=True)
-        (folder / name / "old").write_bytes(b"old")
-
-
-def folders_in(top: pathlib.Path) -> Folders:
-    """The directories under a folder that have no other one in them, with their files."""
-    found: Folders = {}
-    for path in sorted(top.rglob("*")):
-        if path.is_dir() and not any(inner.is_dir() for inner in path.iterdir()):
-            files = {inner.name: inner.read_bytes() for inner in path.iterdir()}
-            found[str(path.relative_to(top))] = files
-    return found
-
-
-def seconds_of_runs() -> float:
-    """How many seconds of the processor all runs took that have ended."""
-    used = resource.getrusage(resource.RUSAGE_CHILDREN)
-    return used.ru_utime + used.ru_stime
-
-
-def run(program: pathlib.Path, case: Case) -> Ran:
-    """Runs a case in a folder of its own."""
-    before = seconds_of_runs()
-    with tempfile.TemporaryDirectory() as scratch:
-        put_files(case, pathlib.Path(scratch))
-        command = [str(program), "run", *case.words]
-        try:
-            ran = subprocess.run(
-                command,
-                cwd=scratch,
-                stdin=subprocess.DEVNULL,
-                capture_output=True,
-                timeout=LIMIT,
-                check=False,
-            )
-        except subprocess.TimeoutExpired:
-            return Ran(NO_END, "", f"no end within {LIMIT} seconds")
-        saved = folders_in(pathlib.Path(scratch))
-    out, err = (text.decode(errors="replace") for text in (ran.stdout, ran.stderr))
-    return Ran(ran.returncode, out, err, saved, seconds_of_runs() - before)
 
 
 def saved_by(case: Case, done: int) -> Folders:
@@ -176,7 +120,7 @@ def wrong(case: Case, ran: Ran) -> str:
         is_told = (ran.status, ran.err, ran.out) == (*case.refusal, "")
         return wrong_folders(case, ran, []) if is_told else f"the refusal isn't {case.refusal}"
     if case.is_large:
-        return "" if ran.status in RAN else "no script that has no fault ends so"
+        return "" if ran.status in (*RAN, NO_END) else "no script that has no fault ends so"
     texts, outcomes = texts_of(case), case.script.outcomes
     last = outcomes[len(texts)] if len(texts) < len(outcomes) else None
     doom = case.doom() if outcomes and not outcomes[0].is_taken else None
@@ -217,6 +161,11 @@ def words_of_main() -> argparse.Namespace:
     parser.add_argument("program", type=pathlib.Path)
     parser.add_argument("--seed", type=int, default=0)
     parser.add_argument("--count", type=int, default=100)
+    parser.add_argument("--times", type=int, default=1)
+    parser.add_argument("--executors", type=int, nargs=2, metavar=("LEAST", "MOST"))
+    parser.add_argument("--saving", action="store_true", help="only cases that save under a plan")
+    parser.add_argument("--counted", action="store_true", help="PROGRAM counts what was given up")
+    parser.add_argument("--told", action="store_true", help="PROGRAM is spark_story")
     parser.add_argument("--mutate", action="store_true")
     parser.add_argument("--keep", type=pathlib.Path)
     parser.add_argument("--show", action="store_true")
@@ -229,35 +178,77 @@ def tell(seed: int, case: Case, ran: Ran, found: str) -> None:
     print(f"-- standard output\n{ran.out[:SHOWN]}\n-- standard error\n{ran.err[:SHOWN]}")
 
 
-def main() -> int:
-    words = words_of_main()
-    by_status: collections.Counter[int] = collections.Counter()
-    by_fault: collections.Counter[str] = collections.Counter()
-    differ = 0
+def cases(words: argparse.Namespace) -> Iterator[tuple[int, Case]]:
+    """The cases that the words ask for, each with its seed."""
     for seed in range(words.seed, words.seed + words.count):
         try:
-            case = mutated_case(seed) if words.mutate else random_case(seed)
+            case = mutated_case(seed) if words.mutate else random_case(seed, words.executors)
         except Unjudged:
             continue
-        ran = run(words.program.resolve(), case)
-        found = wrong(case, ran)
-        if words.mutate and ran.seconds > MOST_SECONDS:
-            found = found or f"it took {ran.seconds:.1f} seconds"
-        by_status[ran.status] += 1
+        if not words.saving or (case.plan and case.saves()):
+            yield seed, case
+
+
+@dataclass
+class Tally:
+    """How the runs ended: by their status, those that were refused by their fault, what was counted
+    of their jobs, the seconds that the longest took, and how many differ."""
+
+    by_status: Counter[int] = field(default_factory=Counter)
+    by_fault: Counter[str] = field(default_factory=Counter)
+    jobs: Counter[str] = field(default_factory=Counter)
+    longest: float = 0
+    differ: int = 0
+
+    def add(self, ran: Ran, differs: bool) -> None:
+        self.by_status[ran.status] += 1
         if ran.status in (3, 4):
-            by_fault[re.sub(": line [0-9]+:", "", ran.err.strip())] += 1
-        if found or words.show:
-            tell(seed, case, ran, found)
-        if found:
-            differ += 1
-            if words.keep:
+            self.by_fault[re.sub(": line [0-9]+:", "", ran.err.strip())] += 1
+        self.longest = max(self.longest, ran.elapsed)
+        self.differ += differs
+
+    def lines(self) -> Iterator[str]:
+        ends = (f"{status}: {self.by_status[status]}" for status in sorted(self.by_status))
+        yield f"by status {', '.join(ends)}"
+        if self.by_fault:
+            yield ", ".join(f"{it}: {self.by_fault[it]}" for it in sorted(self.by_fault))
+        if self.jobs:
+            yield ", ".join(f"{number} {what}" for what, number in self.jobs.items())
+        told = f"{self.by_status.total()} runs, {self.differ} differ"
+        yield f"{told}, the longest took {self.longest:.1f} seconds"
+
+
+def tried(words: argparse.Namespace, case: Case, jobs: Counter[str]) -> tuple[Ran, str]:
+    """A run of a case, and what is wrong with it. Adds what it counts."""
+    ran, found = run(words.program.resolve(), case), ""
+    if words.told:
+        ran = without_told(ran)
+    if words.counted:
+        ran, counts = without_counts(ran)
+        jobs.update(counts or {})
+        if counts is None or counts["given up"]:
+            found = "a job was given up, or nothing is told of it"
+    found = wrong(case, ran) or found
+    if words.mutate and not case.is_large and ran.seconds > MOST_SECONDS:
+        found = found or f"it took {ran.seconds:.1f} seconds"
+    return ran, found
+
+
+def main() -> int:
+    words = words_of_main()
+    tally, seeds = Tally(), set()
+    for seed, case in cases(words):
+        seeds.add(seed)
+        for _ in range(words.times):
+            ran, found = tried(words, case, tally.jobs)
+            tally.add(ran, bool(found))
+            if found or words.show:
+                tell(seed, case, ran, found)
+            if found and words.keep:
                 put_files(case, words.keep / str(seed))
-    counted = ", ".join(f"{status}: {by_status[status]}" for status in sorted(by_status))
-    print(f"seeds {words.seed} to {words.seed + words.count - 1}, by status {counted}")
-    if words.mutate:
-        print(", ".join(f"{fault}: {by_fault[fault]}" for fault in sorted(by_fault)))
-    print(f"{by_status.total()} cases, {differ} differ")
-    return 1 if differ else 0
+    last = words.seed + words.count - 1
+    print(f"{len(seeds)} cases of the seeds {words.seed} to {last}", *tally.lines(), sep="\n")
+    return 1 if tally.differ else 0
 
 
 if __name__ == "__main__":

@@ -9,7 +9,8 @@ keeps every clause, and only a run refuses it. edits/give_ups.txt has such bodie
     == CRATE/src/FILE.rt FUNCTION
     old: TEXT         what stands there, just once in the functions of this name
     new: TEXT         what gives up too early; lines that begin with a blank go on with a line
-    by: FILE CLAIM    a case of cases/FILE that refuses it; 'example NAME'; 'nobody, since REASON'
+    by: FILE CLAIM    a case of cases/FILE that refuses it; 'example NAME'; 'sc_rows NAME', a test;
+                      'nobody, since REASON'
 
 Of `old` only what stands between « and » is replaced, where it has them. Both are expressions, so
 that a choice between the two is one too.
@@ -20,7 +21,8 @@ place or new text has TEXT is planted in a copy, alone, a program is built of th
 by 'COMMAND spark_run OUT' at the copy's top, and the one who is to refuse the body is run over it;
 that takes minutes for each. With --switched one program is built of all bodies: each is chosen
 where `sc_base::planted(NUMBER)` is true, which the command has to make so for the numbers, parted
-by commas, in the environment's GIVE_UPS. It ends with 1 where a body isn't refused.
+by commas, in the environment's GIVE_UPS. It ends with 1 where a body isn't refused. A body that a
+test refuses isn't tried: plant it by hand, and run 'rt try --test' in sc_rows.
 """
 import argparse
 import dataclasses
@@ -39,6 +41,7 @@ LIST = "edits/give_ups.txt"
 TOP = pathlib.Path(__file__).resolve().parent.parent
 PLACE = re.compile(r"(\w+/src/\w+\.rt) (\w+)")
 NOBODY = "nobody, since "
+ROWS = "sc_rows "
 PLANTED = """//! Which of the planted bodies is chosen.
 #![tactic(auto)]
 
@@ -96,6 +99,12 @@ def give_ups(text: str) -> Iterator[GiveUp]:
         yield GiveUp(number, *place.groups(), parts["old"], parts["new"], parts["by"])
 
 
+def is_test(root: pathlib.Path, name: str) -> bool:
+    """Whether sc_rows has a test of a name."""
+    files = (root / "crates/sc_rows/src").glob("*.rt")
+    return any(f"#[test]\nfn {name}(" in it.read_text(encoding="utf-8") for it in files)
+
+
 def faults(root: pathlib.Path = TOP) -> Iterator[str]:
     """What no longer fits of the list of a repository."""
     for it in give_ups((root / LIST).read_text(encoding="utf-8")):
@@ -107,6 +116,8 @@ def faults(root: pathlib.Path = TOP) -> Iterator[str]:
         case = root / "cases" / name
         if name == "example":
             known = (root / "examples" / claim).is_dir()
+        elif it.by.startswith(ROWS):
+            known = is_test(root, claim)
         else:
             known = case.is_file() and f"== {claim}\n" in case.read_text(encoding="utf-8")
         if not known and not it.by.startswith(NOBODY):
@@ -184,7 +195,7 @@ def main() -> int:
     switched = arguments.switched is not None
     everyone = list(give_ups((TOP / LIST).read_text(encoding="utf-8")))
     tried = [it for it in everyone if arguments.k in f"{it.place} {it.new}"]
-    tried = [it for it in tried if not it.by.startswith(NOBODY)]
+    tried = [it for it in tried if not it.by.startswith((NOBODY, ROWS))]
     passed = 0
     with tempfile.TemporaryDirectory() as scratch:
         program = pathlib.Path(scratch, "spark_run")

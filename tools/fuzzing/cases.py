@@ -3,6 +3,7 @@
 A few cases have one fault that refuses the run: in its words, its script, its plan or an input.
 """
 import random
+from collections.abc import Sequence
 from dataclasses import dataclass, field
 
 from fuzzing.scripts import Script, random_script
@@ -69,6 +70,10 @@ class Case:
         """How often outputs may be missed by the plan: once by a wipe, and once by its telling."""
         return sum({"drop": 1, "lose": 2}.get(str(line[0]), 0) for line in self.plan)
 
+    def saves(self) -> bool:
+        """Whether an action saves."""
+        return any(outcome.folder for outcome in self.script.outcomes)
+
     def told_losses(self) -> list[str | int]:
         """At how many reports the executors are told lost that the plan loses."""
         return [line[3] for line in self.plan if line[0] == "lose"]
@@ -131,8 +136,10 @@ def plan_text(rng: random.Random, plan: list[PlanLine]) -> str:
     return "".join(f"{line}\n" for line in written)
 
 
-def random_limits(rng: random.Random) -> dict[str, int]:
-    limits = {"executors": rng.choice((1, 2, 2, 2, 3, 4, 8)), "task-failures": 4}
+def random_limits(rng: random.Random, executors: Sequence[int] | None) -> dict[str, int]:
+    """The limits of a run, with so many executors at least and at most where that is said."""
+    number = rng.randint(*executors) if executors else rng.choice((1, 2, 2, 2, 3, 4, 8))
+    limits = {"executors": number, "task-failures": 4}
     limits |= {"stage-attempts": 4, "cache": 64}
     for name, numbers in (
         ("task-failures", (1, 2, 3, 5)),
@@ -170,10 +177,10 @@ def add_fault(rng: random.Random, case: Case, executors: int) -> None:
         case.refusal = (15, f"not text: {name}\n")
 
 
-def random_case(seed: int) -> Case:
-    """The case of a seed."""
+def random_case(seed: int, executors: Sequence[int] | None = None) -> Case:
+    """The case of a seed, with so many executors at least and at most where that is said."""
     rng = random.Random(seed)
-    script, limits = random_script(rng), random_limits(rng)
+    script, limits = random_script(rng), random_limits(rng, executors)
     case = Case(script, limits, random_plan(rng, limits["executors"]), files=dict(script.inputs))
     usual = {"executors": 2, "task-failures": 4, "stage-attempts": 4, "cache": 64}
     for name, number in limits.items():

@@ -107,10 +107,12 @@ def with_another_word(rng: random.Random, content: bytes, other: bytes) -> bytes
 
 
 def alike(word: bytes, words: tuple[bytes, ...]) -> list[bytes]:
-    """The words of a table that take what one of it takes; of a word that takes nothing all."""
+    """The words of a table that take what one of it takes; of a word that takes nothing all, and of
+    a node that is called as a word of another table."""
     shapes = {**DEFINITIONS, **ACTIONS, **{head: count or 2 for head, count in HEADS.items()}}
-    shape = shapes.get(word.decode())
-    return [it for it in words if shape is None or shapes.get(it.decode()) == shape]
+    shape = shapes.get(word.decode(errors="replace"))
+    found = [it for it in words if shape is None or shapes.get(it.decode()) == shape]
+    return found or list(words)
 
 
 def with_moved_lines(rng: random.Random, content: bytes, other: bytes) -> bytes:

@@ -1,7 +1,6 @@
-"""Files that are none, or that change while they are read, and scripts that break a limit."""
+"""Files that are none, devices and pipes, and scripts and plans that break a limit."""
 import os
 import pathlib
-import random
 import re
 import signal
 import stat
@@ -12,7 +11,7 @@ from collections.abc import Iterator
 import check_cases
 from fuzzing.grammar import Fault
 from fuzzing.reader import plan_of, script_of
-from hostile.runs import NOBODY, Ended, Place, differs
+from hostile.runs import NOBODY, Place, differs
 
 TOP = pathlib.Path(__file__).resolve().parents[2]
 EXECUTORS = re.compile(rb"--executors[ =]([0-9]+)")
@@ -43,6 +42,7 @@ def odd_files(place: Place) -> Iterator[tuple[str, str]]:
     place.put("unreadable", LINES).chmod(0)
     yield from ((name, "failed") for name in ("folder", "socket", "loop", "file/x", "unreadable"))
     yield from ((name, "failed") for name in ("n" * 256, "/proc/self/mem", "./folder/."))
+    yield from ((name, "failed") for name in ("n" * 4_000, "./" * 2_000 + "file/x"))
     yield from ((name, "missing") for name in ("nothing", "to_nothing", "folder/nothing"))
 
 
@@ -57,6 +57,16 @@ def what_is_no_file_is_told_by_its_name(place: Place) -> Iterator[str]:
 def an_empty_device_is_an_empty_file(place: Place) -> Iterator[str]:
     for words, out in zip(roles(place, "/dev/null"), (b"", b"", b"0\n")):
         yield from differs(f"{words}", place.run(*words), 0, out)
+
+
+def a_file_that_tells_no_length_is_read_to_its_end(place: Place) -> Iterator[str]:
+    """The system's own say that they have no bytes."""
+    name = "/proc/version"
+    wanted = pathlib.Path(name).read_text().count("\n")
+    place.put("count.spark", COUNT.format(name))
+    yield from differs("as an input", place.run("run", "count.spark"), 0, b"%d\n" % wanted)
+    told = b"script: line 1: Syntax\n"
+    yield from differs("as a script", place.run("run", name), 3, b"", told)
 
 
 def feed(path: pathlib.Path, pieces: list[bytes], pause: float) -> threading.Thread:
@@ -100,50 +110,6 @@ def a_pipe_is_read_to_its_end(place: Place) -> Iterator[str]:
             time.sleep(0.03)
             running.signal(number)
     yield from differs("stopped and went on", place.ended(running), 0, b"8\n")
-
-
-def counted(ended: Ended) -> int:
-    """The number that a run printed which has nothing else to say, or -1."""
-    is_number = ended.status == 0 and not ended.err and re.fullmatch(rb"[0-9]+\n", ended.out)
-    return int(ended.out) if is_number else -1
-
-
-def a_file_may_grow_while_it_is_read(place: Place) -> Iterator[str]:
-    """As many lines are read as it had at some moment of the run."""
-    place.put("count.spark", COUNT.format("in.txt"))
-    path = place.put("in.txt", b"7\n" * 1_000_000)
-    least, stop = path.stat().st_size // 2, threading.Event()
-
-    def grow() -> None:
-        with path.open("ab", buffering=0) as file:
-            while not stop.is_set() and file.tell() < 8_000_000:
-                file.write(b"7\n" * 500)
-
-    for _ in range(3):
-        thread = threading.Thread(target=grow)
-        thread.start()
-        ended = place.run("run", "count.spark")
-        stop.set()
-        thread.join()
-        stop.clear()
-        most = path.stat().st_size // 2
-        if not least <= counted(ended) <= most:
-            yield f"between {least} and {most} lines: {ended.shown()}"
-        least = most
-
-
-def a_file_may_be_cut_while_it_is_read(place: Place) -> Iterator[str]:
-    """No more lines are read than it had."""
-    place.put("count.spark", COUNT.format("in.txt"))
-    for _ in range(place.rounds):
-        path = place.put("in.txt", b"7\n" * 5_000_000)
-        running = place.start("run", "count.spark")
-        pause = random.uniform(0, 0.03)
-        time.sleep(pause)
-        os.truncate(path, random.choice((0, 3, 1_000_000)))
-        ended = place.ended(running)
-        if not 0 <= counted(ended) <= 5_000_000:
-            yield f"cut behind {pause} seconds: {ended.shown()}"
 
 
 def broken_scripts() -> Iterator[bytes]:

@@ -1,4 +1,5 @@
 """Outputs that are closed, and limits of the system on memory, files and threads."""
+import itertools
 import os
 import resource
 import shutil
@@ -60,6 +61,43 @@ def a_closed_error_leaves_the_status(place: Place) -> Iterator[str]:
         ((), 2, b""),
     ):
         yield from differs(f"{words}", place.run(*words, before=close), status, out)
+
+
+def a_closed_input_is_not_missed(place: Place) -> Iterator[str]:
+    """Nor are all three: then the text that can't be written is missed, and what is saved isn't."""
+    word_count(place)
+    place.put("saving.spark", 'l = text "in.txt" 2\nsave l "out"\n')
+    place.put("both.spark", 'l = text "in.txt" 2\nsave l "both"\ncollect l\nsave l "last"\n')
+
+    def close_all() -> None:
+        os.closerange(0, 3)
+
+    ended = place.run("run", "job.spark", before=lambda: os.close(0))
+    yield from differs("the input", ended, 0, TEXT)
+    yield from differs("all", place.run("run", "saving.spark", before=close_all), 0)
+    yield from differs("all, and a text", place.run("run", "both.spark", before=close_all), 12)
+    for name in ("out", "both"):
+        yield from wrong_parts(place.folder / name, [b"b a\n", b"b\n"])
+    if (place.folder / "last").exists():
+        yield "a save behind the text is begun"
+
+
+def deepest() -> str:
+    """A script whose nodes stand behind one another as often as they may, each with an expression
+    that nests as deep as it may."""
+    around = f"{'(- 0 ' * 32}x{')' * 32}"
+    maps = "".join(f"n{it + 1} = map n{it} {around}\n" for it in range(255))
+    return f"n0 = parallelize 2 1 2\n{maps}collect n255\n"
+
+
+def a_small_or_an_endless_stack_is_enough(place: Place) -> Iterator[str]:
+    """From 512 KiB on, also for the deepest script."""
+    place.put("deep.spark", deepest())
+    for size in (512 * KIB, KIB * KIB, 8 * KIB * KIB, resource.RLIM_INFINITY):
+        for executors in ("1", "4"):
+            words = "run", "deep.spark", "--executors", executors
+            ended = place.run(*words, limits={resource.RLIMIT_STACK: size})
+            yield from differs(f"{size} bytes, {executors} executors", ended, 0, b"1\n2\n")
 
 
 def a_pipe_that_nobody_reads_takes_nothing(place: Place) -> Iterator[str]:
@@ -140,10 +178,26 @@ def an_output_that_may_not_grow_takes_some_first_bytes(place: Place) -> Iterator
             yield f"{way.name}: {took[-20:]!r} is the end of {len(took)} bytes"
 
 
-def not_growing(way: signal.Handlers) -> dict:
-    """No file may have more than 100 bytes, and the signal of it is treated so."""
+def an_output_that_takes_some_bytes_has_these(place: Place) -> Iterator[str]:
+    """However many of the text they are. The error has as much room."""
+    word_count(place)
+    for executors, size in itertools.product(("1", "4"), range(len(TEXT) + 1)):
+        with (place.scratch / "output").open("w+b") as output:
+            words = "run", "job.spark", "--executors", executors
+            around = not_growing(signal.SIG_IGN, size)
+            ended = place.run(*words, stdout=output.fileno(), **around)
+            output.seek(0)
+            took = output.read()
+        is_whole = size == len(TEXT)
+        yield from differs(f"{size} bytes", ended, *((0,) if is_whole else (12, b"", FULL[:size])))
+        if took != TEXT[:size]:
+            yield f"{size} bytes: {took!r} is written"
+
+
+def not_growing(way: signal.Handlers, size: int = 100) -> dict:
+    """No file may have more than so many bytes, and the signal of it is treated so."""
     return {
-        "limits": {resource.RLIMIT_FSIZE: 100},
+        "limits": {resource.RLIMIT_FSIZE: size},
         "before": lambda: signal.signal(signal.SIGXFSZ, way),
     }
 

@@ -16,6 +16,7 @@ LONGEST = 240
 # A user of whom nothing else runs, and who owns no file.
 NOBODY = 54_321
 NO_LIMITS: dict[int, int] = {}
+NOTHING: dict[str, str] = {}
 
 
 @dataclass(frozen=True)
@@ -89,17 +90,21 @@ class Place:
         stdout: int | None = None,
         user: int | None = None,
         before: Callable[[], None] = lambda: None,
+        told: dict[str, str] = NOTHING,
+        within: tuple[str, ...] = (),
     ) -> Running:
-        """Starts the program with some words. It has the limits, and so many kibibytes of memory
-        where that is said; `before` is done in the process that it will be; and it is run as the
-        user, where one is named and may be had."""
+        """Starts the program with some words, or the command that does so within. It has the
+        limits, and so many kibibytes of memory where that is said; `before` is done in the process
+        that it will be; its environment has what is told besides; and it is run as the user, where
+        one is named and may be had."""
 
         def begin() -> None:
             for limit, value in limits.items():
                 resource.setrlimit(limit, (value, value))
             before()
 
-        within = () if memory is None else ("sh", "-c", 'ulimit -v "$0"; exec "$@"', str(memory))
+        if memory is not None:
+            within = "sh", "-c", 'ulimit -v "$0"; exec "$@"', str(memory)
         outputs = self.scratch / "out", self.scratch / "err"
         identity = {}
         if user is not None and os.getuid() == 0:
@@ -112,6 +117,7 @@ class Place:
                 stdout=out if stdout is None else stdout,
                 stderr=err,
                 preexec_fn=begin,
+                env={**os.environ, **told},
                 **identity,
             )
         return Running(process, outputs)

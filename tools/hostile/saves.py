@@ -1,4 +1,4 @@
-"""Saves that are ended by a signal, or whose directory can't be written in or goes away."""
+"""Saves that are ended by a signal, meet one another, or whose directory goes away."""
 import contextlib
 import os
 import pathlib
@@ -9,7 +9,7 @@ import signal
 import time
 from collections.abc import Iterator
 
-from hostile.runs import NOBODY, Ended, Place, Running, differs
+from hostile.runs import Ended, Place, Running, differs
 
 STAGED = re.compile(r"([sc])-(\d+)-(\d+)-(\d+)-(\d+)")
 PART = re.compile(r"part-(\d{5})")
@@ -148,6 +148,18 @@ def wrong_words(ended: Ended) -> Iterator[str]:
         yield ended.shown()
 
 
+def of_two_saves_to_a_directory_at_once_one_is_done(place: Place) -> Iterator[str]:
+    """The other is refused, and changes nothing."""
+    place.put("saving.spark", saving(MANY))
+    for _ in range(place.rounds):
+        running = [place.start("run", "saving.spark", "--executors", "2") for _ in range(2)]
+        ended = sorted(place.ended(it).status for it in running)
+        if ended != [0, 10]:
+            yield f"they end with {ended}"
+        yield from wrong_parts(place.folder / "out", parts_of(MANY))
+        shutil.rmtree(place.folder / "out", ignore_errors=True)
+
+
 def a_directory_may_go_away_while_it_is_saved_to(place: Place) -> Iterator[str]:
     """It gets another name: the run ends with a limit or a fault, or was through; and neither
     directory has _SUCCESS over missing parts."""
@@ -169,6 +181,21 @@ def a_directory_may_go_away_while_it_is_saved_to(place: Place) -> Iterator[str]:
             shutil.rmtree(folder, ignore_errors=True)
 
 
+def a_directory_may_be_removed_while_it_is_saved_to(place: Place) -> Iterator[str]:
+    """File by file, with whatever stands in it at the moment: the run ends with a limit or a fault,
+    or was through. Who removes what was saved may leave _SUCCESS behind, so what stands isn't
+    looked at."""
+    place.put("saving.spark", saving(MANY))
+    words = "run", "saving.spark", "--executors", "4"
+    length, out = seconds_of(place, *words), place.folder / "out"
+    for _ in range(place.rounds):
+        running = place.start(*words)
+        await_moment(running, out, length)
+        shutil.rmtree(out, ignore_errors=True)
+        yield from wrong_words(place.ended(running))
+        shutil.rmtree(out, ignore_errors=True)
+
+
 def a_staging_area_may_go_away_while_it_is_saved_to(place: Place) -> Iterator[str]:
     place.put("saving.spark", saving(MANY))
     words = "run", "saving.spark", "--executors", "4"
@@ -183,31 +210,3 @@ def a_staging_area_may_go_away_while_it_is_saved_to(place: Place) -> Iterator[st
             yield from wrong_parts(out, parts_of(MANY))
         yield from wrong_end(out, parts_of(MANY), is_alone=False)
         shutil.rmtree(out, ignore_errors=True)
-
-
-def a_directory_that_cannot_be_made_is_a_device_fault(place: Place) -> Iterator[str]:
-    """And what is there already is refused, whatever it is."""
-    (place.folder / "closed").mkdir(mode=0o555)
-    (place.folder / "folder").mkdir()
-    (place.folder / "link").symlink_to("nothing")
-    os.mkfifo(place.folder / "pipe")
-    place.put("file", "")
-    fails = "closed/out", "closed/above/out", "file/out", "file/above/out", "n" * 256
-    taken = "folder", "link", "pipe", "file", "closed"
-    for name in (*fails, *taken):
-        place.put("saving.spark", f'l = parallelize 2 1 2\nsave l "{name}"\n')
-        ended = place.run("run", "saving.spark", user=NOBODY)
-        told = f"device: {name}\n" if name in fails else f"output exists: {name}\n"
-        yield from differs(name, ended, 11 if name in fails else 10, b"", told.encode())
-    stand = sorted(path.name for path in place.folder.rglob("*"))
-    if stand != ["closed", "file", "folder", "link", "pipe", "saving.spark"]:
-        yield f"there stand {stand}"
-
-
-def a_folder_that_may_not_be_written_in_gets_nothing(place: Place) -> Iterator[str]:
-    place.put("saving.spark", saving(3))
-    place.folder.chmod(0o555)
-    ended = place.run("run", "saving.spark", user=NOBODY)
-    yield from differs("saved", ended, 11, b"", b"device: out\n")
-    if (place.folder / "out").exists():
-        yield "out is there"
