@@ -9,8 +9,9 @@
 # job is measured the outputs of both are compared, and a job whose outputs differ isn't measured.
 # Then each program runs three times, in turn with the other, its output thrown away. The table has
 # the medians of the wall times, their ratio, and the most memory that a run took. A second table
-# has a word count under the fault plans of bench/plans, beside the same without a plan, and the
-# last one the start of the program on a script without inputs, beside the start of mawk.
+# has a word count under the fault plans of bench/plans, beside the same without a plan, and two
+# jobs by other words, beside the same without them. The last one has the start of the program on a
+# script without inputs, beside the start of mawk.
 #
 # It needs the built program, rustc, python3 and GNU time, mawk for the last table, and room for the
 # inputs in bench/data. Ends with 1 where outputs differed.
@@ -67,11 +68,24 @@ peak() {
 
 # Measures a job over some files of a size in the folder that it is called in, and prints its row.
 measure_job() {
-  local job=$1 megabytes=$2 round
+  local job=$1 megabytes=$2
   shift 2
   local ours=("$program" run "../../jobs/$job.spark")
   [ "$job" != cached ] || ours+=(--executors 1)
   local theirs=("$plain" "$job" "$@")
+  measure_both "$job" "$megabytes"
+}
+
+# Measures a job over lines that are generated, and prints its row.
+measure_generated() {
+  local ours=("$program" gen --seed 7 --size 100000)
+  local theirs=("$plain" gen 7 100000)
+  measure_both gen 0.7
+}
+
+# Measures the commands of the arrays ours and theirs, and prints their row.
+measure_both() {
+  local job=$1 megabytes=$2 round
   if ! cmp -s <("${ours[@]}" 2>&1) <("${theirs[@]}" 2>&1); then
     echo "| $job | $megabytes | the outputs differ | | | | |"
     result=1
@@ -90,7 +104,7 @@ print_row() {
   awk -v job="$1" -v mb="$2" \
     -v a="$(median "$scratch/ours")" -v b="$(median "$scratch/theirs")" \
     -v m="$(peak "$scratch/ours")" -v n="$(peak "$scratch/theirs")" 'BEGIN {
-      printf "| %s | %d | %.3f | %.3f | %.2f | %.0f | %.0f |\n",
+      printf "| %s | %s | %.3f | %.3f | %.2f | %.0f | %.0f |\n",
         job, mb, a / 1e6, b / 1e6, a / b, m / 1024, n / 1024
     }'
 }
@@ -122,22 +136,40 @@ measure_save() {
 # Measures a word count by four executors under a fault plan, in the folder that it is called in,
 # and prints its row. What it prints is that of the run without a plan.
 measure_plan() {
-  local plan=$1 round
+  local plan=$1
   shift
   local ours=("$program" run ../../jobs/word_count.spark --executors 4)
-  if ! cmp -s <("${ours[@]}" 2>&1) <("${ours[@]}" "$@" 2>&1); then
-    echo "| $plan | the outputs differ | | |"
+  local others=("${ours[@]}" "$@")
+  measure_others "$plan"
+}
+
+# Measures a job whose slow tasks may get copies, of which one executor makes none, and a job of one
+# task by two executors, of which one waits, each beside the same by one executor without copies.
+measure_words() {
+  local ours=("$program" run ../../jobs/buckets.spark --executors 1)
+  local others=("${ours[@]}" --speculation)
+  measure_others "buckets, --speculation"
+  ours=("$program" run ../../jobs/one_partition.spark --executors 1)
+  others=("$program" run ../../jobs/one_partition.spark --executors 2)
+  measure_others "one_partition, --executors 2"
+}
+
+# Measures the command of the array others beside that of the array ours, and prints its row.
+measure_others() {
+  local name=$1 round
+  if ! cmp -s <("${ours[@]}" 2>&1) <("${others[@]}" 2>&1); then
+    echo "| $name | the outputs differ | | |"
     result=1
     return
   fi
-  rm -f "$scratch/ours" "$scratch/planned"
+  rm -f "$scratch/ours" "$scratch/others"
   for ((round = 0; round < rounds; round++)); do
     measure "$scratch/ours" "${ours[@]}"
-    measure "$scratch/planned" "${ours[@]}" "$@"
+    measure "$scratch/others" "${others[@]}"
   done
-  awk -v plan="$plan" -v a="$(median "$scratch/planned")" -v b="$(median "$scratch/ours")" \
-    -v m="$(peak "$scratch/planned")" 'BEGIN {
-      printf "| %s | %.3f | %.2f | %.0f |\n", plan, a / 1e6, a / b, m / 1024
+  awk -v name="$name" -v a="$(median "$scratch/others")" -v b="$(median "$scratch/ours")" \
+    -v m="$(peak "$scratch/others")" 'BEGIN {
+      printf "| %s | %.3f | %.2f | %.0f |\n", name, a / 1e6, a / b, m / 1024
     }'
 }
 
@@ -174,6 +206,7 @@ cd "$here/data/10"
 make_keys 10
 measure_job few_buckets 10 keys.txt
 measure_job buckets 10 keys.txt
+measure_generated
 
 echo
 echo "| plan | spark_run s | to no plan | spark_run MB |"
@@ -185,6 +218,13 @@ for megabytes in "$@"; do
     measure_plan "$plan, $megabytes MB" --plan "../../plans/$plan.txt"
   done
 done
+
+echo
+echo "| job and words | spark_run s | to the same without | spark_run MB |"
+echo "|---|---|---|---|"
+cd "$here/data/10"
+[ -f lines.txt ] || python3 "$here/make_text.py" 10000000 lines.txt
+measure_words
 
 if ! command -v mawk >/dev/null 2>&1; then
   echo "bench: no table of starts, since there is no mawk" >&2
