@@ -17,9 +17,9 @@ try:
 # Proves the crates, builds the program and runs the example.
 run:
 	@echo "Proves every crate, $(JOBS) at a time and lowest first, then builds the program and runs"
-	@echo "$(EXAMPLE). From nothing it takes some 40 minutes on four processors; what was proved is"
-	@echo "kept, so a second run takes seconds. A line tells each crate that begins or ends, how many"
-	@echo "are left, and the minutes and seconds so far."
+	@echo "$(EXAMPLE). From nothing it takes up to two hours on four processors that share two"
+	@echo "cores; what was proved is kept, so a second run takes seconds. A line tells each crate that"
+	@echo "begins or ends, how many are left, and the minutes and seconds so far."
 	python3 tools/progress.py --jobs $(JOBS)
 	cd crates/spark_run && rt run -- run ../../tools/built.spark
 	cd $(EXAMPLE) && ../../$(PROGRAM) run job.spark
@@ -27,8 +27,8 @@ run:
 # The whole gate, as the merge runs it.
 test:
 	@echo "The whole gate: every proof from nothing, the edits that must fail, the tests, the program"
-	@echo "as two compilers build it, the documents and the examples. It takes more than an hour on"
-	@echo "four processors, where this machine has passed nothing yet."
+	@echo "as two compilers build it, the documents and the examples. It takes more than two hours on"
+	@echo "four processors that share two cores, where this machine has passed nothing yet."
 	bash .ci/run
 
 # Proves and tries all anew, and tells what that took, crate by crate.
