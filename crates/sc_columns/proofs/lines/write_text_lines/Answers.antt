@@ -2,7 +2,7 @@ use Rattle.std.proofs.Common.{◌∙◌, ◌++◌, ap, map, refl, sym}
 use Rattle.sc_value.specs.Datum.{text}
 use Rattle.sc_columns.proofs.FindingLemmas.{found-map}
 use Rattle.sc_columns.proofs.PrintLemmas.{line_written}
-use Rattle.sc_columns.proofs.printing.write_text_lines.Goals as goal
+use Rattle.sc_columns.proofs.lines.write_text_lines.Goals as goal
 
 pub loop-i-preserved : goal.loop-i-preserved
 loop-i-preserved c =
