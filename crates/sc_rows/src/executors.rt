@@ -4,10 +4,11 @@
 
 ghost use Rattle.std.specs.Prelude.{ℕ, ◌≡◌, ◌<◌, All};
 ghost use Rattle.sc_desk.specs.Files.{FilesStand};
+ghost use Rattle.sc_exec.specs.Logging.{HasRoom};
 ghost use Rattle.sc_exec.specs.Workers.{AreInPlace, HasCause};
 ghost use Rattle.sc_exec.specs.Working.{IsFresh};
 ghost use Rattle.sc_exec.specs.declared.lefts.Left.TheVariants as lefts;
-ghost use Rattle.sc_rows.specs.Worlds.{IsOfFirst};
+ghost use Rattle.sc_rows.specs.Worlds.{IsFirstDesk, IsOfFirst};
 ghost use Rattle.sc_staging.specs.Outputs.{output_dir, output_files};
 
 use crate::gates::{Keeper, Kept};
@@ -17,9 +18,10 @@ use crate::world_lines::{WORD_COUNT, desk_of, output_of};
 use sc_desk::{Desk, files_go_on};
 use sc_exec::{Left, Stores, Worker, judge, work_job};
 use sc_files::{Files, MemFiles};
-use sc_ids::ExecId;
+use sc_ids::{ExecId, Generation};
 use sc_lineage::Work;
 use sc_logs::ExecLog;
+use sc_plan::{Order, OrderKind};
 use sc_staging::Output;
 use sc_store::Store;
 use sc_work::{Naming, SharedWork};
@@ -42,11 +44,11 @@ pub enum Lying {
 /// store, and what each says that takes no more; then how the job went by their logs, and how by
 /// logs without entries.
 const PLACES: [(Lying, &str); 2] = [
-    (Lying::InOrder, "JobEnded, JobEnded: Ended, GivenUp"),
+    (Lying::InOrder, "JobEnded\nJobEnded\nEnded, GivenUp"),
     (
         Lying::Backwards,
-        "Stranger(Store(Misplaced { place: 0, found: 1 })), \
-         Stranger(Store(Misplaced { place: 1, found: 0 })): GivenUp, GivenUp",
+        "Stranger(Store(Misplaced { place: 0, found: 1 }))\n\
+         Stranger(Store(Misplaced { place: 1, found: 0 }))\nGivenUp, GivenUp",
     ),
 ];
 
@@ -57,19 +59,37 @@ fn stores_of<W: Naming, R: Abort + AllocGlobal>(
     lying: Lying,
 ) -> Stores<W> {
     work.is_named();
-    work.get().is_sound();
-    let limits = work.get().limits();
+    let executors = work.get().limits().executors;
     let mut locked = Vec::new(rt.alloc());
-    for place in 0..limits.executors {
+    for place in 0..executors {
         let exec = match lying {
             Lying::InOrder => place,
-            Lying::Backwards => limits.executors - 1 - place,
+            Lying::Backwards => executors - 1 - place,
         };
-        let shared = work.share().expect(rt, "memory");
-        let store = Store::make(rt.alloc(), shared, exec, limits.cache).expect(rt, "memory");
+        let store = store_at(rt, work, exec, 0);
         locked.push(Mutex::new(store)).expect(rt, "memory");
     }
     Stores::of(locked)
+}
+
+/// The empty store of an executor at a generation.
+pub fn store_at<W: Naming, R: Abort + AllocGlobal>(
+    rt: &R,
+    work: &SharedWork<W>,
+    exec: ExecId,
+    generation: Generation,
+) -> Store<W> {
+    work.is_named();
+    work.get().is_sound();
+    let shared = work.share().expect(rt, "memory");
+    let cache = work.get().limits().cache;
+    let mut store = Store::make(rt.alloc(), shared, exec, cache).expect(rt, "memory");
+    let _ = store.wipe(Order {
+        exec,
+        number: generation,
+        kind: OrderKind::Drop,
+    });
+    store
 }
 
 /// So many executors of a job, in the order of their numbers, that have written nothing down yet.
@@ -86,9 +106,10 @@ fn crew<R: Abort + AllocGlobal>(rt: &R, executors: u32) -> Vec<Worker>
 }
 
 /// An executor that has written nothing down yet.
-fn fresh<R: Abort + AllocGlobal>(rt: &R, exec: ExecId) -> Worker
+pub fn fresh<R: Abort + AllocGlobal>(rt: &R, exec: ExecId) -> Worker
     ensures fresh { (executors : ℕ) → exec < executors → IsFresh executors result }
     ensures exec { result.log.exec ≡ exec }
+    ensures room { HasRoom result.log }
     ensures left { result.left ≡ lefts.NoMemory }
 {
     Worker {
@@ -98,6 +119,27 @@ fn fresh<R: Abort + AllocGlobal>(rt: &R, exec: ExecId) -> Worker
         },
         left: Left::NoMemory,
     }
+}
+
+/// The first job of a work that has just begun: its desk, its files, and its executors, which have
+/// written nothing down yet.
+pub fn begun<W: Naming, F: Files, R: Abort + AllocGlobal>(
+    rt: &R,
+    work: &SharedWork<W>,
+    files: F,
+) -> (Desk<W>, Output<F>, Vec<Worker>)
+    ensures first { IsFirstDesk W.work result.0 }
+    ensures stand { FilesStand W.work result.0 (output_dir result.1)
+        (output_files F.state result.1) }
+    ensures fresh { All (IsFresh W.work.limits.executors) result.2.items }
+    ensures places { AreInPlace W.work.limits.executors result.2.items }
+{
+    files_go_on();
+    work.is_named();
+    let executors = work.get().limits().executors;
+    let desk = desk_of(rt, work);
+    let output = output_of(rt, work, files);
+    (desk, output, crew(rt, executors))
 }
 
 /// What two executors or more leave of the first job of a work over stores that lie so: its desk,
@@ -113,13 +155,8 @@ pub fn worked_over<
     ensures worked { All (HasCause W.work) result.2.items }
     ensures places { AreInPlace W.work.limits.executors result.2.items }
 {
-    files_go_on();
-    work.is_named();
-    let executors = work.get().limits().executors;
-    let desk = desk_of(rt, work);
-    let output = output_of(rt, work, files);
+    let (desk, output, mut workers) = begun(rt, work, files);
     let stores = stores_of(rt, work, lying);
-    let mut workers = crew(rt, executors);
     let (desk, output) = work_job(
         rt,
         rt.alloc(),
@@ -148,16 +185,15 @@ fn went_over<
     let lefts = lefts_of(rt, workers.as_slice());
     let went = judge(&desk, workers.as_slice());
     let unlogged = judge(&desk, crew(rt, executors).as_slice());
-    format!(in rt.alloc(); "{lefts}: {went:?}, {unlogged:?}").expect(rt, "memory")
+    format!(in rt.alloc(); "{lefts}{went:?}, {unlogged:?}").expect(rt, "memory")
 }
 
-/// What each of these executors says that takes no more tasks.
-fn lefts_of<R: Abort + AllocGlobal>(rt: &R, workers: &[Worker]) -> String {
+/// What each of these executors says that takes no more tasks, line by line.
+pub fn lefts_of<R: Abort + AllocGlobal>(rt: &R, workers: &[Worker]) -> String {
     let mut out = String::new(rt.alloc());
     for worker in workers {
-        let gap = if out.is_empty() { "" } else { ", " };
         let left = worker.left;
-        write!(out, "{gap}{left:?}").expect(rt, "memory");
+        writeln!(out, "{left:?}").expect(rt, "memory");
     }
     out
 }

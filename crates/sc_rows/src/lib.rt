@@ -7,7 +7,8 @@
 //! case fails, what it claims is told. `histories` walks runs under fault plans, `transcripts` the
 //! jobs that `jobs` begins without a script, and `world_lines` worlds step by step. `given` makes a
 //! run whose calls outside may fail. `works` reads the words and files of a case, and `streams`
-//! gives the rows of a node. What the program shows of a run is tested by the cases of `cases/`.
+//! gives the rows of a node. `apart` lets executors look at stores of their own. What the program
+//! shows of a run is tested by the cases of `cases/`.
 //!
 //! Want of memory ends a test by `expect`: a `?` is one more way out, on which all that is held has
 //! to be let go. A loop holds one call, and a table texts or tuples of texts and numbers.
@@ -19,6 +20,8 @@
 
 #[cfg(test)]
 mod alone;
+#[cfg(test)]
+mod apart;
 #[cfg(test)]
 mod calls;
 #[cfg(test)]
@@ -33,6 +36,8 @@ mod copies;
 mod crews;
 #[cfg(test)]
 mod executors;
+#[cfg(test)]
+mod failing_saves;
 #[cfg(test)]
 mod failures;
 #[cfg(test)]
@@ -62,9 +67,13 @@ mod layouts;
 #[cfg(test)]
 mod leaving;
 #[cfg(test)]
+mod lefts;
+#[cfg(test)]
 mod losses;
 #[cfg(test)]
 mod outside;
+#[cfg(test)]
+mod planned_saves;
 #[cfg(test)]
 mod plans;
 #[cfg(test)]

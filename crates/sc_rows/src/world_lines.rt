@@ -263,7 +263,7 @@ fn answers_of<W: Naming, R: Abort + AllocGlobal>(rt: &R, work: Work, lines: Stri
 {
     let mut going = world_of::<W, MemFiles, R>(rt, work, MemFiles::new(rt.alloc()));
     let mut told = replayed(rt, &mut going, lines.as_str());
-    push_results(rt, &going.world, &mut told);
+    push_results(rt, going.world.desk(), &mut told);
     let Going { output, .. } = going;
     push_files(rt, &output.close(), &mut told);
     told
@@ -302,19 +302,15 @@ pub fn push_files<R: Abort + AllocGlobal>(rt: &R, files: &MemFiles, told: &mut S
 }
 
 /// Writes the results that are there.
-pub fn push_results<W: Naming, R: Abort + AllocGlobal>(
-    rt: &R,
-    world: &World<W>,
-    told: &mut String,
-) {
-    let results = results_of(rt, world);
+pub fn push_results<W: Naming, R: Abort + AllocGlobal>(rt: &R, desk: &Desk<W>, told: &mut String) {
+    let results = results_of(rt, desk);
     told.push_str(results.as_str()).expect(rt, "memory");
 }
 
 /// The results that are there, in order, as they are printed.
-fn results_of<W: Naming, R: Abort + AllocGlobal>(rt: &R, world: &World<W>) -> String {
+fn results_of<W: Naming, R: Abort + AllocGlobal>(rt: &R, desk: &Desk<W>) -> String {
     let mut out = Vec::new(rt.alloc());
-    for result in world.desk().results() {
+    for result in desk.results() {
         if let Some(TaskResult::Rows(rows)) = result {
             rows.print_lines(&mut out).expect(rt, "memory");
         }

@@ -1,5 +1,4 @@
 use Rattle.std.proofs.Common.{All, List, subst, sym}
-use Rattle.sc_staging.specs.Outputs.{output_dir, output_files}
 use Rattle.sc_exec.specs.Workers.{AreInPlace, HasCause}
 use Rattle.sc_exec.specs.declared.workers.Worker.{Worker}
 use Rattle.sc_rows.proofs.alone.seen_again.Goals as goal
@@ -13,8 +12,3 @@ pub judge-went-requires-clause-places : goal.judge-went-requires-clause-places
 judge-went-requires-clause-places g c =
     subst (λ (ws : List Worker). AreInPlace g.W.Naming.work.limits.executors ws)
     (sym c.as_slice.ensures.value) c.worked_over-desk.ensures.places
-
-pub run_alone-requires-clause-stand : goal.run_alone-requires-clause-stand
-run_alone-requires-clause-stand g c =
-    c.begun_again-desk.ensures.stand (output_dir c.worked_over-desk.result.1)
-    (output_files g.F.Files.state c.worked_over-desk.result.1) c.worked_over-desk.ensures.stand

@@ -1,4 +1,4 @@
-use Rattle.sc_rows.proofs.world_saves.what_was_staged_is_left_where_a_job_begins_again.Given as goal
+use Rattle.sc_rows.proofs.world_saves.a_job_begins_again_with_nothing_staged.Given as goal
 
 -- the work of the job
 abbrev pub ghosts-told_again : goal.ghosts-told_again
