@@ -2,7 +2,7 @@
 #![tactic(auto)]
 
 use crate::signs::sign_for;
-use crate::tables::SIGNS;
+use crate::tables::{ACTIONS, OPERATIONS, SIGNS};
 use sc_pieces::{Found, Note, Piece, PieceKind, Place, is_among, is_word, strange_in};
 use sc_value::is_number;
 use std::alloc::{AllocError, Global};
@@ -92,9 +92,31 @@ fn piece_fault(alloc: Global, line: &str, piece: Piece, before: Option<Piece>) -
     }
     let why = match sign_for(text) {
         Some(why) => String::from_str(alloc, why)?,
-        None => other_fault(alloc, text)?,
+        None => match method_fault(alloc, text)? {
+            Some(why) => why,
+            None => other_fault(alloc, text)?,
+        },
     };
     Ok(Some(Note::at(piece.place, why)))
+}
+
+/// Why a piece is no token that calls an operation on a node, as other languages do. The name of a
+/// file may end in `.text`.
+fn method_fault(alloc: Global, piece: &str) -> Result<Option<String>, AllocError> {
+    match piece.rsplit_once('.') {
+        Some((node, name)) if is_word(node) && name != "text" && is_done(name) => {
+            let why = format!(in alloc;
+                "`{name}` stands before the node that it reads: {name} {node}"
+            )?;
+            Ok(Some(why))
+        }
+        _ => Ok(None),
+    }
+}
+
+/// Whether a word is an operation or an action.
+fn is_done(word: &str) -> bool {
+    is_among(word, OPERATIONS) || is_among(word, ACTIONS)
 }
 
 /// Whether a piece that isn't quoted is a token.
@@ -104,12 +126,16 @@ fn is_token(piece: &str) -> bool {
 
 /// Why a piece of ASCII is no token.
 fn other_fault(alloc: Global, piece: &str) -> Result<String, AllocError> {
-    let why = if piece.contains('"') {
+    let why = if piece.starts_with('#') {
+        "a comment has a line of its own, which begins with #"
+    } else if piece.contains('"') {
         "a blank is wanted before the quote that begins a text"
     } else if piece.contains('\'') {
         "texts stand in double quotes"
     } else if piece.contains(',') {
         "arguments stand apart by blanks, and not by commas"
+    } else if piece.ends_with(':') {
+        "a function is its expression alone, with `x` for the row"
     } else if piece.starts_with('+') {
         "a number has no plus sign, and a sign stands apart from what it takes"
     } else if is_decimal(piece) {
