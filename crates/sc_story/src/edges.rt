@@ -61,7 +61,7 @@ fn is_read(stage: StagePlace, marks: &[bool]) -> bool {
 }
 
 /// Marks a node and all that it reads without a shuffle.
-fn mark_within(script: &Script, marks: &mut Vec<bool>, node: usize) {
+pub(crate) fn mark_within(script: &Script, marks: &mut Vec<bool>, node: usize) {
     mark(marks, node);
     for back in 0..script.nodes().len() {
         let at = script.nodes().len().saturating_sub(back).saturating_sub(1);

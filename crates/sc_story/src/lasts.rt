@@ -1,8 +1,22 @@
-//! How the last attempt of a task ended.
+//! What was told of attempts, and how the last attempt of a task ended.
 #![tactic(auto)]
 
 use sc_core::Outcome;
-use sc_ids::{ExecId, FailureCause, Loc};
+use sc_ids::{AttemptId, ExecId, FailureCause, Loc};
+
+/// A report of an attempt.
+#[derive(Clone, Copy)]
+pub(crate) struct Report {
+    pub(crate) attempt: AttemptId,
+    pub(crate) outcome: Outcome,
+}
+
+/// A failure that was told, in the job of a number.
+#[derive(Clone, Copy)]
+pub(crate) struct Failure {
+    pub(crate) attempt: AttemptId,
+    pub(crate) cause: FailureCause,
+}
 
 /// How the last attempt of a task ended, as far as it was told.
 #[derive(Clone, Copy)]

@@ -1,25 +1,46 @@
 //! Lines of a fault plan that never came due, or can't.
 #![tactic(auto)]
 
+use crate::again::write_count;
 use crate::jobs::JobPlaces;
+use crate::keys::place_key;
 use crate::listed::Lined;
-use crate::tracks::{Track, place_key};
+use crate::sources::ScriptText;
+use crate::tracks::Track;
 use sc_ids::StageId;
 use sc_lineage::Script;
 use sc_plan::{AttemptPlace, Plan, PlanLine};
-use std::alloc::AllocError;
+use std::alloc::{AllocError, Global};
+
+/// Why no job of a script hands out an attempt.
+#[derive(Clone, Copy)]
+enum Nowhere {
+    /// None has its stage: there are so many.
+    Stage(StageId),
+    /// Its stage doesn't have its partition: it has so many tasks.
+    Partition(u32),
+}
 
 /// Writes a line for each line of a plan that never came due in a run. `lined` has the numbers of
 /// the plan's lines and what they say.
 pub fn write_undue(
+    alloc: Global,
     out: &mut String,
     plan: &Plan,
     lined: &[Lined],
     track: &Track,
+    text: Option<&ScriptText>,
 ) -> Result<(), AllocError> {
+    let jobs = JobPlaces::of(alloc, text)?;
     for (at, line) in plan.lines().iter().enumerate() {
         match attempt_of(*line) {
-            Some(place) => write_unmet(out, lined, at, place, track)?,
+            Some(place) => {
+                let why = match text {
+                    Some(text) => why_nowhere(place, text.script(), &jobs),
+                    None => None,
+                };
+                write_unmet(out, lined, at, place, track, why)?;
+            }
             None => write_waiting(out, lined, at, reports_of(*line), track.told)?,
         }
     }
@@ -63,13 +84,19 @@ fn write_unmet(
     at: usize,
     place: AttemptPlace,
     track: &Track,
+    why: Option<Nowhere>,
 ) -> Result<(), AllocError> {
     let key = place_key(place.stage, place.partition, place.nth);
     if track.places.get(&key).is_some() {
         return Ok(());
     }
-    write_lined(out, lined, at)?;
-    out.push_str("never came due: no such attempt was handed out\n")
+    match why {
+        Some(why) => write_nowhere(out, lined, at, place, why),
+        None => {
+            write_lined(out, lined, at)?;
+            out.push_str("never came due: no such attempt was handed out\n")
+        }
+    }
 }
 
 /// A line that waits for reports, where fewer were told.
@@ -84,10 +111,9 @@ fn write_waiting(
         return Ok(());
     }
     write_lined(out, lined, at)?;
-    write!(
-        out,
-        "never came due: it waits for {wanted} reports, and {told} were told\n"
-    )
+    out.push_str("never came due: it waits for ")?;
+    write_count(out, u64::from(wanted), "report")?;
+    writeln!(out, ", and the run had {told}")
 }
 
 /// Writes a line for each line of a plan that can't come due, since no job of the script has its
@@ -101,60 +127,46 @@ pub fn write_hopeless(
 ) -> Result<(), AllocError> {
     for (at, line) in plan.lines().iter().enumerate() {
         if let Some(place) = attempt_of(*line) {
-            write_no_place(out, lined, at, place, script, jobs)?;
+            if let Some(why) = why_nowhere(place, script, jobs) {
+                write_nowhere(out, lined, at, place, why)?;
+            }
         }
     }
     Ok(())
 }
 
-/// A line whose stage no job has, or whose partition the stage doesn't have.
-fn write_no_place(
-    out: &mut String,
-    lined: &[Lined],
-    at: usize,
-    place: AttemptPlace,
-    script: &Script,
-    jobs: &JobPlaces,
-) -> Result<(), AllocError> {
+/// Why no job of a script hands out an attempt, where that is known.
+fn why_nowhere(place: AttemptPlace, script: &Script, jobs: &JobPlaces) -> Option<Nowhere> {
     match jobs.numbering.node_of(place.stage) {
         Some(node) => match script.counts().get(node as usize) {
-            Some(tasks) if place.partition >= *tasks => {
-                write_no_partition(out, lined, at, place, *tasks)
-            }
-            _ => Ok(()),
+            Some(tasks) if place.partition >= *tasks => Some(Nowhere::Partition(*tasks)),
+            _ => None,
         },
-        None => write_no_stage(out, lined, at, place.stage, jobs.numbering.next()),
+        None => Some(Nowhere::Stage(jobs.numbering.next())),
     }
 }
 
-/// A line whose stage no job has, where there are so many.
-fn write_no_stage(
-    out: &mut String,
-    lined: &[Lined],
-    at: usize,
-    stage: StageId,
-    stages: StageId,
-) -> Result<(), AllocError> {
-    write_lined(out, lined, at)?;
-    writeln!(
-        out,
-        "can't come due: the jobs have {stages} stages, and none {stage}"
-    )
-}
-
-/// A line whose partition its stage doesn't have, which has so many.
-fn write_no_partition(
+/// A line that waits for an attempt that no job hands out.
+fn write_nowhere(
     out: &mut String,
     lined: &[Lined],
     at: usize,
     place: AttemptPlace,
-    tasks: u32,
+    why: Nowhere,
 ) -> Result<(), AllocError> {
-    let stage = place.stage;
-    let partition = place.partition;
     write_lined(out, lined, at)?;
-    writeln!(
-        out,
-        "can't come due: stage {stage} has {tasks} tasks, and none {partition}"
-    )
+    out.push_str("can't come due: ")?;
+    match why {
+        Nowhere::Stage(0) => return out.push_str("the script has no action\n"),
+        Nowhere::Stage(stages) => {
+            out.push_str("the jobs have ")?;
+            write_count(out, u64::from(stages), "stage")?;
+        }
+        Nowhere::Partition(tasks) => {
+            let stage = place.stage;
+            write!(out, "stage {stage} has ")?;
+            write_count(out, u64::from(tasks), "task")?;
+        }
+    }
+    out.push_str(", numbered from 0\n")
 }

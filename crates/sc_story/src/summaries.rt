@@ -2,19 +2,38 @@
 #![tactic(auto)]
 
 use crate::again::{write_again, write_count};
+use crate::keepers::CacheUses;
 use crate::tracks::Track;
 use std::alloc::AllocError;
 
-/// Writes what a run did: jobs, stages, tasks, reports, and what ran again. `given_up` is how many
-/// jobs were given up by their executors.
-pub fn write_summary(out: &mut String, track: &Track, given_up: u64) -> Result<(), AllocError> {
-    if track.jobs == 0 {
-        return out.push_str("  no job was begun\n");
+/// The jobs that their executors gave up.
+#[derive(Clone, Copy)]
+pub struct GivenUp {
+    /// How many of them were run again.
+    pub run_again: u64,
+    /// How many of them were not, which ended the run.
+    pub left: u64,
+}
+
+/// Writes what a run did: jobs, stages, tasks, reports, where it is known what was cached and used,
+/// what ran again, and what was given up.
+pub fn write_summary(
+    out: &mut String,
+    track: &Track,
+    uses: Option<CacheUses>,
+    given_up: GivenUp,
+) -> Result<(), AllocError> {
+    let GivenUp { run_again, left } = given_up;
+    if track.jobs > 0 {
+        write_counts(out, track)?;
+        write_uses(out, uses)?;
+        write_again(out, track.reasons.as_slice())?;
+        write_attempts(out, track)?;
+    } else if left == 0 {
+        out.push_str("  no job was begun\n")?;
     }
-    write_counts(out, track)?;
-    write_again(out, track.reasons.as_slice())?;
-    write_attempts(out, track)?;
-    write_given_up(out, given_up)
+    write_given_up(out, run_again, ", and run again by the driver alone\n")?;
+    write_given_up(out, left, ", and not begun again\n")
 }
 
 /// Writes how many jobs, stages, tasks and reports there were.
@@ -33,14 +52,29 @@ fn write_counts(out: &mut String, track: &Track) -> Result<(), AllocError> {
     Ok(())
 }
 
-/// Writes how many jobs were given up, where there are any.
-fn write_given_up(out: &mut String, jobs: u64) -> Result<(), AllocError> {
+/// Writes how often cached partitions were used, and how often such were computed, where that is
+/// known and some were.
+fn write_uses(out: &mut String, uses: Option<CacheUses>) -> Result<(), AllocError> {
+    match uses {
+        Some(uses) if uses.used > 0 || uses.computed > 0 => {
+            let computed = uses.computed;
+            out.push_str("  ")?;
+            write_count(out, uses.used, "cached partition")?;
+            writeln!(out, " used, and {computed} computed")
+        }
+        _ => Ok(()),
+    }
+}
+
+/// Writes how many jobs were given up, and what became of them, where there are any.
+fn write_given_up(out: &mut String, jobs: u64, end: &str) -> Result<(), AllocError> {
     if jobs == 0 {
         return Ok(());
     }
     out.push_str("  ")?;
     write_count(out, jobs, "job")?;
-    out.push_str(" given up by the executors, and run again by the driver alone\n")
+    out.push_str(" given up by the executors")?;
+    out.push_str(end)
 }
 
 /// Writes which stages had more than one attempt.

@@ -1,26 +1,14 @@
 //! The entries of a run, walked from the first to the last.
 #![tactic(auto)]
 
-use crate::lasts::{Last, Reason};
+use crate::keys::{place_key, task_key};
+use crate::lasts::{Failure, Last, Reason, Report};
+use crate::outs::Outs;
 use sc_core::{Answer, Entry, Event, JobHistory, Outcome};
-use sc_ids::{AttemptId, ExecId, FailureCause, StageId};
+use sc_ids::{AttemptId, ExecId, StageId};
 use sc_plan::Plan;
 use std::alloc::{AllocError, Global};
 use std::collections::BTreeMap;
-
-/// A report of an attempt.
-#[derive(Clone, Copy)]
-pub(crate) struct Report {
-    pub(crate) attempt: AttemptId,
-    pub(crate) outcome: Outcome,
-}
-
-/// A failure that was told, in the job of a number.
-#[derive(Clone, Copy)]
-pub(crate) struct Failure {
-    pub(crate) attempt: AttemptId,
-    pub(crate) cause: FailureCause,
-}
 
 /// What the entries so far tell.
 #[derive(Drop)]
@@ -43,6 +31,8 @@ pub struct Track {
     pub(crate) places: BTreeMap<u128, u64>,
     /// How the last attempt of each task ended, by stage and partition.
     lasts: BTreeMap<u64, Last>,
+    /// The attempts of the job that are out.
+    outs: Outs,
     /// The reports of the job that were put off, by their keys.
     shelf: Vec<Report>,
 }
@@ -59,24 +49,9 @@ pub fn tracked(alloc: Global, history: &[JobHistory], plan: &Plan) -> Result<Tra
     }
 }
 
-/// The key of a task.
-fn task_key(attempt: AttemptId) -> u64 {
-    u64::from(attempt.stage)
-        .wrapping_mul(4_294_967_296)
-        .wrapping_add(u64::from(attempt.partition))
-}
-
-/// The key of an attempt, whichever attempt of its stage it is in.
-pub(crate) fn place_key(stage: StageId, partition: u32, nth: u32) -> u128 {
-    u128::from(stage)
-        .wrapping_mul(18_446_744_073_709_551_616)
-        .wrapping_add(u128::from(partition).wrapping_mul(4_294_967_296))
-        .wrapping_add(u128::from(nth))
-}
-
 impl Track {
     /// Nothing yet.
-    fn begin(alloc: Global) -> Track {
+    pub(crate) fn begin(alloc: Global) -> Track {
         Track {
             jobs: 0,
             tasks: 0,
@@ -87,6 +62,7 @@ impl Track {
             lost: Vec::new(alloc),
             places: BTreeMap::new(alloc),
             lasts: BTreeMap::new(alloc),
+            outs: Outs::none(alloc),
             shelf: Vec::new(alloc),
         }
     }
@@ -97,14 +73,19 @@ impl Track {
             self.jobs = self.jobs.saturating_add(1);
             self.told = job.end.told();
             self.shelf.clear();
-            self.read_job(job, plan)?;
+            self.outs.clear();
+            self.read_entries(job.entries.as_slice(), plan)?;
         }
         Ok(())
     }
 
     /// Reads the entries of a job.
-    fn read_job(&mut self, job: &JobHistory, plan: &Plan) -> Result<(), AllocError> {
-        for entry in job.entries.as_slice() {
+    pub(crate) fn read_entries(
+        &mut self,
+        entries: &[Entry],
+        plan: &Plan,
+    ) -> Result<(), AllocError> {
+        for entry in entries {
             self.read(entry, plan)?;
         }
         Ok(())
@@ -119,10 +100,7 @@ impl Track {
                 self.post(report, &entry.answer, plan.twice(&attempt))
             }
             Event::Release { key } => self.release(key, &entry.answer),
-            Event::TellLost { exec } => {
-                self.lost.push(exec)?;
-                Ok(())
-            }
+            Event::TellLost { exec } => self.lose(exec),
             Event::Side(_) => Ok(()),
         }
     }
@@ -154,6 +132,7 @@ impl Track {
         let reason = self.reason(key, number);
         self.reasons.push(reason)?;
         self.lasts.insert(key, Last::Out(number, exec))?;
+        self.outs.push(attempt, exec)?;
         self.stages.insert(attempt.stage, number.saturating_add(1))?;
         let place = place_key(attempt.stage, attempt.partition, attempt.nth);
         self.places.insert(place, number)?;
@@ -209,8 +188,38 @@ impl Track {
         Ok(())
     }
 
+    /// An executor is told lost. A task of which another attempt has failed meanwhile waits for
+    /// the one that is out there no more.
+    fn lose(&mut self, exec: ExecId) -> Result<(), AllocError> {
+        for at in 0..self.outs.len() {
+            if let Some(attempt) = self.outs.nth_on(at, exec) {
+                let key = task_key(attempt);
+                if self.is_newest(attempt) && self.has_failed(key) {
+                    let number = attempt.stage_attempt;
+                    self.lasts.insert(key, Last::Out(number, exec))?;
+                }
+            }
+        }
+        self.lost.push(exec)?;
+        Ok(())
+    }
+
+    /// Whether an attempt is of the newest attempt of its stage.
+    fn is_newest(&self, attempt: AttemptId) -> bool {
+        match self.stages.get(&attempt.stage) {
+            Some(attempts) => *attempts == attempt.stage_attempt.saturating_add(1),
+            None => false,
+        }
+    }
+
+    /// Whether the last that was told of the task of a key is that an attempt of it failed.
+    fn has_failed(&self, key: u64) -> bool {
+        matches!(self.lasts.get(&key), Some(Last::Failed(_)))
+    }
+
     /// A report is told.
     fn tell(&mut self, report: Report, answer: &Answer) -> Result<(), AllocError> {
+        self.outs.remove(report.attempt);
         if is_void(answer) {
             return Ok(());
         }

@@ -1,7 +1,7 @@
 //! What is told of a run.
 #![tactic(auto)]
 
-use crate::endings::{Ending, write_ending};
+use crate::endings::{HowEnded, write_ending};
 use crate::known::Known;
 use crate::reads::{plan_bytes, script_bytes, text_of};
 use crate::words::Asked;
@@ -10,11 +10,12 @@ use sc_core::JobHistory;
 use sc_ids::Limits;
 use sc_mistakes::explain_script;
 use sc_misuse::{explain_plan, explain_words};
-use sc_plan::{Plan, PlanFault};
+use sc_plan::PlanFault;
 use sc_read::Read;
 use sc_script::ScriptFault;
 use sc_story::{
-    Track, lined_plan, write_abort, write_history, write_summary, write_undue, write_unread,
+    Aborted, CacheUses, GivenUp, Lined, cache_uses, lined_plan, write_abort, write_history,
+    write_summary, write_undue, write_unread,
 };
 use sc_words::{Command, read_words};
 use std::alloc::{AllocError, Global};
@@ -23,13 +24,15 @@ use std::alloc::{AllocError, Global};
 #[derive(Drop)]
 pub struct Told<'a> {
     /// How it ended.
-    pub ending: Ending<'a>,
+    pub ending: HowEnded<'a>,
     /// What it read.
     pub read: &'a [Read],
     /// How its jobs went.
     pub history: &'a [JobHistory],
-    /// How many jobs were given up.
+    /// How many jobs their executors gave up.
     pub given_up: u64,
+    /// How many of these were run again.
+    pub run_again: u64,
 }
 
 /// What helps behind the line of a status.
@@ -56,8 +59,8 @@ pub fn leaves(alloc: Global, told: &Told<'_>) -> Result<String, AllocError> {
 /// What helps behind a command.
 fn tell_command(alloc: Global, command: &Command, told: &Told<'_>) -> Result<String, AllocError> {
     match &told.ending {
-        Ending::Script(fault) => tell_script(alloc, command, told.read, *fault),
-        Ending::Plan(fault) => tell_plan(alloc, command, told.read, *fault),
+        HowEnded::Script(fault) => tell_script(alloc, command, told.read, *fault),
+        HowEnded::Plan(fault) => tell_plan(alloc, command, told.read, *fault),
         _ => tell_run(alloc, command.limits, told),
     }
 }
@@ -128,31 +131,62 @@ fn write_known(
 ) -> Result<(), AllocError> {
     let text = known.text.as_ref();
     let track = &known.track;
-    if let Ending::Aborted(abort) = &told.ending {
-        write_abort(alloc, out, *abort, told.history, track, text, limits)?;
+    let plan = &known.plan;
+    let lined = lines_of_plan(alloc, told.read)?;
+    let lined = lined.as_slice();
+    if let HowEnded::Aborted(abort) = &told.ending {
+        let aborted = Aborted {
+            abort: *abort,
+            history: told.history,
+            track,
+            text,
+            limits,
+            plan,
+            lined,
+            read: told.read,
+        };
+        write_abort(alloc, out, aborted)?;
     }
     write_ending(out, &told.ending, text)?;
-    write_summary(out, track, told.given_up)?;
-    write_waiting(alloc, out, told.read, &known.plan, track)?;
+    let uses = uses_in(alloc, limits, told, known)?;
+    write_summary(out, track, uses, given_up(told))?;
+    write_undue(alloc, out, plan, lined, track, text)?;
     match text {
         Some(text) => write_unread(alloc, out, text),
         None => Ok(()),
     }
 }
 
-/// Writes which lines of the plan never came due.
-fn write_waiting(
+/// How often cached partitions were used, where that is known: an executor whose job was given up
+/// begins anew with nothing kept.
+fn uses_in(
     alloc: Global,
-    out: &mut String,
-    read: &[Read],
-    plan: &Plan,
-    track: &Track,
-) -> Result<(), AllocError> {
-    match plan_bytes(read) {
-        Some(bytes) => {
-            let lines = lined_plan(alloc, bytes)?;
-            write_undue(out, plan, lines.as_slice(), track)
+    limits: Limits,
+    told: &Told<'_>,
+    known: &Known,
+) -> Result<Option<CacheUses>, AllocError> {
+    match &known.text {
+        Some(text) if told.given_up == 0 => {
+            let plan = &known.plan;
+            let track = &known.track;
+            cache_uses(alloc, told.history, text, plan, track, limits)
         }
-        None => Ok(()),
+        _ => Ok(None),
+    }
+}
+
+/// The jobs of a run that their executors gave up.
+fn given_up(told: &Told<'_>) -> GivenUp {
+    GivenUp {
+        run_again: told.run_again,
+        left: told.given_up.saturating_sub(told.run_again),
+    }
+}
+
+/// The lines of the plan of a run; none where none was read.
+fn lines_of_plan(alloc: Global, read: &[Read]) -> Result<Vec<Lined>, AllocError> {
+    match plan_bytes(read) {
+        Some(bytes) => lined_plan(alloc, bytes),
+        None => Ok(Vec::new(alloc)),
     }
 }
