@@ -4,7 +4,8 @@
     bench/make_words.py KIND BYTES FILE SEED
 
     words    ten words a line, of 50,000 words of 1 to 12 letters with Zipf's frequencies
-    distinct a key and a value a line: `k` and six digits, nearly every key once
+    distinct a key and a value a line: `k` and six digits, a million keys in turn
+    sixteen  the same with sixteen keys, `k0` to `k15`
     twenty   the same with twenty lines a key
     long     keys of 20 to 40 bytes with common beginnings, four lines a key
     numbers  keys that are numbers, as many as lines, each line one of them by chance
@@ -47,6 +48,11 @@ def distinct(chance: random.Random, size: int):
     return keyed([f"k{n:06}" for n in range(1_000_000)], chance)
 
 
+def sixteen(chance: random.Random, size: int):
+    """Sixteen keys."""
+    return keyed([f"k{n}" for n in range(16)], chance)
+
+
 def twenty(chance: random.Random, size: int):
     """Short keys, twenty lines each."""
     count = min(max(size // LINE // 20, 1), 1_000_000)
@@ -68,7 +74,7 @@ def numbers(chance: random.Random, size: int):
         yield f"{chance.randrange(count)} {chance.randrange(1000)}"
 
 
-KINDS = {kind.__name__: kind for kind in (words, distinct, twenty, long, numbers)}
+KINDS = {kind.__name__: kind for kind in (words, distinct, sixteen, twenty, long, numbers)}
 
 
 def main() -> None:

@@ -14,10 +14,13 @@
 # script without inputs, beside the start of mawk.
 #
 # It needs the built program, rustc, python3 and GNU time, mawk for the last table, and room for the
-# inputs in bench/data. Ends with 1 where outputs differed.
+# inputs in bench/data. Ends with 1 where outputs differed. bench/threads.sh measures it beside Rust
+# that is written for speed, and bench/peers.sh beside other programs.
 set -eu
 
 here=$(cd "$(dirname "$0")" && pwd)
+# shellcheck source=bench/measure.sh
+. "$here/measure.sh"
 program=${SPARK_RUN:-$here/../crates/spark_run/out/spark_run}
 plain=$here/rust/target/plain
 jobs=(concat sums pairs choice lengths pipeline lineage repeated cached word_count sum_by_key)
@@ -36,16 +39,6 @@ rustc -O -o "$plain" "$here/rust/main.rs"
 scratch=$(mktemp -d)
 trap 'rm -rf "$scratch"' EXIT
 
-# Runs a command: its wall time in microseconds and its peak memory in KB are added to a file.
-measure() {
-  local file=$1 from to
-  shift
-  from=${EPOCHREALTIME/[.,]/}
-  /usr/bin/time -o "$scratch/peak" -f %M "$@" >/dev/null
-  to=${EPOCHREALTIME/[.,]/}
-  echo "$((to - from)) $(tail -n 1 "$scratch/peak")" >>"$file"
-}
-
 # Runs a command many times: the wall time of one run in microseconds is added to a file.
 measure_start() {
   local file=$1 from to i
@@ -54,16 +47,6 @@ measure_start() {
   for ((i = 0; i < starts; i++)); do "$@" >/dev/null; done
   to=${EPOCHREALTIME/[.,]/}
   echo "$(((to - from) / starts)) 0" >>"$file"
-}
-
-# The median wall time of the runs in a file, in microseconds.
-median() {
-  sort -n "$1" | awk '{ wall[NR] = $1 } END { print wall[int((NR + 1) / 2)] }'
-}
-
-# The most memory of the runs in a file, in KB.
-peak() {
-  awk '$2 > most { most = $2 } END { print most }' "$1"
 }
 
 # Measures a job over some files of a size in the folder that it is called in, and prints its row.

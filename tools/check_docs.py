@@ -20,7 +20,13 @@ Prints one line a place, 'FILE:LINE: what is wrong', and ends with 1 where it fo
 - a group or a crate of crates.txt that ARCHITECTURE.md or README.md lacks;
 - the word "today" in a document, but for README.md between its marks;
 - a line of code, clauses, definitions or proofs past 100 columns, but for imports;
+- a release that spark_story prints and that isn't the newest of CHANGELOG.md;
+- a name of an operation, an action or a head that sc_mistakes has and sc_script hasn't, or the
+  other way round, in its lists of names or in what it says that each takes;
 - a history.txt of an example that no test of sc_rows has word for word;
+- a word of scripts that sc_script reads and a table of sc_mistakes lacks, or the other way round;
+- a place of the worked examples in docs/TESTING.md whose file isn't there or lacks the words that
+  are said to stand in it;
 - a list in a document that the crates don't bear out: those of docs/READING.md, of docs/TESTING.md
   and of CONTRIBUTING.md. `make docs` brings all of them up to date.
 """
@@ -37,6 +43,7 @@ import refresh_reading
 import refresh_testing
 import where
 from crate_files import Crates
+from doc_places import Fault, Files, word_faults, worked_faults
 
 LABEL = re.compile(r"\b(?:[DNSTWRC][0-9]{1,2}|(?:paper|rung|demand|request) [0-9]{1,2})\b")
 CODE_SPAN = re.compile(r"`([^`\n]+)`")
@@ -64,13 +71,13 @@ LINK = re.compile(r"\]\(([^)\s]+)\)")
 HEADING = re.compile(r"#+ (.*)")
 QUOTE = re.compile(r"```\w+ (crates/\S+)")
 LEFT_OUT = "// .."
+RELEASE = re.compile(r'const RELEASE: &str = "([^"]*)";')
+NEWEST = re.compile(r"^## \[(\d[^\]]*)\]", re.MULTILINE)
+RELEASE_PAGE = "crates/sc_misuse/src/help.rt"
 CONTENTS_PAGES = ("docs/GUIDE.md", "docs/COOKBOOK.md")
 CODE_LINES = 300
 PAGE_LINES = 40
 COLUMNS = 100
-
-Fault = tuple[str, int, str]
-Files = dict[str, str]
 
 
 def file_names(root: pathlib.Path) -> list[str]:
@@ -368,6 +375,13 @@ def column_faults(files: Files) -> Iterator[Fault]:
                     yield name, number, f"has {len(line)} columns"
 
 
+def release_faults(files: Files) -> Iterator[Fault]:
+    printed = RELEASE.search(files.get(RELEASE_PAGE, ""))
+    newest = NEWEST.search(files.get("CHANGELOG.md", ""))
+    if not printed or not newest or printed.group(1) != newest.group(1):
+        yield RELEASE_PAGE, 1, "prints another release than the newest of CHANGELOG.md"
+
+
 def history_faults(files: Files) -> Iterator[Fault]:
     tests = [text for name, text in files.items() if name.startswith("crates/sc_rows/src/")]
     for name, text in files.items():
@@ -423,7 +437,10 @@ def main() -> int:
         crate_faults,
         today_faults,
         column_faults,
+        release_faults,
         history_faults,
+        worked_faults,
+        word_faults,
     )
     found = [fault for faults in of_files for fault in faults(files)]
     found += list_faults(Crates(root))

@@ -16,6 +16,9 @@
 #   the exit status       with NAME_expect_status.txt, or with 0
 #   what was saved        with the folders of NAME_expect_saved, where that is there
 #
+# Where there is links.txt, the copy has the symbolic links of its lines before the first case: a
+# line is the link's name and where it leads. The repository itself holds none, which rt refuses.
+#
 # and for the case job with expect.txt and so on. Where there is output.txt, the standard output of
 # the case job goes to the file that it names, such as /dev/full, and isn't compared; the case is
 # skipped where the system has no such file.
@@ -91,10 +94,18 @@ unsaved() {
   done
 }
 
+# Makes the links that the current folder's list names.
+make_links() {
+  local name to
+  [ -f links.txt ] || return 0
+  while read -r name to; do ln -s "$to" "$name"; done <links.txt
+}
+
 result=0
 for folder in "$top"/examples/*/; do
   cp -r "$folder" "$scratch/run"
   cd "$scratch/run" || exit 1
+  make_links
   for name in $(cases); do
     found=$(difference "$name")
     echo "examples/$(basename "$folder") $name: ${found:-as expected}"

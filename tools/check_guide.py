@@ -6,7 +6,7 @@ what they print with what the pages say.
 
 In each part of the page, from one heading to the next, a block ```text NAME is a file, and in a
 block ```console each line '$ COMMAND' is run by bash in a folder that has these files, with
-spark_run on its path; the lines below it are its output and its errors. A line '$ cat NAME' of a
+spark_run and spark_story on its path; the lines below it are its output and its errors. A line '$ cat NAME' of a
 file that isn't there makes it of the lines below.
 
 A row of a table | expression | x | prints | is a script of its own: the expression over one row.
@@ -14,9 +14,9 @@ Its last cell is the printed text, 'raises' and the raise, or 'refused' and the 
 row of a table | Script | Fault | has the lines of a script, and its fault as 'line 2, `Twice`'; 'a
 blank line' stands for one, and rows that begin otherwise are told in words and not run.
 
-Prints a line for each place that differs, and ends with 1 where one does. The program is
-crates/spark_run/out/spark_run, or the file that SPARK_RUN names; where there is none it says so and
-ends with 0.
+Prints a line for each place that differs, and ends with 1 where one does. The programs are
+crates/spark_run/out/spark_run and crates/spark_story/out/spark_story, or files of these names that
+SPARK_RUN and SPARK_STORY name; where one isn't there it says so and ends with 0.
 """
 import os
 import pathlib
@@ -41,14 +41,14 @@ LIMIT = 60
 class Page:
     """A page that is being checked."""
 
-    def __init__(self, path: pathlib.Path, program: pathlib.Path) -> None:
+    def __init__(self, path: pathlib.Path, folders: list[pathlib.Path]) -> None:
         self.lines = path.read_text(encoding="utf-8").splitlines()
-        self.program = program
+        self.folders = folders
         self.checked = 0
 
     def run(self, folder: str, command: str) -> tuple[int, str]:
         """The status of a command, and what it printed on both outputs."""
-        paths = f"{self.program.parent}{os.pathsep}{os.environ['PATH']}"
+        paths = os.pathsep.join([*map(str, self.folders), os.environ["PATH"]])
         ran = subprocess.run(
             ["bash", "-c", command],
             cwd=folder,
@@ -139,18 +139,23 @@ class Page:
         return self.run(folder, "spark_run run row.spark")
 
 
+def built(top: pathlib.Path, name: str) -> pathlib.Path:
+    """The program of a name: the built one, or the one that a variable such as SPARK_RUN names."""
+    return pathlib.Path(os.environ.get(name.upper(), top / f"crates/{name}/out/{name}")).resolve()
+
+
 def main() -> int:
     top = pathlib.Path(__file__).resolve().parent.parent
     paths = [pathlib.Path(it) for it in sys.argv[1:]]
     paths = paths or [top / name for name in PAGES]
-    built = top / "crates/spark_run/out/spark_run"
-    program = pathlib.Path(os.environ.get("SPARK_RUN", built)).resolve()
-    if not os.access(program, os.X_OK):
-        print(f"check_guide: skipped, since {program} isn't built")
-        return 0
+    programs = [built(top, "spark_run"), built(top, "spark_story")]
+    for program in programs:
+        if not os.access(program, os.X_OK):
+            print(f"check_guide: skipped, since {program} isn't built")
+            return 0
     result = 0
     for path in paths:
-        page = Page(path, program)
+        page = Page(path, [program.parent for program in programs])
         found = list(page.faults())
         for number, fault in found:
             print(f"{path}:{number}: {fault}")

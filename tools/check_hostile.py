@@ -71,6 +71,7 @@ CHECKS: tuple[Callable[[Place], Iterator[str]], ...] = (
     names.a_folder_that_may_not_be_written_in_gets_nothing,
     repeats.what_is_generated_is_the_same_with_one_executor_and_with_four,
     repeats.a_slow_attempt_may_get_a_copy,
+    repeats.a_hundred_thousand_jobs_leave_no_thread_and_no_memory_behind,
 )
 LONG = (inputs.a_file_has_one_gibibyte_at_most,)
 

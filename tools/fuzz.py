@@ -2,7 +2,7 @@
 """Runs random scripts under random fault plans, and compares with the plain meaning.
 
     tools/fuzz.py PROGRAM [--seed SEED] [--count COUNT] [--times TIMES] [--executors LEAST MOST]
-                  [--saving] [--counted] [--told] [--mutate] [--keep FOLDER] [--show]
+                  [--saving] [--surviving] [--counted] [--told] [--mutate] [--keep FOLDER] [--show]
 
 PROGRAM is a built one, such as crates/spark_run/out/spark_run. A case is made of each of the seeds
 SEED, SEED + 1 and so on: a script with inputs, a plan, and words that set executors and limits, the
@@ -27,12 +27,16 @@ the script has become, which must print what it means. No such run may take more
 the processor. One whose text would be too large to compare has to end with a status of a run, if it
 ends within LIMIT seconds, and one that would leave its folder isn't run.
 
+With --surviving no action raises or is refused, and the limits leave room for what the plan does:
+it spares an executor, it has fewer losses than attempts of a stage may fail, and of each partition
+fewer 'fail' lines than failures are allowed. Each such run has to end with 0.
+
 Each case is run TIMES times (1), with LEAST to MOST executors where these are said, and with
 --saving only where it saves under a plan that says something. With --counted PROGRAM ends its
 standard error with a line such as '0 given up, 3 jobs', which says what became of its jobs: none
 may be given up. The built program has no such line; a scratch one that prints the length of `run`'s
-`gave_up` does. With --told PROGRAM is spark_story, and of its standard error the lines that begin
-with two blanks aren't compared.
+`gave_up` does. With --told PROGRAM is spark_story: of its standard error the lines that begin with
+two blanks aren't compared, but they too have to count the jobs, and none that was given up.
 
 Prints a paragraph for each run that differs, with its seed, and at the end how many runs ended
 with which status, and the sums of what was counted. Ends with 1 where one differs. With --keep the
@@ -164,6 +168,7 @@ def words_of_main() -> argparse.Namespace:
     parser.add_argument("--times", type=int, default=1)
     parser.add_argument("--executors", type=int, nargs=2, metavar=("LEAST", "MOST"))
     parser.add_argument("--saving", action="store_true", help="only cases that save under a plan")
+    parser.add_argument("--surviving", action="store_true", help="only plans to be survived")
     parser.add_argument("--counted", action="store_true", help="PROGRAM counts what was given up")
     parser.add_argument("--told", action="store_true", help="PROGRAM is spark_story")
     parser.add_argument("--mutate", action="store_true")
@@ -181,8 +186,9 @@ def tell(seed: int, case: Case, ran: Ran, found: str) -> None:
 def cases(words: argparse.Namespace) -> Iterator[tuple[int, Case]]:
     """The cases that the words ask for, each with its seed."""
     for seed in range(words.seed, words.seed + words.count):
+        executors, surviving = words.executors, words.surviving
         try:
-            case = mutated_case(seed) if words.mutate else random_case(seed, words.executors)
+            case = mutated_case(seed) if words.mutate else random_case(seed, executors, surviving)
         except Unjudged:
             continue
         if not words.saving or (case.plan and case.saves()):
@@ -221,14 +227,15 @@ class Tally:
 def tried(words: argparse.Namespace, case: Case, jobs: Counter[str]) -> tuple[Ran, str]:
     """A run of a case, and what is wrong with it. Adds what it counts."""
     ran, found = run(words.program.resolve(), case), ""
-    if words.told:
-        ran = without_told(ran)
-    if words.counted:
-        ran, counts = without_counts(ran)
+    if words.told or words.counted:
+        ran, counts = without_told(ran) if words.told else without_counts(ran)
         jobs.update(counts or {})
-        if counts is None or counts["given up"]:
+        is_silent = counts is None and (ran.status in RAN or words.counted)
+        if is_silent or (counts and counts["given up"]):
             found = "a job was given up, or nothing is told of it"
     found = wrong(case, ran) or found
+    if words.surviving and ran.status:
+        found = found or "it isn't 0, and the limits leave room for what the plan does"
     if words.mutate and not case.is_large and ran.seconds > MOST_SECONDS:
         found = found or f"it took {ran.seconds:.1f} seconds"
     return ran, found

@@ -43,6 +43,7 @@ PROMISES = (
     Promise("what 0 means", "zero", ("headline",)),
     Promise("what each status means, and what stands", "each", ("ends", "histories")),
     Promise("what comes of a good run", "good", ("good",)),
+    Promise("what it survives", "survives", ("survives",)),
     Promise("what else is said of a run", "else"),
 )
 

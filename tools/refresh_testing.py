@@ -10,8 +10,8 @@ the clauses of that function, which the changed body can't keep. The bodies that
 are those of edits/give_ups.txt.
 
 Prints a line for an edit whose old text doesn't stand in its file exactly once, for a crate with
-more than EDITS of them, and for what tools/try_give_ups.py finds, and ends with 1 where it printed
-one. With --check it writes nothing,
+more than EDITS of them, where sc_rows has more than TESTS tests, and for what
+tools/try_give_ups.py finds, and ends with 1 where it printed one. With --check it writes nothing,
 and tells whether the page would change.
 """
 import argparse
@@ -31,6 +31,7 @@ CONSTANT = re.compile(r"^(?:pub(?:\([^)]*\))? )?const (\w+)")
 TEST = re.compile(r"#\[test\]\s*(?:#\[[^\]]*\]\s*)*fn (\w+)")
 CLAIM = re.compile(r"^== (\w+)$", re.MULTILINE)
 EDITS = 4
+TESTS = 80
 WIDTH = 100
 ENSURES = re.compile(r"^\s*ensures (\w*) ?\{")
 
@@ -127,21 +128,25 @@ def case_lists(crates: Crates) -> list[str]:
     return lines
 
 
-def test_lists(crates: Crates) -> list[str]:
+def test_lists(crates: Crates, faults: list[str]) -> list[str]:
     """The tests of sc_rows, module by module."""
     lines: list[str] = []
+    count = 0
     for path in crates.files("sc_rows/src/*.rt"):
         text = crates.text(path)
         names = TEST.findall(text)
+        count += len(names)
         if names:
             lines += entry(pathlib.Path(path).stem, subject(text, "//!"), names)
+    if count > TESTS:
+        faults.append(f"crates/sc_rows/src: has {count} tests, and {TESTS} serve")
     return lines
 
 
 def refreshed(crates: Crates, page: str, faults: list[str]) -> str:
     """The page as it should be."""
     page = between(page, "cases", case_lists(crates))
-    page = between(page, "tests", test_lists(crates))
+    page = between(page, "tests", test_lists(crates, faults))
     faults += try_give_ups.faults(crates.root)
     page = between(page, "give-ups", list(try_give_ups.table(crates.root)))
     return between(page, "edits", edit_tables(crates, faults))

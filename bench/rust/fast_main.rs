@@ -1,90 +1,69 @@
-//! The jobs by text keys in Rust that is written for speed, on one thread and with std alone:
-//! `fast JOB FILE` prints what the script of that job prints.
+//! The jobs in Rust that is written for speed, with std alone: `fast THREADS JOB FILE..` prints what
+//! the script of that job prints, from its one file or its two.
 //!
-//! Keys of up to 15 bytes lie in the slots of a table, and rows are sorted by a number that is made
-//! of the first bytes of the key.
+//! A thread makes one pass over its slice of the lines. Text keys of up to 15 bytes lie in the slots
+//! of a table, rows are sorted by a number that is made of the first bytes of the key, and rows by
+//! number are grouped in parts that fit a cache. The files have lines as `bench/make_*.py` writes
+//! them: words between single blanks, numbers that aren't below 0, and an end to each line.
 
+mod fast_counts;
+mod fast_groups;
+mod fast_jobs;
+mod fast_keyed;
+mod fast_lines;
+mod fast_save;
 mod fast_sorts;
 mod fast_table;
+mod fast_text;
+mod fast_threads;
 
+use fast_counts::count_job;
+use fast_jobs::{cached, count, group, join, keys, print_lines};
+use fast_keyed::{keyed_job, squares};
+use fast_lines::line_job;
+use fast_save::save;
 use fast_sorts::{sort_numbers, sort_texts};
-use fast_table::Table;
+use fast_text::Text;
+use std::env;
 use std::io::{self, BufWriter, Write};
-use std::{env, fs};
-
-/// How many bytes of zeros stand behind the text, so that eight can be read at any place.
-const PAD: usize = 16;
 
 fn main() -> io::Result<()> {
     let words: Vec<String> = env::args().skip(1).collect();
-    let [job, path] = words.as_slice() else {
+    let [threads, job, paths @ ..] = words.as_slice() else {
         return Err(io::ErrorKind::InvalidInput.into());
     };
-    let mut text = fs::read(path)?;
-    let end = text.len();
-    text.resize(end + PAD, 0);
+    let threads = threads.parse().map_err(io::Error::other)?;
+    let texts = paths
+        .iter()
+        .map(|path| Text::read(path, threads))
+        .collect::<io::Result<Vec<_>>>()?;
     let mut out = BufWriter::with_capacity(1 << 16, io::stdout().lock());
-    match job.as_str() {
-        "word_count" => word_count(&text, end, &mut out)?,
-        "sum_by_key" => sum_by_key(&text, end, &mut out)?,
-        "sort_texts" => sort_texts(&text, end, &mut out)?,
-        "sort_numbers" => sort_numbers(&text, end, &mut out)?,
+    match texts.as_slice() {
+        [text] => over_one(job, text, threads, &mut out)?,
+        [left, right] if job == "join" => writeln!(out, "{}", join(left, right, threads))?,
         _ => return Err(io::ErrorKind::InvalidInput.into()),
     }
     out.flush()
 }
 
-/// How often each word stands there, and the sum of the squares of that.
-fn word_count(text: &[u8], end: usize, out: &mut impl Write) -> io::Result<()> {
-    let mut table = Table::new(text);
-    let mut from = 0;
-    for i in 0..=end {
-        if i == end || text[i] <= b' ' {
-            if from < i {
-                *table.at(from, i) += 1;
-            }
-            from = i + 1;
-        }
+/// A job over one file.
+fn over_one(job: &str, text: &Text, threads: usize, out: &mut impl Write) -> io::Result<()> {
+    if let Some(job) = line_job(job) {
+        return print_lines(text, job, threads, out);
     }
-    writeln!(out, "{}", squares(table.counts()))
-}
-
-/// The sum of the numbers of each first word, and the sum of the squares of that.
-fn sum_by_key(text: &[u8], end: usize, out: &mut impl Write) -> io::Result<()> {
-    let mut table = Table::new(text);
-    let mut from = 0;
-    while from < end {
-        let row = row(text, from);
-        let sum = table.at(from, row.key_end);
-        *sum = sum.wrapping_add(row.value);
-        from = row.next;
+    if let Some(job) = count_job(job) {
+        return writeln!(out, "{}", count(text, job, threads));
     }
-    writeln!(out, "{}", squares(table.counts()))
-}
-
-fn squares(numbers: impl Iterator<Item = i64>) -> i64 {
-    numbers.fold(0, |sum, n| sum.wrapping_add(n.wrapping_mul(n)))
-}
-
-/// A line of a key and a value.
-struct Row {
-    key_end: usize,
-    value: i64,
-    next: usize,
-}
-
-/// The line that begins somewhere; zeros behind the text end its last line.
-fn row(text: &[u8], from: usize) -> Row {
-    let key_end = from + text[from..].iter().position(|b| *b == b' ').unwrap_or(0);
-    let mut at = key_end + 1;
-    let mut value = 0_i64;
-    while text[at].is_ascii_digit() {
-        value = value * 10 + i64::from(text[at] - b'0');
-        at += 1;
+    if let Some(job) = keyed_job(job) {
+        return writeln!(out, "{}", squares(text, job, threads));
     }
-    Row {
-        key_end,
-        value,
-        next: at + 1,
+    match job {
+        "cached" => cached(text, threads, out),
+        "group" => writeln!(out, "{}", group(text, threads)),
+        "buckets" | "few_buckets" => writeln!(out, "{}", keys(text, threads)),
+        "sort" => sort_numbers(text, threads, out),
+        "sort_texts" => sort_texts(text, threads, out),
+        "save" => save(text, "saved", threads),
+        _ => Err(io::ErrorKind::InvalidInput.into()),
     }
 }

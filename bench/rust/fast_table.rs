@@ -1,5 +1,7 @@
 //! A table of counts by text, with short texts in its slots.
 
+use crate::fast_text::load;
+
 /// How long a text may be that lies in its slot.
 const INLINE: usize = 15;
 /// What stands in place of the length where a text doesn't lie in its slot.
@@ -9,7 +11,7 @@ const SMALLEST: usize = 1 << 12;
 /// A text as two numbers: its bytes and its length, or where it lies and a part of its hash. No
 /// text is nothing but zeros.
 #[derive(Clone, Copy, PartialEq, Eq)]
-struct Key {
+pub struct Key {
     low: u64,
     high: u64,
 }
@@ -42,15 +44,15 @@ impl<'a> Table<'a> {
         }
     }
 
-    /// The count of the text in a range, which is 0 at first.
-    pub fn at(&mut self, from: usize, to: usize) -> &mut i64 {
+    /// The count of a key, which is 0 at first.
+    #[inline]
+    pub fn at(&mut self, key: Key, hash: u64) -> &mut i64 {
         if self.used * 2 >= self.slots.len() {
             self.grow();
         }
-        let (key, hash) = self.key_of(from, to);
         let mut i = self.place(hash);
         while self.slots[i].key != key && self.slots[i].key != EMPTY.key {
-            if key.high >> 56 == LONG && self.same_long(self.slots[i].key, key) {
+            if key.high >> 56 == LONG && same_long(self.text, self.slots[i].key, key) {
                 return &mut self.slots[i].count;
             }
             i = (i + 1) & (self.slots.len() - 1);
@@ -64,80 +66,84 @@ impl<'a> Table<'a> {
 
     /// All counts.
     pub fn counts(&self) -> impl Iterator<Item = i64> + '_ {
-        self.slots
-            .iter()
-            .filter(|slot| slot.key != EMPTY.key)
-            .map(|slot| slot.count)
+        self.filled().map(|slot| slot.count)
     }
 
-    fn key_of(&self, from: usize, to: usize) -> (Key, u64) {
-        let len = to - from;
-        if len <= INLINE {
-            let low = self.load(from) & mask(len.min(8));
-            let high = self.load(from + 8) & mask(len.saturating_sub(8));
-            let key = Key {
-                low,
-                high: high | (len as u64) << 56,
-            };
-            return (key, mix(key.low, key.high));
+    /// Adds the counts of another table.
+    pub fn add(&mut self, other: &Table) {
+        for slot in other.filled() {
+            let count = self.at(slot.key, hash_of(self.text, slot.key));
+            *count = count.wrapping_add(slot.count);
         }
-        let hash = self.long_hash(from, to);
-        let low = (from as u64) << 32 | len as u64;
-        (
-            Key {
-                low,
-                high: hash >> 8 | LONG << 56,
-            },
-            hash,
-        )
     }
 
-    fn long_hash(&self, from: usize, to: usize) -> u64 {
-        let last = mix(self.load(to - 8), (to - from) as u64);
-        (from..to - 8)
-            .step_by(8)
-            .fold(last, |hash, i| mix(hash ^ self.load(i), 0x9E37_79B9))
-    }
-
-    fn same_long(&self, a: Key, b: Key) -> bool {
-        let range = |key: Key| {
-            let from = (key.low >> 32) as usize;
-            &self.text[from..from + (key.low as u32) as usize]
-        };
-        a.high == b.high && range(a) == range(b)
-    }
-
-    /// Eight bytes as a number.
-    fn load(&self, at: usize) -> u64 {
-        let bytes = &self.text[at..at + 8];
-        u64::from_le_bytes([
-            bytes[0], bytes[1], bytes[2], bytes[3], bytes[4], bytes[5], bytes[6], bytes[7],
-        ])
+    fn filled(&self) -> impl Iterator<Item = &Slot> {
+        self.slots.iter().filter(|slot| slot.key != EMPTY.key)
     }
 
     fn place(&self, hash: u64) -> usize {
         hash as usize & (self.slots.len() - 1)
     }
 
+    #[cold]
     fn grow(&mut self) {
-        let bigger = vec![EMPTY; self.slots.len() * 4];
+        let bigger = vec![EMPTY; self.slots.len() * 2];
         for slot in std::mem::replace(&mut self.slots, bigger) {
             if slot.key == EMPTY.key {
                 continue;
             }
-            let hash = if slot.key.high >> 56 == LONG {
-                let from = (slot.key.low >> 32) as usize;
-                self.long_hash(from, from + (slot.key.low as u32) as usize)
-            } else {
-                mix(slot.key.low, slot.key.high)
-            };
-            let mut i = self.place(hash);
+            let mut i = self.place(hash_of(self.text, slot.key));
             while self.slots[i].key != EMPTY.key {
                 i = (i + 1) & (self.slots.len() - 1);
             }
             self.slots[i] = slot;
         }
     }
+}
+
+/// The key of the text in a range, and its hash.
+#[inline]
+pub fn key_of(text: &[u8], from: usize, to: usize) -> (Key, u64) {
+    let len = to - from;
+    if len > INLINE {
+        let hash = long_hash(text, from, to);
+        let key = Key {
+            low: (from as u64) << 32 | len as u64,
+            high: hash >> 8 | LONG << 56,
+        };
+        return (key, hash);
+    }
+    let high = load(text, from + 8) & mask(len.saturating_sub(8));
+    let key = Key {
+        low: load(text, from) & mask(len.min(8)),
+        high: high | (len as u64) << 56,
+    };
+    (key, mix(key.low, key.high))
+}
+
+/// The range of a key whose text doesn't lie in its slot.
+fn range(key: Key) -> std::ops::Range<usize> {
+    let from = (key.low >> 32) as usize;
+    from..from + (key.low as u32) as usize
+}
+
+fn hash_of(text: &[u8], key: Key) -> u64 {
+    if key.high >> 56 == LONG {
+        let range = range(key);
+        return long_hash(text, range.start, range.end);
+    }
+    mix(key.low, key.high)
+}
+
+fn long_hash(text: &[u8], from: usize, to: usize) -> u64 {
+    let last = mix(load(text, to - 8), (to - from) as u64);
+    (from..to - 8)
+        .step_by(8)
+        .fold(last, |hash, i| mix(hash ^ load(text, i), 0x9E37_79B9))
+}
+
+fn same_long(text: &[u8], a: Key, b: Key) -> bool {
+    a.high == b.high && text[range(a)] == text[range(b)]
 }
 
 /// The lower bytes of a number.

@@ -81,6 +81,14 @@ class Case:
     def loses_all(self) -> bool:
         return len(self.told_losses()) == self.limits["executors"]
 
+    def survives(self) -> bool:
+        """Whether the limits leave room for all that the plan does: an executor is spared, there
+        are fewer losses than attempts of a stage may fail, and of each partition fewer attempts
+        fail than may."""
+        failing = {line[1:3] for line in self.plan if line[0] == "fail"}
+        is_failed = any(self.fails_at(*it) >= self.limits["task-failures"] for it in failing)
+        return not (self.loses_all() or is_failed or self.losses() >= self.limits["stage-attempts"])
+
     def doom(self) -> tuple[int, str] | None:
         """The abort that has to come at the first action, where this can be told from the plan: all
         executors are lost before they get a task, or nothing goes wrong but that the first task
@@ -125,6 +133,26 @@ def random_plan(rng: random.Random, executors: int) -> list[PlanLine]:
     for line in lines:
         said.setdefault(line[: {"lose": 2, "late": 4}.get(str(line[0]), len(line))], line)
     return list(said.values())
+
+
+def surviving_script(rng: random.Random) -> Script:
+    """A script each of whose actions has a text, so nothing that they read raises."""
+    script = random_script(rng)
+    while not script.outcomes or any(outcome.text is None for outcome in script.outcomes):
+        script = random_script(rng)
+    return script
+
+
+def spare(rng: random.Random, case: Case) -> None:
+    """Takes out of a case's plan the lines for which the limits leave no room. Where none is left
+    another plan is made."""
+    lines, case.plan = case.plan, []
+    while not case.plan:
+        for line in lines:
+            case.plan.append(line)
+            if not case.survives():
+                case.plan.pop()
+        lines = random_plan(rng, case.limits["executors"])
 
 
 def plan_text(rng: random.Random, plan: list[PlanLine]) -> str:
@@ -177,11 +205,17 @@ def add_fault(rng: random.Random, case: Case, executors: int) -> None:
         case.refusal = (15, f"not text: {name}\n")
 
 
-def random_case(seed: int, executors: Sequence[int] | None = None) -> Case:
-    """The case of a seed, with so many executors at least and at most where that is said."""
+def random_case(
+    seed: int, executors: Sequence[int] | None = None, surviving: bool = False
+) -> Case:
+    """The case of a seed, with so many executors at least and at most where that is said, and one
+    that has to end with 0 under a plan where that is wanted."""
     rng = random.Random(seed)
-    script, limits = random_script(rng), random_limits(rng, executors)
+    script = surviving_script(rng) if surviving else random_script(rng)
+    limits = random_limits(rng, executors)
     case = Case(script, limits, random_plan(rng, limits["executors"]), files=dict(script.inputs))
+    if surviving:
+        spare(rng, case)
     usual = {"executors": 2, "task-failures": 4, "stage-attempts": 4, "cache": 64}
     for name, number in limits.items():
         if number != usual[name] or rng.random() < 0.1:
@@ -192,7 +226,7 @@ def random_case(seed: int, executors: Sequence[int] | None = None) -> Case:
     if case.plan or rng.random() < 0.2:
         case.files["plan.txt"] = plan_text(rng, case.plan).encode()
         case.words += ["--plan", "plan.txt"]
-    if rng.random() < 0.06:
+    if rng.random() < 0.06 and not surviving:
         add_fault(rng, case, limits["executors"])
     case.words.insert(0 if rng.random() < 0.7 else len(case.words), "job.spark")
     line_end = rng.choice(("\n", "\n", "\n", "\r\n", "\r"))

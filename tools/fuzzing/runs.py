@@ -18,8 +18,9 @@ NO_END = 124
 # What a program tells of its jobs, as the last line of its standard error.
 COUNTS = re.compile(r"\d+ given up(, \d+ [a-z ]+)*\n")
 COUNT = re.compile(r"(\d+) ([a-z ]+)")
-# What spark_story tells of a run on its standard error.
+# What spark_story tells of a run on its standard error, and of its jobs in that.
 TOLD = re.compile(r"(?m)^  .*\n")
+JOBS = re.compile(r"(?m)^  (?:no job was begun|(\d+) jobs?(?:,| (given up) by))")
 
 
 @dataclass(frozen=True)
@@ -92,6 +93,10 @@ def without_counts(ran: Ran) -> tuple[Ran, Counter[str] | None]:
     return replace(ran, err="".join(lines)), counts
 
 
-def without_told(ran: Ran) -> Ran:
-    """A run of spark_story as if by spark_run."""
-    return replace(ran, err=TOLD.sub("", ran.err))
+def without_told(ran: Ran) -> tuple[Ran, Counter[str] | None]:
+    """A run of spark_story as if by spark_run, and what is told of its jobs, if anything is."""
+    told = JOBS.findall(ran.err)
+    counts = Counter({"given up": 0, "jobs": 0})
+    for number, is_given_up in told:
+        counts["given up" if is_given_up else "jobs"] += int(number or 0)
+    return replace(ran, err=TOLD.sub("", ran.err)), counts if told else None

@@ -21,7 +21,7 @@ use Rattle.sc_core.specs.declared.journals.JobHistory.{JobHistory}
 use Rattle.sc_jobs.specs.declared.goals.Goal.{Goal}
 use Rattle.sc_jobs.specs.declared.goals.Goal.TheVariants as goals
 use Rattle.sc_desk.specs.Files.{dir_of_job}
-use Rattle.sc_context.specs.Files.{HaveLeft, LeavesFiles, LeavesIn, StopsIn}
+use Rattle.sc_context.specs.Files.{HaveLeft, LeavesFiles, LeavesIn, StopsIn, begun_tree}
 use Rattle.sc_context.specs.Histories.{HasCome}
 use Rattle.sc_context.specs.Progress.{IsNext, Progress, actions_behind, first_progress}
 use Rattle.sc_context.specs.declared.stops.JobFault.TheVariants as faults
@@ -74,14 +74,14 @@ module _ (laws : SavesAreLawful) (names : NamesLieWithin) (work : WorkData) (ope
         absurd (omega (arith, least, more))
     in-job p (goals.Action number) next tried h before after shown left least more =
         let same : p.actions ≡ k = omega (arith, least, more) in
-        let leaves : LeavesIn (Some dir) work (goals.Action k) h before after =
-        subst (λ d. LeavesIn d work (goals.Action k) h before after)
+        let leaves : LeavesIn (Some dir) work (goals.Action k) tried h before after =
+        subst (λ d. LeavesIn d work (goals.Action k) tried h before after)
         (dir-saved work.script.actions k saves.0 dir saves.1)
         (subst (λ n. LeavesFiles work (goals.Action n) tried h before after) (next.0 ∙ same)
         left).left
         in
-        (was-so (λ t u. (has_dir t dir ≡ false) × IsUnderWay dir t u) before.shown
-        leaves.0.mid.shown (behind k) (shown ∙ ap (λ n. Some (behind n)) same)
+        (was-so (λ t u. (has_dir t dir ≡ false) × IsUnderWay dir (begun_tree tried dir t) u)
+        before.shown leaves.0.mid.shown (behind k) (shown ∙ ap (λ n. Some (behind n)) same)
         leaves.0.way.way).1.0
 
     -- in jobs one behind the other, up to past it
@@ -140,7 +140,7 @@ module _ (laws : SavesAreLawful) (names : NamesLieWithin) (work : WorkData) (ope
       by (dir_of_job work (goals.Action i)) refl ends.over
     where
       by : (d : Option Path) → dir_of_job work (goals.Action i) ≡ d
-          → StopsIn d ends.mid after (Fault (faults.Exists path))
+          → StopsIn work ends.given d ends.mid after (Fault (faults.Exists path))
           → SavesAt work i path × (has_dir (behind i) path ≡ true)
       by None is over = absurd over.1
       by (Some dir) is (inl over) = absurd over.1

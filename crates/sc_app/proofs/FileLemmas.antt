@@ -97,7 +97,7 @@ module _ (laws : SavesAreLawful) (names : NamesLieWithin) (work : WorkData)
   none-exists path ends place = by (dir_of_job work (goals.Action k)) refl ends.over
     where
       by : (d : Option Path) → dir_of_job work (goals.Action k) ≡ d
-          → StopsIn d ends.mid after (Fault (faults.Exists path)) → ⊥
+          → StopsIn work ends.given d ends.mid after (Fault (faults.Exists path)) → ⊥
       by None is over = over.1
       by (Some dir) is (inl over) = over.1
       by (Some dir) is (inr over) = by_place place
@@ -138,12 +138,15 @@ module _ (work : WorkData) (before after : FilesState) (history given_up : List 
         clashes = omega (arith, ends.done.later.clashes, later.clashes);
       }
 
-      by : (d : Option Path) → StopsIn d ends.mid after (Fault (faults.Device path)) → ⊥
+      by : (d : Option Path) → StopsIn work ends.given d ends.mid after (Fault (faults.Device path))
+          → ⊥
       by None over = over.1
       by (Some dir) (inl over) = over.1
       by (Some dir) (inr (later, inl opening)) =
           no_fault (rose-since before.faults ends.mid.faults after.faults
           ends.done.later.faults opening.1.failed)
-      by (Some dir) (inr (later, inr ending)) =
+      by (Some dir) (inr (later, inr (inl ending))) =
           not-done ending.2.mid (later-twice ending.2.mid ending.2.way.later) no_fault place
           ending.2.makes.1
+      by (Some dir) (inr (later, inr (inr again))) =
+          not-done again.mid (later-twice again.mid again.way.later) no_fault place again.not_done

@@ -42,8 +42,8 @@ there run name all (inr (inr next)) missing =
     ) gone
 
 -- the files of a run with nothing to refuse have room for all saves of the work that was read
-has_place : (run : RunData) (work : WorkData) → HasReadWork run.words run.reads work → IsGood run
-    → HasPlace work run.files_before run.files_after
+pub has_place : (run : RunData) (work : WorkData) → HasReadWork run.words run.reads work
+    → IsGood run → HasPlace work run.files_before run.files_after
 has_place run work was good = by_room good.room
   where
     by_room : (Rose run.files_before.clashes run.files_after.clashes → ⊥) ⊎ HasRoom run

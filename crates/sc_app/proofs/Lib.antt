@@ -8,10 +8,12 @@ pub mod ExistsLemmas
 pub mod FileLemmas
 pub mod GoodLemmas
 pub mod JobLemmas
+pub mod KeptLemmas
 pub mod PieceLemmas
 pub mod PlanLemmas
 pub mod ReadingLemmas
 pub mod RunLemmas
 pub mod SourceLemmas
+pub mod SurvivalLemmas
 pub mod TextLemmas
 pub mod WithoutTextLemmas

@@ -190,7 +190,7 @@ module _ (words : List (List ℕ)) (command : Command)
           (limits : work.limits ≡ command.limits)
           (inputs : TakesInputs script before after reads more work.inputs)
           (sound : IsSoundWork work) where
-        has_work : HasReadWork words more work
+        pub has_work : HasReadWork words more work
         has_work = record {
           read = subst (λ p. HasRead words more work.script p work.inputs) (sym planned)
               (subst (λ s. HasRead words more s plan work.inputs) (sym same)

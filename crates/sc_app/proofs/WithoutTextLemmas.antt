@@ -63,7 +63,7 @@ one_first work k i a b texts is bare texts' is' bare' = by_order (in_order k i)
     by_order (inr (inr more)) =
         absurd (bare' (has_text work work.script.actions k i b texts more is'))
 
-never_without : (work : WorkData) (a : ActionData) → action_outcome work a ≡ never
+pub never_without : (work : WorkData) (a : ActionData) → action_outcome work a ≡ never
     → HasText work a → ⊥
 never_without work a is text =
     let e : None ≡ Some text.0 = sym (ap text_of_outcome is) ∙ text.1 in cc

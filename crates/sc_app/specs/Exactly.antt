@@ -8,6 +8,7 @@ use Rattle.sc_lineage.specs.Saves.{AreApart, SavesAt, saved_by}
 use Rattle.sc_lineage.specs.ScriptData.{ActionData, WorkData}
 use Rattle.sc_lineage.specs.declared.nodes.DriverFault.{DriverFault}
 use Rattle.sc_jobs.specs.JobData.{is_saving}
+use Rattle.sc_output.specs.Calls.{IsNotDone}
 use Rattle.sc_plan.specs.Plans.{FaultsPlan}
 use Rattle.sc_plan.specs.declared.faults.PlanFault.{PlanFault}
 use Rattle.sc_core.specs.declared.answers.Abort.{Abort}
@@ -124,12 +125,14 @@ abbrev pub SavesSome : WorkData → Type 0
 SavesSome work = (action : ActionData) × Contains work.script.actions action
     × (is_saving action ≡ true)
 
--- if the plan has no line, no executor is lost and no stage is given up; and if moreover no action
--- is never, no task fails too often, unless some action saves
-abbrev pub TellsNoFailure : List (List ℕ) → List Read → Status → Type 0
-TellsNoFailure words reads status = (work : WorkData) → HasReadWork words reads work
+-- If the plan has no line, no executor is lost and no stage is given up; and if moreover no action
+-- is never, a task fails too often only where some action saves, and the faults of the files rose,
+-- or where these don't show the clashes.
+abbrev pub TellsNoFailure : RunData → Status → Type 0
+TellsNoFailure run status = (work : WorkData) → HasReadWork run.words run.reads work
     → work.plan ≡ []
     → (status ≢ statuses.Aborted aborts.NoExecutor)
     × ((stage : ℕ) → status ≢ statuses.Aborted (aborts.StageLimit stage))
     × (HasNoNever work → (stage attempt partition : ℕ)
-    → status ≡ statuses.Aborted (aborts.TaskLimit stage attempt partition) → SavesSome work)
+    → status ≡ statuses.Aborted (aborts.TaskLimit stage attempt partition)
+    → SavesSome work × IsNotDone run.files_before run.files_after)

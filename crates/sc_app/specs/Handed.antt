@@ -1,8 +1,10 @@
 -- What the functions below `run` say of a run.
-use Rattle.std.specs.Prelude.{ℕ, ◌≡◌, List, Some, length}
+use Rattle.std.specs.Prelude.{ℕ, ◌≡◌, ◌⊎◌, List, [], Some, length}
 use Rattle.sc_base.specs.Outside.{FilesState, Outside}
 use Rattle.sc_core.specs.declared.journals.JobHistory.{JobHistory}
 use Rattle.sc_lineage.specs.ScriptData.{WorkData}
+use Rattle.sc_context.specs.Records.{AreKept}
+use Rattle.sc_context.specs.declared.records.Records.{Records}
 use Rattle.sc_print.specs.Printing.{HasDoneOver}
 use Rattle.sc_read.specs.declared.reads.Read.{Read}
 use Rattle.sc_app.specs.declared.ran.Status.{Status}
@@ -28,6 +30,20 @@ pub record IsRun (run : RunData) (history given_up : List JobHistory) (status : 
   pub ends : Ends run history given_up status
   pub jobs : status ≡ statuses.Done → RanAllJobs run history given_up
   pub usage : TellsUsage run.words status
+
+-- no job is in records
+abbrev pub HasNoJob : Records → Type 0
+HasNoJob r = (r.histories.items ≡ []) × (r.logs.items ≡ []) × (r.gave_up.items ≡ [])
+
+-- what is kept of a run: no job, or those of the work that was read
+abbrev pub KeepsRecords : List (List ℕ) → List Read → Records → Type 0
+KeepsRecords words reads r =
+    HasNoJob r ⊎ ((work : WorkData) × HasReadWork words reads work × AreKept work r)
+
+-- the same, whatever the words that asked for this command
+abbrev pub KeepsRecordsOf : Command → List Read → Records → Type 0
+KeepsRecordsOf command reads r =
+    (words : List (List ℕ)) → command_of words ≡ Some command → KeepsRecords words reads r
 
 -- a run of this command, whatever the words that asked for it
 abbrev pub IsRunOf : Command → List Read → List JobHistory → List JobHistory → Outside → Outside

@@ -3,6 +3,7 @@ pub mod Runs
 pub mod Ends
 pub mod Exactly
 pub mod Good
+pub mod Survival
 pub mod Handed
 pub mod Statuses
 pub mod FaultTexts

@@ -1,9 +1,9 @@
 -- What a run promises.
 --
--- What 0 means; what each other status means, and what stands then; and what comes of a good run.
--- The clauses `headline`, `histories`, `alone`, `ends` and `good` of `run` state these, for all
--- words, sources, sinks and files. Its other clauses say what was read and asked for (`Runs`), and
--- that nothing is passed over which refuses a run (`Exactly`).
+-- What 0 means; what each other status means, and what stands then; what comes of a good run; and
+-- what it survives. The clauses `headline`, `histories`, `alone`, `ends`, `good` and `survives` of
+-- `run` state these, for all words, sources, sinks and files. Its other clauses say what was read
+-- and asked for (`Runs`), and that nothing is passed over which refuses a run (`Exactly`).
 use Rattle.std.specs.Prelude.{ℕ, ◌≡◌, List, ◌++◌, Some, length}
 use Rattle.sc_base.specs.Outside.{bytes_taken, with_more}
 use Rattle.sc_base.specs.Trees.{Tree}
@@ -17,12 +17,16 @@ use Rattle.sc_history.specs.Committing.{HoldsGrant, WasCommitted}
 use Rattle.sc_lineage.specs.Actions.{printed_by}
 use Rattle.sc_lineage.specs.Saves.{AreApart, saved_by}
 use Rattle.sc_lineage.specs.ScriptData.{WorkData}
+use Rattle.sc_context.specs.Records.{IsGivenUp}
+use Rattle.sc_context.specs.declared.records.GaveUp.{GaveUp}
 use Rattle.sc_print.specs.Printing.{HasDoneOver, PrintsAll}
+use Rattle.sc_read.specs.declared.reads.Read.{Read}
 use Rattle.sc_app.specs.declared.ran.Status.{Status}
 use Rattle.sc_app.specs.declared.ran.Status.TheVariants as statuses
 use Rattle.sc_app.specs.Ends.{EndsForAbort, EndsForDevice, EndsForDriver, EndsForExists, EndsForInput, EndsForMemory, EndsForPlan, EndsForScript, EndsForText, EndsForUsage, EndsForWrite, NothingMissed}
 use Rattle.sc_app.specs.Good.{EndsWell, IsGood}
 use Rattle.sc_app.specs.Runs.{RunData, HasReadWork}
+use Rattle.sc_app.specs.Survival.{IsSurvivable, Survives}
 
 -- ---- what 0 means
 
@@ -76,6 +80,12 @@ pub record IsAuthorisedAlone (h : JobHistory) : Type 0 where
   pub winners : (p : ℕ) (winner : AttemptId) → winner_of h.end.committers p ≡ Some winner
       → WasCommitted h.opening h.entries.items winner
 
+-- a work was read, and a job of it was given up for a reason
+abbrev pub IsGivenUpIn : List (List ℕ) → List Read → GaveUp → Type 0
+IsGivenUpIn words reads g =
+    ((work : WorkData) × HasReadWork words reads work)
+    × ((work : WorkData) → HasReadWork words reads work → IsGivenUp work g)
+
 -- ---- what each other status means, and what stands then
 
 -- each status has its cause, and this is what stands, by how the jobs went, and those that were
@@ -114,3 +124,12 @@ Ends run history given_up (statuses.NotText name) = EndsForText run history give
 -- value together, or memory ran out
 abbrev pub GoodRunsEndWell : RunData → Status → Type 0
 GoodRunsEndWell run status = IsGood run → EndsWell status
+
+-- ---- what a good run survives
+
+-- Survival: a run with nothing to refuse is done, whatever its plan does, where the work that was
+-- read is survivable; unless memory runs out, or a job has handed out as many tasks as it may.
+abbrev pub GoodRunsSurvive : RunData → Status → Type 0
+GoodRunsSurvive run status = IsGood run
+    → ((work : WorkData) → HasReadWork run.words run.reads work → IsSurvivable work)
+    → Survives status

@@ -7,11 +7,11 @@ ghost use Rattle.std.specs.String.{string_bytes};
 ghost use Rattle.sc_base.specs.Outside.{IsLaterFiles, IsLaterSource, outside_of};
 ghost use Rattle.sc_app.specs.Exactly.{TellsDriverFault, TellsExists, TellsFault, TellsNever, TellsNoFailure, TellsNotText, TellsPlanFault, TellsUsage};
 ghost use Rattle.sc_app.specs.Ends.{NothingRan};
-ghost use Rattle.sc_app.specs.Handed.{IsRun};
-ghost use Rattle.sc_app.specs.Promises.{Ends, GoodRunsEndWell, GrantsOneAlone, IsAuthorisedAlone, ZeroMeansText, ZeroShowsJobs};
+ghost use Rattle.sc_app.specs.Handed.{HasNoJob, IsRun, KeepsRecords};
+ghost use Rattle.sc_app.specs.Promises.{Ends, GoodRunsEndWell, GoodRunsSurvive, GrantsOneAlone, IsAuthorisedAlone, IsGivenUpIn, ZeroMeansText, ZeroShowsJobs};
 ghost use Rattle.sc_app.specs.Runs.{AreReads, AsksOnce, run_of};
 ghost use Rattle.sc_app.specs.Sources.{Over};
-ghost use Rattle.sc_context.specs.Records.{AreKept, IsGivenUp, IsLogged, histories_of};
+ghost use Rattle.sc_context.specs.Records.{IsLogged, histories_of};
 
 use crate::ran::{Ran, Status};
 use crate::workloads::run_command;
@@ -125,9 +125,12 @@ pub fn run<
     ensures logged { AllZip (λ h logs. IsLogged h logs.items) result.history.items
         result.logs.items }
 
-    // A job was given up only where its logs disagree with its history, or an executor found its
-    // attempt out twice, something of another work, a report of what can't be yet, or no block.
-    ensures given_up { All IsGivenUp result.gave_up.items }
+    // The executors of a job that was given up each have their log and a reason to take no more
+    // tasks, which that log tells. And the job was given up only where its logs disagree with its
+    // history, or an executor found its attempt out twice, a report of another attempt, another
+    // executor's store, a report of what can't be yet, or no block.
+    ensures given_up { All (IsGivenUpIn (map string_bytes words.now) result.read.items)
+        result.gave_up.items }
 
     // Each status has its cause, and this is what stands.
     ensures ends { Over (map string_bytes words.now) (λ before after.
@@ -167,14 +170,28 @@ pub fn run<
         (S.state source.old) (S.state source.new) }
 
     // Without a line in the fault plan no executor is lost, no stage is given up, and no task fails
-    // too often unless a partition of some action raises, or some action saves.
-    ensures no_failure { TellsNoFailure (map string_bytes words.now) result.read.items
-        result.status }
+    // too often unless a partition of some action raises; or some action saves, and the faults that
+    // the files count rose, or, where these don't show, the clashes.
+    ensures no_failure { Over (map string_bytes words.now) (λ before after.
+        TellsNoFailure (run_of (map string_bytes words.now) result.read.items
+        (outside_of before (K.state sink.old)) (outside_of after (K.state sink.new))
+        (F.state files) (F.state result.files)) result.status)
+        (S.state source.old) (S.state source.new) }
 
     // With nothing to refuse the run is done, unless memory runs out, a job is aborted, or the
     // results of an action have no value together.
     ensures good { Over (map string_bytes words.now) (λ before after.
         GoodRunsEndWell (run_of (map string_bytes words.now) result.read.items
+        (outside_of before (K.state sink.old)) (outside_of after (K.state sink.new))
+        (F.state files) (F.state result.files))
+        result.status) (S.state source.old) (S.state source.new) }
+
+    // Survival: such a run is done under every plan that leaves room for it, where each action has
+    // a text; unless memory runs out, or a job hands out as many tasks as it may. Room is left
+    // where outputs are forgotten fewer times than attempts of a stage may fail, of each partition
+    // fewer attempts fail by the plan than may, and an executor has no line that loses it.
+    ensures survives { Over (map string_bytes words.now) (λ before after.
+        GoodRunsSurvive (run_of (map string_bytes words.now) result.read.items
         (outside_of before (K.state sink.old)) (outside_of after (K.state sink.new))
         (F.state files) (F.state result.files))
         result.status) (S.state source.old) (S.state source.new) }
@@ -238,11 +255,11 @@ fn run_words<
     requires empty { reads.old.items ≡ [] }
     requires none_ran { NothingRan records.old.histories.items
         (histories_of records.old.gave_up.items) }
-    requires kept { AreKept records.old }
+    requires kept { HasNoJob records.old }
     ensures later { IsLaterSource (S.state source.old) (S.state source.new) }
     ensures sink_later { (K.state sink.old).faults ≤ (K.state sink.new).faults }
     ensures files_later { IsLaterFiles (F.state files) (F.state result.1) }
-    ensures kept { AreKept records.new }
+    ensures kept { KeepsRecords (map string_bytes words.now) reads.new.items records.new }
     ensures run { Over (map string_bytes words.now) (λ before after.
         IsRun (run_of (map string_bytes words.now) reads.new.items
         (outside_of before (K.state sink.old)) (outside_of after (K.state sink.new))

@@ -5,8 +5,8 @@ ghost use Rattle.std.specs.Prelude.{◌≡◌, ◌≤◌, []};
 ghost use Rattle.sc_base.specs.Outside.{IsLaterFiles, IsLaterSource, outside_of};
 ghost use Rattle.sc_ids.specs.LimitRanges.{AreLimits};
 ghost use Rattle.sc_app.specs.Ends.{NothingRan};
-ghost use Rattle.sc_app.specs.Handed.{IsRunOf};
-ghost use Rattle.sc_context.specs.Records.{AreKept, histories_of};
+ghost use Rattle.sc_app.specs.Handed.{HasNoJob, IsRunOf, KeepsRecordsOf};
+ghost use Rattle.sc_context.specs.Records.{histories_of};
 
 use crate::ran::Status;
 use crate::stops::{status_of_input, status_of_plan, status_of_print, status_of_script};
@@ -49,12 +49,12 @@ pub(crate) fn run_script<
     requires empty { reads.old.items ≡ [] }
     requires none_ran { NothingRan records.old.histories.items
         (histories_of records.old.gave_up.items) }
-    requires kept { AreKept records.old }
+    requires kept { HasNoJob records.old }
     requires limits { AreLimits command.limits }
     ensures later { IsLaterSource (S.state source.old) (S.state source.new) }
     ensures sink_later { (K.state sink.old).faults ≤ (K.state sink.new).faults }
     ensures files_later { IsLaterFiles (F.state files) (F.state result.1) }
-    ensures kept { AreKept records.new }
+    ensures kept { KeepsRecordsOf command reads.new.items records.new }
     ensures run { IsRunOf command reads.new.items records.new.histories.items
         (histories_of records.new.gave_up.items)
         (outside_of (S.state source.old) (K.state sink.old))

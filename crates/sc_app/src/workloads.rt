@@ -5,9 +5,9 @@ ghost use Rattle.std.specs.Prelude.{◌≡◌, ◌≤◌, [], Some, length};
 ghost use Rattle.sc_base.specs.Outside.{IsLaterFiles, IsLaterSource, outside_of};
 ghost use Rattle.sc_ids.specs.LimitRanges.{AreLimits};
 ghost use Rattle.sc_app.specs.Ends.{NothingRan};
-ghost use Rattle.sc_app.specs.Handed.{IsRunOf};
+ghost use Rattle.sc_app.specs.Handed.{HasNoJob, IsRunOf, KeepsRecordsOf};
 ghost use Rattle.sc_app.specs.Sources.{OverMade, RunsOver, files_for, files_made};
-ghost use Rattle.sc_context.specs.Records.{AreKept, histories_of};
+ghost use Rattle.sc_context.specs.Records.{histories_of};
 
 use crate::ran::Status;
 use crate::scripts::run_script;
@@ -48,12 +48,12 @@ pub(crate) fn run_command<
     requires empty { reads.old.items ≡ [] }
     requires none_ran { NothingRan records.old.histories.items
         (histories_of records.old.gave_up.items) }
-    requires kept { AreKept records.old }
+    requires kept { HasNoJob records.old }
     requires limits { AreLimits command.limits }
     ensures later { IsLaterSource (S.state source.old) (S.state source.new) }
     ensures sink_later { (K.state sink.old).faults ≤ (K.state sink.new).faults }
     ensures files_later { IsLaterFiles (F.state files) (F.state result.1) }
-    ensures kept { AreKept records.new }
+    ensures kept { KeepsRecordsOf command reads.new.items records.new }
     ensures run { OverMade (files_made command) (λ before after.
         IsRunOf command reads.new.items records.new.histories.items
         (histories_of records.new.gave_up.items)
@@ -92,11 +92,11 @@ fn run_workload<
     requires empty { reads.old.items ≡ [] }
     requires none_ran { NothingRan records.old.histories.items
         (histories_of records.old.gave_up.items) }
-    requires kept { AreKept records.old }
+    requires kept { HasNoJob records.old }
     requires limits { AreLimits command.limits }
     ensures sink_later { (K.state sink.old).faults ≤ (K.state sink.new).faults }
     ensures files_later { IsLaterFiles (F.state files) (F.state result.1) }
-    ensures kept { AreKept records.new }
+    ensures kept { KeepsRecordsOf command reads.new.items records.new }
     ensures run { RunsOver (files_for command.script workload) (λ before after.
         IsRunOf command reads.new.items records.new.histories.items
         (histories_of records.new.gave_up.items)

@@ -37,6 +37,7 @@ mod pairs;
 mod parsing;
 mod picks;
 mod pieces;
+mod text_tests;
 mod texts;
 mod unary;
 mod words;

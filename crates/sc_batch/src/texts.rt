@@ -9,6 +9,9 @@ ghost use Rattle.sc_batch.specs.Outcomes.{of_two, until_raise};
 ghost use Rattle.sc_batch.specs.Texts.{joined, text_test, texts_in};
 
 use crate::items::truths;
+use crate::text_tests::{
+    LessOrSameText, LessText, SameText, TextTest, each_with_one, one_with_each,
+};
 use sc_columns::Rows;
 use sc_expr::{Head, Raise};
 use sc_lineage::Stream;
@@ -95,33 +98,69 @@ pub(crate) fn two_texts(
         (texts_in first.entry) (texts_in second.entry)) end)) }
 {
     match head {
-        Head::Eq => Ok(Some(comparisons(alloc, Head::Eq, first, second, end)?)),
-        Head::Lt => Ok(Some(comparisons(alloc, Head::Lt, first, second, end)?)),
-        Head::Le => Ok(Some(comparisons(alloc, Head::Le, first, second, end)?)),
+        Head::Eq => Ok(Some(comparisons(alloc, SameText, first, second, end)?)),
+        Head::Lt => Ok(Some(comparisons(alloc, LessText, first, second, end)?)),
+        Head::Le => Ok(Some(comparisons(alloc, LessOrSameText, first, second, end)?)),
         Head::Concat => Ok(Some(texts(alloc, concatenated(alloc, first, second)?, end)?)),
         _ => Ok(None),
     }
 }
 
 /// How two columns of texts compare.
-fn comparisons(
+fn comparisons<T: TextTest>(
     alloc: Global,
-    head: Head,
+    head: T,
     first: TextColumn<'_>,
     second: TextColumn<'_>,
     end: Option<Raise>,
 ) -> Result<Stream, AllocError>
     ensures { IfOk result (λ s. s ≡ record {
-      rows = map truth (zip_with (text_test head) (texts_in first.entry) (texts_in second.entry));
+      rows = map truth
+          (zip_with (text_test (T.head head)) (texts_in first.entry) (texts_in second.entry));
       raise = end;
     }) }
+{
+    truths(alloc, tests(alloc, head, first, second)?, end)
+}
+
+/// The truth value of each comparison.
+fn tests<T: TextTest>(
+    alloc: Global,
+    head: T,
+    first: TextColumn<'_>,
+    second: TextColumn<'_>,
+) -> Result<Vec<bool>, AllocError>
+    ensures { IfOk result (λ v. v.items
+        ≡ zip_with (text_test (T.head head)) (texts_in first.entry) (texts_in second.entry)) }
+{
+    match first {
+        TextColumn::Each(all) => match second {
+            TextColumn::Same(one, n) => each_with_one(alloc, head, all, one, n),
+            TextColumn::Each(_) => each_with_each(alloc, head, first, second),
+        },
+        TextColumn::Same(one, n) => match second {
+            TextColumn::Each(all) => one_with_each(alloc, head, one, n, all),
+            TextColumn::Same(_, _) => each_with_each(alloc, head, first, second),
+        },
+    }
+}
+
+/// The same, of columns of any kind.
+fn each_with_each<T: TextTest>(
+    alloc: Global,
+    head: T,
+    first: TextColumn<'_>,
+    second: TextColumn<'_>,
+) -> Result<Vec<bool>, AllocError>
+    ensures { IfOk result (λ v. v.items
+        ≡ zip_with (text_test (T.head head)) (texts_in first.entry) (texts_in second.entry)) }
 {
     let count = first.len().min(second.len());
     let mut out = Vec::with_capacity(alloc, count)?;
     for i in 0..count {
-        out.push(test_of(head, first.at(i), second.at(i)))?;
+        out.push(head.test(first.at(i), second.at(i)))?;
     }
-    truths(alloc, out, end)
+    Ok(out)
 }
 
 /// The texts of one column, each with that of another behind it.
@@ -143,20 +182,6 @@ fn concatenated(
         out.push(second.at(i))?;
     }
     out.finish(alloc)
-}
-
-/// The truth value that a head gives of two texts.
-#[inline(always)]
-#[tactic(auto, unfolding(crate::specs::Texts::text_test))]
-fn test_of(head: Head, first: &str, second: &str) -> bool
-    ensures { result ≡ text_test head first.now second.now }
-{
-    match head {
-        Head::Eq => first == second,
-        Head::Lt => first < second,
-        Head::Le => first < second || first == second,
-        _ => false,
-    }
 }
 
 /// Texts as rows, and what ended them.

@@ -1,5 +1,5 @@
 -- How many attempts of a partition run.
-use Rattle.std.proofs.Common.{◌≡◌, ◌≢◌, ℕ, ◌≤◌, ◌==◌, not, All, Bool, true, false, cond, List, [], ◌∷◌, get_or, length, map, None, refl, ap, sym, ◌∙◌, arith, count_by}
+use Rattle.std.proofs.Common.{◌≡◌, ◌≢◌, ℕ, ◌+◌, ◌≤◌, ◌==◌, not, All, Bool, true, false, cond, find, List, [], ◌∷◌, get_or, length, map, None, Some, refl, ap, sym, ◌∙◌, arith, rules, count_by}
 use Rattle.std.specs.List.{AllPairs, filter}
 use Rattle.std.proofs.lemmas.Bool.Decides.{nat_tests}
 use Rattle.std.proofs.lemmas.List.Elements.{All-head, All-tail}
@@ -65,6 +65,82 @@ count_less {A = A} p g (x ∷ xs) same =
     by : (b : Bool) → p (g x) ≡ b → f (g x) ≤ f x
     by true e = rw (e, same x e) (omega arith)
     by false e = rw e (omega arith)
+
+-- no more are left of those that are filtered
+pub count_fewer : {A : Type 0} (p w : A → Bool) (xs : List A)
+    → count_by p (filter w xs) ≤ count_by p xs
+count_fewer p w [] = omega arith
+count_fewer {A = A} p w (x ∷ xs) = by (w x) (count_fewer p w xs)
+  where
+    f : A → ℕ
+    f y = cond (p y) 1 0
+
+    by : (b : Bool) → count_by p (filter w xs) ≤ count_by p xs
+        → count_by p (cond b (x ∷ filter w xs) (filter w xs)) ≤ count_by p (x ∷ xs)
+    by true h =
+        let a = sum_by-cons f x (filter w xs) in
+        let b = sum_by-cons f x xs in
+        omega (arith, a, b, h)
+    by false h =
+        let b = sum_by-cons f x xs in
+        omega (arith, b, h)
+
+-- and one less without one that counts
+pub count_without : {A : Type 0} (p q : A → Bool) (xs : List A) (x : A) → find q xs ≡ Some x
+    → p x ≡ true → count_by p (filter (λ y. not (q y)) xs) + 1 ≤ count_by p xs
+count_without p q [] x found e = absurd (search (rules, found))
+count_without {A = A} p q (y ∷ ys) x found e =
+    by (q y) found (λ g. count_without p q ys x g e)
+  where
+    f : A → ℕ
+    f z = cond (p z) 1 0
+
+    left : List A
+    left = filter (λ z. not (q z)) ys
+
+    by : (b : Bool) → cond b (Some y) (find q ys) ≡ Some x
+        → (find q ys ≡ Some x → count_by p (filter (λ z. not (q z)) ys) + 1 ≤ count_by p ys)
+        → count_by p
+        (cond (not b) (y ∷ filter (λ z. not (q z)) ys) (filter (λ z. not (q z)) ys)) + 1
+        ≤ count_by p (y ∷ ys)
+    by true g rest =
+        let is : y ≡ x = search (rules, g) in
+        let one : f y ≡ 1 = ap f is ∙ ap (λ b. cond b 1 0) e in
+        let le = count_fewer p (λ z. not (q z)) ys in
+        let b = sum_by-cons f y ys in
+        omega (arith, one, le, b)
+    by false g rest =
+        let h = rest g in
+        let a = sum_by-cons f y left in
+        let b = sum_by-cons f y ys in
+        omega (arith, a, b, h)
+
+-- two counts beside one
+pub count_sum : {A : Type 0} (p q r : A → Bool) (xs : List A)
+    → ((x : A) → cond (p x) 1 0 ≤ cond (q x) 1 0 + cond (r x) 1 0)
+    → count_by p xs ≤ count_by q xs + count_by r xs
+count_sum p q r [] le = omega arith
+count_sum {A = A} p q r (x ∷ xs) le =
+    let a = sum_by-cons (λ (y : A). cond (p y) 1 0) x xs in
+    let b = sum_by-cons (λ (y : A). cond (q y) 1 0) x xs in
+    let c = sum_by-cons (λ (y : A). cond (r y) 1 0) x xs in
+    let one = le x in
+    let rest = count_sum p q r xs le in
+    omega (arith, a, b, c, one, rest)
+
+-- nothing that counts
+pub count_none : {A : Type 0} (p : A → Bool) (xs : List A) → All (λ x. p x ≡ false) xs
+    → count_by p xs ≡ 0
+count_none p [] all = refl
+count_none {A = A} p (x ∷ xs) all =
+    let a = sum_by-cons f x xs in
+    let none = All-head (λ y. p y ≡ false) x xs all in
+    let zero : f x ≡ 0 = ap (λ b. cond b 1 0) none in
+    let rest = count_none p xs (All-tail (λ y. p y ≡ false) x xs all) in
+    omega (arith, a, zero, rest)
+  where
+    f : A → ℕ
+    f y = cond (p y) 1 0
 
 -- ---- running attempts are copies of their tasks
 

@@ -1,15 +1,14 @@
 -- Each event adds nothing to an account, but two where it frees the partition.
-use Rattle.std.proofs.Common.{◌≡◌, ◌≢◌, ◌⊎◌, inl, inr, ℕ, zero, suc, ◌+◌, ◌-◌, ◌*◌, ◌≤◌, ◌==◌, ◌&&◌, Bool, true, false, cond, if◌then◌else◌, List, [], ◌∷◌, get_or, length, Option, Some, None, option_map, is_some, slice_get, refl, ap, sym, subst, ◌∙◌, arith, rules, true≢false}
+use Rattle.std.proofs.Common.{◌≡◌, ◌⊎◌, inl, inr, ℕ, zero, suc, ◌+◌, ◌-◌, ◌*◌, ◌≤◌, ◌==◌, ◌&&◌, Bool, true, false, cond, if◌then◌else◌, List, [], ◌∷◌, Option, Some, None, option_map, is_some, slice_get, refl, ap, sym, subst, ◌∙◌, arith, true≢false}
 use Rattle.std.proofs.lemmas.Bool.{cases_eq}
 use Rattle.std.proofs.lemmas.Bool.Decides.{nat_tests}
 use Rattle.std.proofs.lemmas.List.Sums.{sum_by-append}
-use Rattle.std.proofs.lemmas.List.Elements.{All-weaker}
 use Rattle.sc_ids.specs.declared.attempts.AttemptId.{AttemptId}
 use Rattle.sc_commit.specs.declared.committers.Ending.TheVariants as endings
-use Rattle.sc_taskset.specs.Lookups.{copy_at, task_at}
+use Rattle.sc_taskset.specs.Lookups.{task_at}
 use Rattle.sc_taskset.specs.Offers.{given_of, handed}
 use Rattle.sc_taskset.specs.Reports.{after_loss}
-use Rattle.sc_taskset.specs.TaskSetData.{TaskData, TaskSetData}
+use Rattle.sc_taskset.specs.TaskSetData.{TaskSetData}
 use Rattle.sc_ids.specs.Graphs.{StageData}
 use Rattle.sc_dag.specs.DagData.{DagData, newest_at}
 use Rattle.sc_dag.specs.Openings.{blank_states}
@@ -20,13 +19,13 @@ use Rattle.sc_dag.specs.declared.reports.Success.TheVariants as successes
 use Rattle.sc_dag.specs.Losses.{after_lost}
 use Rattle.sc_dag.specs.Offers.{handed_out, may_be_given_in, newest_number}
 use Rattle.sc_dag.specs.Reports.{reaches_limit_in, result_success_of, set_of}
-use Rattle.sc_dag.specs.Sound.{runner_among, runner_in}
+use Rattle.sc_dag.proofs.Tests.{both_left}
 use Rattle.sc_core.specs.CoreData.{CoreData, result_stage, with_dag}
 use Rattle.sc_core.specs.Journals.{Replays}
 use Rattle.sc_core.specs.HandOuts.{HandOutData}
 use Rattle.sc_core.specs.Losses.{all_released, attempts_on, without_executor}
 use Rattle.sc_core.specs.Posts.{fits}
-use Rattle.sc_core.specs.Sound.{AreTwo, IsSoundCore, RunsWell}
+use Rattle.sc_core.specs.Sound.{IsSoundCore}
 use Rattle.sc_core.specs.Takes.{Takes, running_on, with_task}
 use Rattle.sc_core.specs.Tells.{Tells, TellsResult, after_result, done_if, released, with_result_of}
 use Rattle.sc_core.specs.declared.answers.Answer.{Answer}
@@ -46,9 +45,9 @@ use Rattle.sc_bound.specs.Accounts.{AccountsAreKept, StepsKeepAccounts, account_
 use Rattle.sc_bound.specs.Numbered.{set_at, set_numbered}
 use Rattle.sc_bound.specs.Sets.{is_open}
 use Rattle.sc_bound.proofs.AccountLemmas.{Steady, account, account_begun, account_freed, steady_order}
-use Rattle.sc_bound.proofs.CountLemmas.{count_copies}
-use Rattle.sc_bound.proofs.HearLemmas.{Hearing, Hears, posts_hear, releases_hear}
+use Rattle.sc_bound.proofs.HearLemmas.{Hearing, Hears, in_runs, posts_hear, releases_hear}
 use Rattle.sc_bound.proofs.KeepLemmas.{Slot, result_slots, slot_then, slots_same, slots_then, submitted_slots}
+use Rattle.sc_bound.proofs.OlderLemmas.{running_few}
 use Rattle.sc_bound.proofs.ReportLemmas.{SteadyAll, released_steady}
 use Rattle.sc_bound.proofs.SetLemmas.{MayBe, handed_one, handed_open, handed_other, lost_given, may_be}
 use Rattle.sc_bound.proofs.ShutLemmas.{newest_is}
@@ -63,50 +62,6 @@ AddsAt c after event answer s k p =
     ≤ account_of c s k p + 2 * (if frees c event answer s k p then 1 else 0)
 
 -- ---- asking
-
--- no more attempts of a partition run than its task knows
-running_few : (c : CoreData) (s k p : ℕ) (set : TaskSetData) (task : TaskData) → IsSoundCore c
-    → set_at c.dag s k ≡ Some set → task_at p set.tasks ≡ Some task
-    → running_for c s k p ≤ length task.copies
-running_few c s k p set task sound at there =
-    count_copies (runs_for s k p) c.running task.copies
-    (All-weaker (RunsWell c)
-    (λ r. runs_for s k p r ≡ true → copy_at r.hand_out.attempt.nth task.copies ≢ None) found
-    c.running sound.job.running)
-    (λ i j d lt l. apart (get_or c.running i d) (get_or c.running j d)
-    (sound.job.apart i j d lt l))
-  where
-    of : (r : Running) → runs_for s k p r ≡ true → is_of_task s k p r.hand_out.attempt ≡ true
-    of r e = left (is_of_task s k p r.hand_out.attempt) _ e
-      where
-        left : (x y : Bool) → (x && y) ≡ true → x ≡ true
-        left true y h = refl
-        left false y h = absurd (true≢false (sym h))
-
-    found : (r : Running) → RunsWell c r → runs_for s k p r ≡ true
-        → copy_at r.hand_out.attempt.nth task.copies ≢ None
-    found r well e none =
-        let is = of r e in
-        let stage : r.hand_out.attempt.stage ≡ s = grind (arith, nat_tests, is) in
-        let number : r.hand_out.attempt.stage_attempt ≡ k = grind (arith, nat_tests, is) in
-        let part : r.hand_out.attempt.partition ≡ p = grind (arith, nat_tests, is) in
-        let own : set_of c.dag r.hand_out.attempt ≡ Some set =
-        subst (λ (n : ℕ). set_at c.dag n r.hand_out.attempt.stage_attempt ≡ Some set) (sym stage)
-        (subst (λ (n : ℕ). set_at c.dag s n ≡ Some set) (sym number) at) in
-        let task_is : task_at r.hand_out.attempt.partition set.tasks ≡ Some task =
-        ap (λ (n : ℕ). task_at n set.tasks) part ∙ there in
-        let runs : runner_among (Some task) r.hand_out.attempt.nth ≡ Some r.exec =
-        ap (λ o. runner_among o r.hand_out.attempt.nth) (sym task_is)
-        ∙ ap (λ o. runner_in o r.hand_out.attempt) (sym own) ∙ well.in_set in
-        absurd (search (rules, runs, none))
-
-    apart : (q r : Running) → AreTwo q r → runs_for s k p q ≡ true → runs_for s k p r ≡ true
-        → q.hand_out.attempt.nth ≢ r.hand_out.attempt.nth
-    apart q r two e f same =
-        let is = of q e in
-        let is_too = of r f in
-        let differ = two.attempts in
-        absurd (grind (arith, nat_tests, is, is_too, differ, same))
 
 -- a task is handed out
 gives_adds : (c after : CoreData) (exec : ℕ) (answer : Answer) (s k p : ℕ) → IsSoundCore c
@@ -211,12 +166,16 @@ gives_adds c after exec answer s k p sound g =
                   ∙ ap (λ o. option_map (λ x. handed x g.task.attempt.partition exec c.now) o) at,
             )
 
+        is_one : (r : Running) → runs_for s k p r ≡ true
+            → is_of_task s k p r.hand_out.attempt ≡ true
+        is_one r e = both_left (is_of_task s k p r.hand_out.attempt) _ e
+
         it : s ≡ g.task.attempt.stage → k ≡ newest_number c.dag g.task.attempt.stage
             → p ≡ g.task.attempt.partition
             → account_of (with_task c exec g.task) s k p ≤ account_of c s k p
         it u v w =
             let at = here u v in
-            let few = running_few c s k p set m.task sound at.0
+            let few = running_few c (runs_for s k p) s k p set m.task sound is_one at.0
             (ap (λ (n : ℕ). task_at n set.tasks) w ∙ m.there) in
             let short = m.few in
             let of : is_of_task s k p g.task.attempt ≡ true =
@@ -289,7 +248,7 @@ all_steady p (a ∷ these) c =
     (all_released these (released c a endings.Failed)).dag
     (released_steady p c a endings.Failed) (all_steady p these (released c a endings.Failed))
 
-losses_add : (c after : CoreData) (exec : ℕ) (answer : Answer) (s k p : ℕ)
+pub losses_add : (c after : CoreData) (exec : ℕ) (answer : Answer) (s k p : ℕ)
     → IsLoss c after exec answer
     → Slot (Steady p) p (set_at c.dag s k) (set_at after.dag s k)
 losses_add c after exec answer s k p is =
@@ -310,7 +269,7 @@ losses_add c after exec answer s k p is =
 
 -- ---- reports
 
-result_steady : (c after : CoreData) (r : Running) (answer : Answer) (p : ℕ)
+pub result_steady : (c after : CoreData) (r : Running) (answer : Answer) (p : ℕ)
     → TellsResult c r answer after → SteadyAll p c.dag after.dag
 result_steady c after r answer p (told, is) =
     subst (λ (x : CoreData). SteadyAll p c.dag x.dag) (sym is)
@@ -410,7 +369,7 @@ hearing_adds c after event answer s k p sound (inr h) =
 hearing_adds c after event answer s k p sound (inl q) =
     let same : account_of after s k p ≡ account_of c s k p =
     ap (λ d. account (set_at d s k) p (running_for after s k p)) q.dag
-    ∙ ap (λ n. account (set_at c.dag s k) p n) (q.count s k p) in
+    ∙ ap (λ n. account (set_at c.dag s k) p n) (q.count (runs_for s k p) (in_runs s k p)) in
     omega (arith, same)
 
 -- ---- each event
@@ -477,7 +436,7 @@ account_begins d after submitted s k p n none sent =
     omega (arith, le)
 
 -- none stands in a stage for which nothing was done
-blank_none : (last : Option DagData) (n : ℕ) (stages : List StageData) (s k : ℕ)
+pub blank_none : (last : Option DagData) (n : ℕ) (stages : List StageData) (s k : ℕ)
     → set_numbered (slice_get (blank_states last n stages) s) k ≡ None
 blank_none last n [] s k = refl
 blank_none last n (stage ∷ stages) zero k =

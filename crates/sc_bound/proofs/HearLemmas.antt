@@ -14,6 +14,7 @@ use Rattle.sc_core.specs.Releases.{ReleasesIf, ReleasesOf}
 use Rattle.sc_core.specs.Sound.{AreTwo, IsShelvedWell, IsSoundCore}
 use Rattle.sc_core.specs.Tells.{Tells, TellsTo}
 use Rattle.sc_core.specs.declared.answers.Answer.{Answer}
+use Rattle.sc_core.specs.declared.answers.Answer.TheVariants as says
 use Rattle.sc_core.specs.declared.events.Event.{Event}
 use Rattle.sc_core.specs.declared.events.Event.TheVariants.{Post, Release}
 use Rattle.sc_core.specs.declared.events.Outcome.{Outcome}
@@ -22,9 +23,9 @@ use Rattle.sc_core.specs.declared.running.Shelved.{Shelved}
 use Rattle.sc_core.proofs.LookupLemmas.{same_is}
 use Rattle.sc_core.proofs.ShelfLemmas.{awaits_it, find_in, fits_in, in_same}
 use Rattle.sc_core.proofs.StepLemmas.{posted}
-use Rattle.sc_history.specs.Tellings.{telling, told_late}
+use Rattle.sc_history.specs.Tellings.{is_heard, telling, told_late}
 use Rattle.sc_history.proofs.Events.{IsKnown, in_exec, in_phase}
-use Rattle.sc_bound.specs.Accounts.{runs_for, running_for}
+use Rattle.sc_bound.specs.Accounts.{runs_for}
 use Rattle.sc_bound.proofs.CountLemmas.{count_map}
 
 -- ---- one attempt among those that run
@@ -59,6 +60,10 @@ found_alone a (x ∷ xs) ran pairs found =
 abbrev pub left_of : AttemptId → CoreData → List Running
 left_of a c = filter (λ r. not (is_of a r)) c.running
 
+-- an attempt that isn't out any more counts as before
+abbrev pub CountsAlike : (Running → Bool) → Type 0
+CountsAlike test = (a : AttemptId) (r : Running) → test (as_in a r) ≡ test r
+
 -- a report is told to its attempt, and the others run as before
 pub record Hears (c after : CoreData) (event : Event) (answer : Answer) : Type 0 where
   pub runs : job_runs c ≡ true
@@ -69,27 +74,34 @@ pub record Hears (c after : CoreData) (event : Event) (answer : Answer) : Type 0
   pub outcome : Outcome
   pub tells : Tells mid one outcome answer after
   pub known : IsKnown c event answer one outcome
-  pub count : (s k p : ℕ) → count_by (runs_for s k p) mid.running
-      ≡ count_by (runs_for s k p) (left_of one.hand_out.attempt c)
+  pub count : (test : Running → Bool) → CountsAlike test
+      → count_by test mid.running ≡ count_by test (left_of one.hand_out.attempt c)
 
 -- none is told, and the stages and what runs are as before
-pub record Silent (c after : CoreData) : Type 0 where
+pub record Silent (c after : CoreData) (answer : Answer) : Type 0 where
   pub dag : after.dag ≡ c.dag
-  pub count : (s k p : ℕ) → running_for after s k p ≡ running_for c s k p
+  pub count : (test : Running → Bool) → CountsAlike test
+      → count_by test after.running ≡ count_by test c.running
+  pub job : after.job ≡ c.job
+  pub unheard : is_heard answer ≡ false
 
 abbrev pub Hearing : CoreData → CoreData → Event → Answer → Type 0
-Hearing c after event answer = Silent c after ⊎ Hears c after event answer
+Hearing c after event answer = Silent c after answer ⊎ Hears c after event answer
 
-silent : (c after d : CoreData) → after ≡ d → d.dag ≡ c.dag
-    → ((s k p : ℕ) → running_for d s k p ≡ running_for c s k p) → Silent c after
-silent c after d is dag count =
+silent : (c after d : CoreData) (answer said : Answer) → after ≡ d → d.dag ≡ c.dag
+    → ((test : Running → Bool) → CountsAlike test
+    → count_by test d.running ≡ count_by test c.running)
+    → d.job ≡ c.job → answer ≡ said → is_heard said ≡ false → Silent c after answer
+silent c after d answer said is dag count job told unheard =
     record {
       dag = ap (λ (x : CoreData). x.dag) is ∙ dag;
-      count = λ s k p. ap (λ (x : CoreData). running_for x s k p) is ∙ count s k p;
+      count = λ test alike. ap (λ (x : CoreData). count_by test x.running) is ∙ count test alike;
+      job = ap (λ (x : CoreData). x.job) is ∙ job;
+      unheard = ap is_heard told ∙ unheard;
     }
 
--- an attempt that isn't out any more counts as before
-in_runs : (s k p : ℕ) (a : AttemptId) (r : Running)
+-- so counts one that wasn't denied
+pub in_runs : (s k p : ℕ) (a : AttemptId) (r : Running)
     → runs_for s k p (as_in a r) ≡ runs_for s k p r
 in_runs s k p a r = by (is_of a r)
   where
@@ -105,10 +117,10 @@ in_hand a r = by (is_of a r)
     by true = refl
     by false = refl
 
-shelved_runs : (c : CoreData) (a : AttemptId) (outcome : Outcome) (delay s k p : ℕ)
-    → running_for (shelved c a outcome delay) s k p ≡ running_for c s k p
-shelved_runs c a outcome delay s k p =
-    count_map (runs_for s k p) (as_in a) c.running (in_runs s k p a)
+shelved_runs : (c : CoreData) (a : AttemptId) (outcome : Outcome) (delay : ℕ)
+    (test : Running → Bool) → CountsAlike test
+    → count_by test (shelved c a outcome delay).running ≡ count_by test c.running
+shelved_runs c a outcome delay test alike = count_map test (as_in a) c.running (alike a)
 
 -- taken away from those that aren't out any more
 left_mapped : (p w : Running → Bool) (g : Running → Running) (xs : List Running)
@@ -174,7 +186,7 @@ posts_hear c after a outcome answer sound step = by (job_runs c) refl step
           outcome = outcome;
           tells = tells;
           known = known r r e fit refl refl refl refl;
-          count = λ s k p. ap (λ b. count_by (runs_for s k p) (left_of b c)) (is_it r e);
+          count = λ test alike. ap (λ b. count_by test (left_of b c)) (is_it r e);
         })
     now r e fit runs true h =
         let next = shelved c a outcome 0 in
@@ -191,35 +203,40 @@ posts_hear c after a outcome answer sound step = by (job_runs c) refl step
           tells = tells;
           known = known r (as_in a r) e fit (in_hand a r) (in_exec a r) (in_phase a r)
               (fits_in c a r outcome);
-          count = λ s k p. left_mapped (runs_for s k p) (λ q. not (is_of a q)) (as_in a) c.running
-              (in_runs s k p a) (λ q. ap not (in_same a a q))
-              ∙ ap (λ b. count_by (runs_for s k p) (left_of b c))
+          count = λ test alike. left_mapped test (λ q. not (is_of a q)) (as_in a) c.running
+              (alike a) (λ q. ap not (in_same a a q))
+              ∙ ap (λ b. count_by test (left_of b c))
               (is_it r e ∙ ap (λ (x : HandOutData). x.attempt) (sym (in_hand a r)));
         })
 
-    late : (delay : ℕ) (twice : Bool)
+    late : (delay : ℕ) (twice : Bool) → answer ≡ says.Shelved
         → after ≡ shelved_if twice (shelved c a outcome delay) a outcome delay
         → Hearing c after (Post a outcome) answer
-    late delay false is =
-        inl (silent c after (shelved c a outcome delay) is refl (shelved_runs c a outcome delay))
-    late delay true is =
-        inl (silent c after (shelved (shelved c a outcome delay) a outcome delay) is refl
-        (λ s k p. shelved_runs (shelved c a outcome delay) a outcome delay s k p
-        ∙ shelved_runs c a outcome delay s k p))
+    late delay false told is =
+        inl (silent c after (shelved c a outcome delay) answer says.Shelved is refl
+        (shelved_runs c a outcome delay) refl told refl)
+    late delay true told is =
+        inl (silent c after (shelved (shelved c a outcome delay) a outcome delay) answer
+        says.Shelved is refl
+        (λ test alike. shelved_runs (shelved c a outcome delay) a outcome delay test alike
+        ∙ shelved_runs c a outcome delay test alike) refl told refl)
 
     posts : (r : Running) → running_of c a ≡ Some r → fits c r outcome ≡ true
         → job_runs c ≡ true → (delay : Option ℕ) → PostsBy delay c a outcome answer after
         → Hearing c after (Post a outcome) answer
     posts r e fit runs None h = now r e fit runs (comes_twice c a) h
-    posts r e fit runs (Some delay) (told, is) = late delay (comes_twice c a) is
+    posts r e fit runs (Some delay) (told, is) = late delay (comes_twice c a) told is
 
     of : (o : Option Running) → running_of c a ≡ o → job_runs c ≡ true
         → PostsOf o c a outcome answer after → Hearing c after (Post a outcome) answer
-    of None e runs (told, is) = inl (silent c after (told_once c) is refl (λ s k p. refl))
+    of None e runs (told, is) =
+        inl (silent c after (told_once c) answer says.Ignored is refl (λ test alike. refl) refl told
+        refl)
     of (Some r) e runs (fit, h) = posts r e fit runs (delay_for c a) h
 
     by : (b : Bool) → job_runs c ≡ b → PostsIf b c a outcome answer after → Goal
-    by false runs (told, is) = inl (silent c after c is refl (λ s k p. refl))
+    by false runs (told, is) =
+        inl (silent c after c answer says.Ignored is refl (λ test alike. refl) refl told refl)
     by true runs h = of (running_of c a) refl runs h
 
 pub releases_hear : (c after : CoreData) (key : ℕ) (answer : Answer)
@@ -234,7 +251,8 @@ releases_hear c after key answer sound step = by (job_runs c) refl step
         → (o : Option Running) → running_of c s.attempt ≡ o
         → TellsTo o next s.attempt s.outcome answer after → Hearing c after (Release key) answer
     late s e runs None f (told, is) =
-        inl (silent c after (told_once next) is refl (λ r k p. refl))
+        inl (silent c after (told_once next) answer says.Ignored is refl (λ test alike. refl) refl
+        told refl)
     late s e runs (Some r) f tells =
         inr (record {
           runs = runs;
@@ -245,7 +263,7 @@ releases_hear c after key answer sound step = by (job_runs c) refl step
           outcome = s.outcome;
           tells = tells;
           known = known;
-          count = λ q k p. ap (λ b. count_by (runs_for q k p) (left_of b c))
+          count = λ test alike. ap (λ b. count_by test (left_of b c))
               (sym (posted c s.attempt r sound.job f).attempt);
         })
       where
@@ -273,5 +291,6 @@ releases_hear c after key answer sound step = by (job_runs c) refl step
 
     by : (b : Bool) → job_runs c ≡ b → ReleasesIf b c key answer after
         → Hearing c after (Release key) answer
-    by false runs (told, is) = inl (silent c after c is refl (λ s k p. refl))
+    by false runs (told, is) =
+        inl (silent c after c answer says.Ignored is refl (λ test alike. refl) refl told refl)
     by true runs h = of (shelved_of c key) refl runs h

@@ -51,7 +51,7 @@ use Rattle.sc_bound.specs.Numbered.{set_at}
 use Rattle.sc_bound.specs.Sets.{is_open}
 use Rattle.sc_bound.proofs.AccountLemmas.{Steady, account, account_kept, account_shut, fewer_order, steady_order}
 use Rattle.sc_bound.proofs.CountLemmas.{count_filter}
-use Rattle.sc_bound.proofs.HearLemmas.{Hears, found_alone, left_of}
+use Rattle.sc_bound.proofs.HearLemmas.{Hears, found_alone, in_runs, left_of}
 use Rattle.sc_bound.proofs.KeepLemmas.{Slot, failed_slots, map_slots, result_slots, slot_then, slots_same, slots_then}
 use Rattle.sc_bound.proofs.ReportLemmas.{FewerAll, SteadyAll, dead_then, failing_slots, follows_slots, gone_shuts, map_shut, metadata_shuts, own_number, released_fewer, released_number, released_steady, result_shut, runs_there, shut_then, some_then, uncounted_low}
 use Rattle.sc_bound.proofs.SetLemmas.{Fewer}
@@ -105,7 +105,7 @@ denied_runs c ran s k p alone denied =
 
 -- ---- a report that is heard
 
-of_task : (s k p : ℕ) (a : AttemptId) → is_of_task s k p a ≡ true
+pub of_task : (s k p : ℕ) (a : AttemptId) → is_of_task s k p a ≡ true
     → (s ≡ a.stage) × (k ≡ a.stage_attempt) × (p ≡ a.partition)
 of_task s k p a e =
     let stage : s ≡ a.stage = grind (arith, nat_tests, e) in
@@ -236,7 +236,7 @@ module _ (c after : CoreData) (event : Event) (answer : Answer) (sound : IsSound
   now_runs s k p =
       ap (λ rs. count_by (runs_for s k p) rs)
       (tells_left h.mid after h.one h.outcome answer h.tells).running
-      ∙ h.count s k p
+      ∙ h.count (runs_for s k p) (in_runs s k p)
 
   -- the attempt that ran, by the one that reports
   hand : h.known.ran.hand_out.attempt ≡ h.one.hand_out.attempt

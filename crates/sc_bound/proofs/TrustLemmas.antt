@@ -1,13 +1,15 @@
 -- What was heard of executors, by what a plan has for each of them.
-use Rattle.std.proofs.Common.{◌≡◌, ℕ, suc, ◌+◌, ◌≤◌, Bool, true, false, cond, if◌then◌else◌, List, [], ◌∷◌, length, refl, subst, arith}
+use Rattle.std.proofs.Common.{◌≡◌, ◌≢◌, ℕ, suc, ◌+◌, ◌≤◌, Bool, true, false, cond, if◌then◌else◌, List, [], ◌∷◌, length, None, refl, subst, arith}
 use Rattle.std.specs.List.{sum_by}
 use Rattle.std.proofs.lemmas.List.Sums.{sum_by-cons}
-use Rattle.sc_plan.specs.Orders.{wipes_of}
-use Rattle.sc_tracker.specs.TrackerData.{trust_of}
+use Rattle.sc_plan.specs.Orders.{loss_of, wipes_of}
+use Rattle.sc_plan.specs.declared.lines.PlanLine.{PlanLine}
+use Rattle.sc_tracker.specs.TrackerData.{TrackerData, trust_of}
 use Rattle.sc_tracker.specs.TrackerFacts.{events_of}
 use Rattle.sc_tracker.specs.Trust.{trust_at}
 use Rattle.sc_tracker.specs.declared.trust.Trust.{Trust}
-use Rattle.sc_bound.specs.Losses.{EventsArePlanned, LossesArePlanned}
+use Rattle.sc_bound.specs.Bounds.{loses_in}
+use Rattle.sc_bound.specs.Losses.{EventsArePlanned, LossesArePlanned, lost_count}
 use Rattle.sc_bound.proofs.LossLemmas.{events_at, loss_there, losses_at, total_events, total_losses}
 use Rattle.sc_bound.proofs.SumLemmas.{total}
 
@@ -27,8 +29,11 @@ sum_trust g f (t ∷ ts) n le =
         let same : n + suc e ≡ suc n + e = omega arith in
         subst (λ (k : ℕ). g (trust_at ts e) ≤ f k) same (le (suc e))
 
-pub losses_are_planned : LossesArePlanned
-losses_are_planned plan t heard =
+-- no more executors are lost than have a line
+pub lost_planned : (plan : List PlanLine) (t : TrackerData)
+    → ((exec : ℕ) → (trust_of t exec).lost ≡ true → loss_of plan exec ≢ None)
+    → lost_count t ≤ loses_in plan
+lost_planned plan t lines =
     let le = sum_trust (λ (h : Trust). cond h.lost 1 0) (losses_at plan) t.trust 0 each in
     let most = total_losses plan 0 (length t.trust) in
     omega (arith, le, most)
@@ -40,8 +45,11 @@ losses_are_planned plan t heard =
         (by (trust_of t e).lost refl)
       where
         by : (b : Bool) → (trust_of t e).lost ≡ b → cond b 1 0 ≤ losses_at plan e
-        by true l = loss_there plan e (heard.lost e l)
+        by true l = loss_there plan e (lines e l)
         by false l = omega arith
+
+pub losses_are_planned : LossesArePlanned
+losses_are_planned plan t heard = lost_planned plan t heard.lost
 
 pub events_are_planned : EventsArePlanned
 events_are_planned plan t sound heard =

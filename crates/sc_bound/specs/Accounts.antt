@@ -1,10 +1,11 @@
 -- How often a partition is handed out in a task set, may be still, and is freed.
-use Rattle.std.specs.Prelude.{ℕ, ◌+◌, ◌*◌, ◌-◌, ◌==◌, ◌≤◌, ◌&&◌, ◌||◌, not, Bool, true, false, List, [], ◌∷◌, Option, Some, None, if◌then◌else◌, count_by, is_some, nat_lt}
+use Rattle.std.specs.Prelude.{ℕ, ◌+◌, ◌*◌, ◌-◌, ◌==◌, ◌≡◌, ◌≤◌, ◌&&◌, ◌||◌, not, Bool, true, false, List, [], ◌∷◌, Option, Some, None, if◌then◌else◌, count_by, is_some, nat_lt}
 use Rattle.std.specs.List.{list_any}
 use Rattle.sc_ids.specs.Graphs.{StageData}
 use Rattle.sc_ids.specs.declared.failures.FailureCause.{FailureCause}
 use Rattle.sc_ids.specs.declared.limits.Limits.{Limits}
 use Rattle.sc_plan.specs.declared.lines.PlanLine.{PlanLine}
+use Rattle.sc_taskset.specs.Accounting.{left_of}
 use Rattle.sc_taskset.specs.Offers.{given_of}
 use Rattle.sc_taskset.specs.Reports.{is_counted_in}
 use Rattle.sc_taskset.specs.TaskSetData.{TaskSetData}
@@ -120,4 +121,22 @@ AccountsAreKept =
     → IsOpening graph limits saves plan last opening → IsSoundCore opening
     → (replays : Replays opening entries end)
     → account_of end stage number partition
+    ≤ 2 * (1 + times_freed stage number partition opening entries end replays)
+
+-- What a set may hand out of a partition before anything is told is no more than it needs.
+abbrev pub LeftIsNeeded : Type 0
+LeftIsNeeded =
+    (c : CoreData) (stage number partition : ℕ) (set : TaskSetData) → IsSoundCore c
+    → set_at c.dag stage number ≡ Some set
+    → left_of set partition ≤ need_of c stage number partition
+
+-- so what it has handed out, and may still, are two together, and two for each entry that frees it
+abbrev pub LeftIsBounded : Type 0
+LeftIsBounded =
+    (graph : List StageData) (limits : Limits) (saves : Bool) (plan : List PlanLine)
+    (last : Option CoreData) (opening end : CoreData) (entries : List Entry)
+    (stage number partition : ℕ) (set : TaskSetData)
+    → IsOpening graph limits saves plan last opening → IsSoundCore opening
+    → (replays : Replays opening entries end) → set_at end.dag stage number ≡ Some set
+    → given_of set partition + left_of set partition
     ≤ 2 * (1 + times_freed stage number partition opening entries end replays)

@@ -1,33 +1,28 @@
--- When the task sets of a job have handed out no more than the bound.
-use Rattle.std.specs.Prelude.{ℕ, ◌+◌, ◌*◌, ◌≤◌, All, List, length}
-use Rattle.std.specs.List.{AllZip, sum_by}
+-- When a job has handed out no more tasks than the bound.
+use Rattle.std.specs.Prelude.{◌+◌, ◌*◌, ◌≤◌, All, Bool, List, Option, length}
 use Rattle.sc_ids.specs.Graphs.{StageData}
+use Rattle.sc_ids.specs.LimitRanges.{AreLimits}
 use Rattle.sc_ids.specs.declared.limits.Limits.{Limits}
 use Rattle.sc_plan.specs.Orders.{planned_losses}
 use Rattle.sc_plan.specs.declared.lines.PlanLine.{PlanLine}
-use Rattle.sc_taskset.specs.TaskSetData.{TaskSetData}
-use Rattle.sc_bound.specs.Bounds.{hand_out_bound, set_bound}
+use Rattle.sc_dag.specs.DagData.{DagData}
+use Rattle.sc_core.specs.CoreData.{CoreData}
+use Rattle.sc_core.specs.Journals.{Replays}
+use Rattle.sc_core.specs.Openings.{IsOpening}
+use Rattle.sc_core.specs.Sound.{IsSoundCore}
+use Rattle.sc_core.specs.declared.entries.Entry.{Entry}
+use Rattle.sc_bound.specs.Bounds.{hand_out_bound}
 
--- how many tasks a set has handed out, and how many some sets have
-abbrev pub given_in_set : TaskSetData → ℕ
-given_in_set set = sum_by (λ t. t.given) set.tasks
+-- no stage has more task sets in this job than one, and two for each planned loss
+abbrev pub HaveFewSets : List PlanLine → DagData → Type 0
+HaveFewSets plan d =
+    All (λ state. length state.attempts ≤ 1 + 2 * planned_losses plan) d.states
 
-abbrev pub given_in_sets : List TaskSetData → ℕ
-given_in_sets sets = sum_by given_in_set sets
-
--- The task sets of a stage keep the limits of the bound.
-pub record AreBounded (plan : List PlanLine) (limits : Limits) (stage : StageData)
-    (sets : List TaskSetData) : Type 0 where
-  -- there are at most one and two for each planned loss
-  pub few : length sets ≤ 1 + 2 * planned_losses plan
-  -- none has more tasks than the stage
-  pub small : All (λ set. length set.tasks ≤ stage.tasks) sets
-  -- nor has it handed out one of them more often than a set may
-  pub seldom : All (λ set. All (λ t. t.given ≤ set_bound plan limits) set.tasks) sets
-
--- where those of each stage do, the job has handed out no more than the bound
+-- where they are as few at a journal's end, the job has handed out no more tasks than the bound
 abbrev pub BoundsAreKept : Type 0
 BoundsAreKept =
-    (graph : List StageData) (plan : List PlanLine) (limits : Limits)
-    (all : List (List TaskSetData)) → AllZip (AreBounded plan limits) graph all
-    → sum_by given_in_sets all ≤ hand_out_bound graph plan limits
+    (graph : List StageData) (limits : Limits) (saves : Bool) (plan : List PlanLine)
+    (last : Option CoreData) (opening end : CoreData) (entries : List Entry)
+    → AreLimits limits → IsOpening graph limits saves plan last opening → IsSoundCore opening
+    → Replays opening entries end → HaveFewSets end.plan end.dag
+    → end.handed ≤ hand_out_bound graph end.plan limits

@@ -1,7 +1,10 @@
 pub mod Accounts
 pub mod Bounds
 pub mod Charged
+pub mod Freed
 pub mod Given
+pub mod Handed
 pub mod Losses
 pub mod Numbered
 pub mod Sets
+pub mod Suffice

@@ -1,5 +1,5 @@
 -- Printed rows, piece by piece.
-use Rattle.std.proofs.Common.{◌≡◌, ◌∙◌, ℕ, zero, suc, ◌+◌, ◌-◌, ◌<◌, ◌≤◌, List, [], ◌∷◌, ◌++◌, Result, Ok, Err, Some, None, append-nil, append_assoc, ap, ap₂, arith, codes, drop, if◌then◌else◌, length, map, refl, replicate, subst, sym, take}
+use Rattle.std.proofs.Common.{◌≡◌, ◌∙◌, ℕ, zero, suc, ◌+◌, ◌-◌, ◌*◌, ◌<◌, ◌≤◌, List, [], ◌∷◌, ◌++◌, Result, Ok, Err, Some, None, append-nil, append_assoc, ap, ap₂, arith, codes, drop, if◌then◌else◌, length, map, refl, replicate, subst, sym, take}
 use Rattle.std.proofs.lemmas.List.{flat_map_more, length-drop, length-take-le, map_push}
 use Rattle.std.proofs.lemmas.Option.{slice_get-map, slice_get_within}
 use Rattle.std.specs.Option.{option_map}
@@ -140,17 +140,37 @@ list_written r old m1 m2 after a p q last =
     (rw (q.bytes, p) (simp append_assoc))
     (utf8_list a q.utf8)
 
--- a row more is printed, and its line feed
+-- a row more is printed as a line
+pub line_printed : (rows : List Datum) (i : ℕ) (d : Datum) (start before after : List ℕ)
+    → slice_get rows i ≡ Some d → before ≡ start ++ printed_lines (take i rows)
+    → after ≡ before ++ printed_line d → after ≡ start ++ printed_lines (take (i + 1) rows)
+line_printed rows i d start before after is before_is after_is =
+    after_is ∙ ap (λ o. o ++ printed_line d) before_is
+    ∙ flat_map_more printed_line start (take i rows) d
+    ∙ ap (λ r. start ++ printed_lines r) (sym (take_next rows i d is))
+
+-- two rows more are printed as lines
+pub two_lines_printed : (rows : List Datum) (k : ℕ) (d e : Datum) (start before after : List ℕ)
+    → slice_get rows (2 * k) ≡ Some d → slice_get rows (2 * k + 1) ≡ Some e
+    → before ≡ start ++ printed_lines (take (2 * k) rows)
+    → after ≡ before ++ (printed_line d ++ printed_line e)
+    → after ≡ start ++ printed_lines (take (2 * (k + 1)) rows)
+two_lines_printed rows k d e start before after first second before_is after_is =
+    let count : 2 * k + 1 + 1 ≡ 2 * (k + 1) = omega arith in
+    line_printed rows (2 * k + 1) e start (before ++ printed_line d) after second
+    (line_printed rows (2 * k) d start before (before ++ printed_line d) first before_is refl)
+    (after_is ∙ sym (append_assoc before (printed_line d) (printed_line e)))
+    ∙ ap (λ n. start ++ printed_lines (take n rows)) count
+
+-- a row more is printed, and then its line feed
 pub line_written : (rows : List Datum) (i : ℕ) (d : Datum)
     (start before with_text with_end : List ℕ)
     → slice_get rows i ≡ Some d → before ≡ start ++ printed_lines (take i rows)
     → with_text ≡ before ++ printed d → with_end ≡ with_text ++ 10 ∷ []
     → with_end ≡ start ++ printed_lines (take (i + 1) rows)
 line_written rows i d start before with_text with_end is before_is text_is end_is =
-    end_is ∙ ap (λ o. o ++ 10 ∷ []) text_is ∙ append_assoc before (printed d) (10 ∷ [])
-    ∙ ap (λ o. o ++ printed_line d) before_is
-    ∙ flat_map_more printed_line start (take i rows) d
-    ∙ ap (λ r. start ++ printed_lines r) (sym (take_next rows i d is))
+    line_printed rows i d start before with_end is before_is
+    (end_is ∙ ap (λ o. o ++ 10 ∷ []) text_is ∙ append_assoc before (printed d) (10 ∷ []))
 
 -- a row more is printed as a text
 pub text_printed : (rows : List Datum) (i : ℕ) (d : Datum) (before after : List (List ℕ))

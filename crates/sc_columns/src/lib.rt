@@ -15,6 +15,7 @@
 
 mod adds;
 mod builder;
+mod cells;
 mod chains;
 mod columns;
 mod filters;
@@ -22,6 +23,7 @@ mod flats;
 mod gets;
 mod growing;
 mod joins;
+mod lines;
 mod parts;
 mod picks;
 mod printing;

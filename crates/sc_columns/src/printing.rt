@@ -1,12 +1,13 @@
 //! Printed rows.
 #![tactic(auto)]
 
-ghost use Rattle.std.specs.Prelude.{◌≡◌, ◌++◌, if◌then◌else◌, IfOk, OnOk, is_ok, length, map, take};
-ghost use Rattle.sc_value.specs.Datum.{number, text};
+ghost use Rattle.std.specs.Prelude.{◌≡◌, ◌++◌, if◌then◌else◌, IfOk, is_ok, length, map};
+ghost use Rattle.sc_value.specs.Datum.{number};
 ghost use Rattle.sc_value.specs.Printing.{printed, printed_lines};
 ghost use Rattle.sc_columns.specs.Columns.{rows_in};
 
 use crate::columns::{Column, len};
+use crate::lines::write_lines;
 use crate::prints::write_row;
 use crate::rows::Rows;
 use itoa::Buffer;
@@ -48,64 +49,6 @@ impl Rows {
     pub fn printed_len_hint(&self) -> usize {
         likely_len(self.column()).saturating_add(self.len())
     }
-}
-
-/// Writes each row and a line feed, or some of them where memory runs out.
-fn write_lines(column: &Column, out: &mut Vec<u8>) -> Result<(), AllocError>
-    ensures bytes { OnOk result
-        (out.new.items ≡ out.old.items ++ printed_lines (rows_in column.now)) }
-    ensures kept { take (length out.old.items) out.new.items ≡ out.old.items }
-{
-    match column {
-        Column::Texts(t) => write_text_lines(t, out),
-        Column::Ints(v) => write_int_lines(v.as_slice(), out),
-        Column::Chain(a, b) => {
-            write_lines(a, out)?;
-            write_lines(b, out)
-        }
-        _ => write_row_lines(column, out),
-    }
-}
-
-fn write_text_lines(texts: &Texts, out: &mut Vec<u8>) -> Result<(), AllocError>
-    ensures bytes { OnOk result
-        (out.new.items ≡ out.old.items ++ printed_lines (map text texts.now)) }
-    ensures kept { take (length out.old.items) out.new.items ≡ out.old.items }
-{
-    for i in 0..texts.len() {
-        out.extend_from_slice(texts.get(i).as_bytes())?;
-        out.push(b'\n')?;
-    }
-    Ok(())
-}
-
-fn write_int_lines(numbers: &[i64], out: &mut Vec<u8>) -> Result<(), AllocError>
-    ensures bytes { OnOk result
-        (out.new.items ≡ out.old.items ++ printed_lines (map number numbers.now)) }
-    ensures kept { take (length out.old.items) out.new.items ≡ out.old.items }
-{
-    let mut buffer = Buffer::new();
-    for i in 0..numbers.len() {
-        out.extend_from_slice(buffer.format(numbers[i]).as_bytes())?;
-        out.push(b'\n')?;
-    }
-    Ok(())
-}
-
-fn write_row_lines(column: &Column, out: &mut Vec<u8>) -> Result<(), AllocError>
-    ensures bytes { OnOk result
-        (out.new.items ≡ out.old.items ++ printed_lines (rows_in column.now)) }
-    ensures kept { take (length out.old.items) out.new.items ≡ out.old.items }
-{
-    let n = len(column);
-    if n == usize::MAX {
-        return Err(AllocError);
-    }
-    for i in 0..n {
-        write_row(column, i, out)?;
-        out.push(b'\n')?;
-    }
-    Ok(())
 }
 
 fn printed_ints(alloc: Global, numbers: &[i64]) -> Result<Texts, AllocError>

@@ -61,7 +61,8 @@ fn write_items(items: &Column, span: Span, out: &mut Vec<u8>) -> Result<(), Allo
 }
 
 /// Writes what stands behind so many items and in front of the next.
-fn write_separator(before: usize, out: &mut Vec<u8>) -> Result<(), AllocError>
+#[inline(always)]
+pub(crate) fn write_separator(before: usize, out: &mut Vec<u8>) -> Result<(), AllocError>
     ensures { Writes result out.old.items out.new.items (separator before) }
 {
     if before == 0 {

@@ -1,11 +1,13 @@
 //! Values of two sides, each of the one beside each of the other.
 #![tactic(auto)]
 
-ghost use Rattle.std.specs.Prelude.{◌≡◌, ◌++◌, IfOk, OnOk, length, replicate};
+ghost use Rattle.std.specs.Prelude.{◌≡◌, ◌≤◌, ◌++◌, IfOk, OnOk, length, replicate};
 ghost use Rattle.std.specs.List.{flat_map};
+ghost use Rattle.sc_base.specs.Limits.{count_limit};
 ghost use Rattle.sc_combine.specs.Crossings.{crossed as crossed_of};
 
 use crate::sides::Side;
+use sc_base::COUNT_LIMIT;
 use sc_columns::Rows;
 use std::alloc::{AllocError, Global};
 
@@ -19,12 +21,17 @@ struct Crossing {
 }
 
 /// Each value of the left with each of the right, beside the key of their group.
+///
+/// # Errors
+///
+/// Memory is wanting, or there are more than [`COUNT_LIMIT`] keys.
 pub fn crossed(alloc: Global, keys: &Rows, left: &Side, right: &Side) -> Result<Rows, AllocError>
     requires left_level { length left.now ≡ length keys.now }
     requires right_level { length right.now ≡ length keys.now }
-    ensures { IfOk result (λ r. r ≡ crossed_of keys.now left.now right.now) }
+    ensures are { IfOk result (λ r. r ≡ crossed_of keys.now left.now right.now) }
+    ensures within { IfOk result (λ r. length keys.now ≤ count_limit) }
 {
-    if keys.len() > u32::MAX as usize {
+    if keys.len() > COUNT_LIMIT {
         return Err(AllocError);
     }
     let mut all = Crossing {

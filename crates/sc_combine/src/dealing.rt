@@ -1,13 +1,15 @@
 //! The rows of a map partition by bucket.
 #![tactic(auto)]
 
-ghost use Rattle.std.specs.Prelude.{◌≡◌, ◌<◌, IfOk, ℕ, length, map};
+ghost use Rattle.std.specs.Prelude.{◌≡◌, ◌<◌, ◌≤◌, IfOk, ℕ, length, map};
 ghost use Rattle.std.specs.List.{All};
+ghost use Rattle.sc_base.specs.Limits.{count_limit};
 ghost use Rattle.sc_base.specs.Lists.{numbers_below};
 ghost use Rattle.sc_combine.specs.Deals.{IsDealt, bucket_count, buckets_in, turn_of};
 ghost use Rattle.sc_lineage.specs.Shuffles.{Dealing, by_hash, by_range, in_turn};
 
 use crate::columns::keys_of;
+use sc_base::COUNT_LIMIT;
 use sc_columns::Rows;
 use sc_hash::keys_have_buckets;
 use sc_part::{Bounds, bounds_are_lawful};
@@ -27,11 +29,16 @@ pub fn dealt_by_hash(alloc: Global, rows: &Rows, n: u32) -> Result<MapOutput, Al
 }
 
 /// The rows of a map partition by the range of the key, between some bounds.
+///
+/// # Errors
+///
+/// Memory is wanting, or there are [`COUNT_LIMIT`] bounds or more.
 pub fn dealt_by_range(alloc: Global, rows: &Rows, bounds: &Bounds) -> Result<MapOutput, AllocError>
-    ensures { IfOk result (λ d. (m : ℕ) → IsDealt (by_range bounds.now) m rows.now d) }
+    ensures dealt { IfOk result (λ d. (m : ℕ) → IsDealt (by_range bounds.now) m rows.now d) }
+    ensures within { IfOk result (λ d. length bounds.now < count_limit) }
 {
     bounds_are_lawful();
-    if bounds.len() >= u32::MAX as usize {
+    if bounds.len() >= COUNT_LIMIT {
         return Err(AllocError);
     }
     let keys = keys_of(alloc, rows)?;
@@ -42,11 +49,16 @@ pub fn dealt_by_range(alloc: Global, rows: &Rows, bounds: &Bounds) -> Result<Map
 }
 
 /// The rows of map partition `m` in turn, among `n` buckets: the first goes to bucket `m`.
+///
+/// # Errors
+///
+/// Memory is wanting, or there are more than [`COUNT_LIMIT`] rows.
 pub fn dealt_in_turn(alloc: Global, rows: &Rows, n: u32, m: u32) -> Result<MapOutput, AllocError>
     requires some_buckets { 0 < n }
-    ensures { IfOk result (IsDealt (in_turn n) m rows.now) }
+    ensures dealt { IfOk result (IsDealt (in_turn n) m rows.now) }
+    ensures within { IfOk result (λ d. length rows.now ≤ count_limit) }
 {
-    if rows.len() > u32::MAX as usize {
+    if rows.len() > COUNT_LIMIT {
         return Err(AllocError);
     }
     let buckets = turns(alloc, m, rows.len() as u32, n)?;

@@ -1,13 +1,15 @@
 //! Values gathered under their keys.
 #![tactic(auto)]
 
-ghost use Rattle.std.specs.Prelude.{◌≡◌, ◌<◌, IfOk, List, map};
+ghost use Rattle.std.specs.Prelude.{◌≡◌, ◌<◌, ◌≤◌, IfOk, List, length, map};
+ghost use Rattle.sc_base.specs.Limits.{count_limit};
 ghost use Rattle.sc_expr.specs.Heads.{first_of};
 ghost use Rattle.sc_lineage.specs.Keyed.{grouped as grouped_of};
 ghost use Rattle.sc_value.specs.Datum.{Datum};
 ghost use Rattle.sc_combine.specs.Groupings.{IsGrouping, firsts_from};
 
 use crate::sides::Side;
+use sc_base::COUNT_LIMIT;
 use sc_batch::halves;
 use sc_columns::Rows;
 use sc_keys::Keys;
@@ -52,11 +54,13 @@ pub fn group(alloc: Global, firsts: &Rows) -> Result<Grouping, AllocError>
     })
 }
 
-/// The place of the first row of each group.
+/// The place of the first row of each group. More than [`COUNT_LIMIT`] rows are answered as want of
+/// memory.
 fn first_places(alloc: Global, numbers: &[u32]) -> Result<Vec<u32>, AllocError>
-    ensures { IfOk result (λ v. v.items ≡ firsts_from 0 0 numbers.now) }
+    ensures are { IfOk result (λ v. v.items ≡ firsts_from 0 0 numbers.now) }
+    ensures within { IfOk result (λ v. length numbers.now ≤ count_limit) }
 {
-    if numbers.len() > u32::MAX as usize {
+    if numbers.len() > COUNT_LIMIT {
         return Err(AllocError);
     }
     let mut places = Vec::new(alloc);

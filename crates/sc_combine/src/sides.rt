@@ -1,14 +1,16 @@
 //! Values by group.
 #![tactic(auto)]
 
-ghost use Rattle.std.specs.Prelude.{◌≡◌, ◌<◌, IfOk, length, map};
+ghost use Rattle.std.specs.Prelude.{◌≡◌, ◌<◌, ◌≤◌, IfOk, length, map};
 ghost use Rattle.std.specs.List.{All, concat};
+ghost use Rattle.sc_base.specs.Limits.{count_limit};
 ghost use Rattle.sc_base.specs.Lists.{numbers_below};
 ghost use Rattle.sc_expr.specs.Heads.{list_value};
 ghost use Rattle.sc_keys.specs.Splits.{places_of};
 ghost use Rattle.sc_value.specs.Picked.{ArePlaces, picked};
 ghost use Rattle.sc_combine.specs.Spans.{span_places};
 
+use sc_base::COUNT_LIMIT;
 use sc_columns::Rows;
 use sc_keys::{Split, range_law};
 use sc_value::Span;
@@ -65,11 +67,13 @@ impl Side {
     }
 }
 
-/// Where the places of each number lie among all.
+/// Where the places of each number lie among all. More than [`COUNT_LIMIT`] places are answered as
+/// want of memory.
 fn spans_of(alloc: Global, places: &Split) -> Result<Vec<Span>, AllocError>
-    ensures { IfOk result (λ v. map (span_places places.now) v.items ≡ places.now) }
+    ensures are { IfOk result (λ v. map (span_places places.now) v.items ≡ places.now) }
+    ensures within { IfOk result (λ v. length (concat places.now) ≤ count_limit) }
 {
-    if places.order().len() > u32::MAX as usize {
+    if places.order().len() > COUNT_LIMIT {
         return Err(AllocError);
     }
     let mut spans = Vec::with_capacity(alloc, places.len())?;

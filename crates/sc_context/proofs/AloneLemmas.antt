@@ -1,15 +1,15 @@
 -- How a job goes on from its beginning, and begins again.
-use Rattle.std.proofs.Common.{◌≡◌, ◌∙◌, ℕ, zero, suc, List, [], ◌∷◌, ◌++◌, Option, Some, None, IfSome, option_map, replicate, refl, ap, sym, subst}
+use Rattle.std.proofs.Common.{◌≡◌, ◌∙◌, ℕ, zero, suc, List, [], ◌++◌, Option, Some, None, IfSome, option_map, replicate, refl, ap, sym, subst}
 use Rattle.sc_base.specs.Lists.{at_or}
 use Rattle.sc_base.specs.Outside.{FilesState, IsLaterFiles}
 use Rattle.sc_base.specs.Trees.{Path, Tree}
-use Rattle.sc_base.proofs.ChangeLemmas.{changes-compose, changes-none}
-use Rattle.sc_compute.specs.declared.results.TaskResult.{TaskResult}
+use Rattle.sc_base.proofs.ChangeLemmas.{changes-after, changes-compose, changes-none}
 use Rattle.sc_lineage.specs.ScriptData.{WorkData}
-use Rattle.sc_files.specs.Calls.{counts_of}
 use Rattle.sc_output.proofs.CallLemmas.{later-then}
 use Rattle.sc_staging.specs.Done.{HasFiles}
+use Rattle.sc_staging.specs.Laws as staging
 use Rattle.sc_staging.specs.Laws.{StaysUnderWay}
+use Rattle.sc_staging.specs.Renewal.{renewed_tree}
 use Rattle.sc_staging.specs.Outputs.{GoesOnIn}
 use Rattle.sc_ids.specs.declared.limits.Limits.{Limits}
 use Rattle.sc_core.specs.CoreData.{CoreData}
@@ -22,8 +22,8 @@ use Rattle.sc_desk.specs.Begins.{Begins, BeginsAgain}
 use Rattle.sc_desk.specs.DeskData.{DeskData, PassedData}
 use Rattle.sc_desk.specs.Files.{AreCounted, CountsGoOn, FilesStand, deeds_of, dir_of_job, faults_of, part_texts}
 use Rattle.sc_desk.specs.declared.orders.Ordered.{Ordered}
-use Rattle.sc_exec.specs.Helms.{HelmData, IsJobOf, helm_data, opening_of}
-use Rattle.sc_exec.specs.Openings.{OpeningData, opening_data}
+use Rattle.sc_exec.specs.Helms.{HelmData, IsJobOf, helm_data}
+use Rattle.sc_exec.specs.Openings.{OpeningData}
 use Rattle.sc_world.specs.Laws.{DriverEnters}
 use Rattle.sc_world.specs.Runs.{idle_world}
 use Rattle.sc_world.specs.Serial.{IsResting}
@@ -31,6 +31,7 @@ use Rattle.sc_world.specs.WorldData.{WorldData}
 use Rattle.sc_store.specs.StoreData.{StoreData}
 use Rattle.sc_context.specs.Goings.{ComesFrom}
 use Rattle.sc_context.specs.Histories.{AreDrivers}
+use Rattle.sc_context.specs.Outputs.{IsRenewedIn}
 use Rattle.sc_context.specs.Starts.{IsUnregistered}
 use Rattle.sc_context.proofs.ReadyLemmas.{begun_unregistered}
 
@@ -105,45 +106,45 @@ drivers_all before after entries empty (more, all, drivers) same =
 -- and its entries tell of all that is counted
 pub counts_alone : (before after : DeskData) (opened mid : FilesState)
     → before.journal.entries ≡ [] → CountsGoOn before after opened mid
-    → AreCounted (counts_of opened) (faults_of after.journal.entries) (counts_of mid)
+    → AreCounted opened (faults_of after.journal.entries) mid
 counts_alone before after opened mid none counts =
-    subst (λ l. AreCounted (counts_of opened) l (counts_of mid))
+    subst (λ l. AreCounted opened l mid)
     (sym (counts.told ∙ ap (λ (es : List Entry). faults_of es ++ counts.faults) none))
     counts.counted
 
 -- ---- a job that begins again
 
--- its files stand where those of the one that was given up did
-pub again_stands : (work : WorkData) (d after : DeskData) (last : Option CoreData)
-    (orders : List Ordered) (dir : Option Path) (files : FilesState)
-    → BeginsAgain work d last orders after → FilesStand work d dir files
-    → FilesStand work after dir files
-again_stands work d after last orders dir files again stand =
+-- its files stand where those of the one that was given up did, with nothing in the staging area
+pub again_stands : (law : staging.FilesStand) (work : WorkData) (d after : DeskData)
+    (last : Option CoreData) (orders : List Ordered) (dir : Option Path)
+    (files begun : FilesState) → BeginsAgain work d last orders after
+    → FilesStand work d dir files → IsRenewedIn dir files begun → FilesStand work after dir begun
+again_stands law work d after last orders dir files begun again stand renewed =
     record {
       opened_for = stand.opened_for
           ∙ ap (λ (j : JobData). dir_of_job work j.goal) (sym again.job);
-      standing = by dir stand.standing;
+      standing = by dir stand.standing renewed;
     }
   where
-    has : (p : Path) (t : Tree)
-        → HasFiles p (part_texts work d.job.goal) (deeds_of d.journal.entries) t
-        → HasFiles p (part_texts work after.job.goal) (deeds_of after.journal.entries) t
-    has p t is =
-        rw again.entries (record { there = is.there; standing = λ a deed within bad. absurd bad })
+    Stood : Path → Tree → Type 0
+    Stood p = HasFiles p (part_texts work d.job.goal) (deeds_of d.journal.entries)
 
-    shown : (p : Path) (o : Option Tree)
-        → IfSome o (HasFiles p (part_texts work d.job.goal) (deeds_of d.journal.entries))
-        → IfSome o (HasFiles p (part_texts work after.job.goal) (deeds_of after.journal.entries))
-    shown p None h = tt
-    shown p (Some t) h = has p t h
+    Stands : Path → Tree → Type 0
+    Stands p = HasFiles p (part_texts work after.job.goal) (deeds_of after.journal.entries)
 
-    by : (o : Option Path)
-        → IfSome o (λ p. IfSome files.shown
-        (HasFiles p (part_texts work d.job.goal) (deeds_of d.journal.entries)))
-        → IfSome o (λ p. IfSome files.shown
-        (HasFiles p (part_texts work after.job.goal) (deeds_of after.journal.entries)))
-    by None h = tt
-    by (Some p) h = shown p files.shown h
+    anew : (p : Path) (t u : Tree) → Stood p t → u ≡ renewed_tree p t → Stands p u
+    anew p t u stood is =
+        subst (Stands p) (sym is)
+        (subst (λ (es : List Entry).
+        HasFiles p (part_texts work after.job.goal) (deeds_of es) (renewed_tree p t))
+        (sym again.entries) (law.renewed p (part_texts work after.job.goal) t stood.there))
+
+    by : (o : Option Path) → IfSome o (λ p. IfSome files.shown (Stood p))
+        → IsRenewedIn o files begun → IfSome o (λ p. IfSome begun.shown (Stands p))
+    by None stood is = tt
+    by (Some p) stood is =
+        changes-after (λ t u. u ≡ renewed_tree p t) (Stood p) (Stands p) files.shown begun.shown
+        (anew p) stood is.2
 
 -- its tracker knows of no place
 nothing_behind : (last : Option CoreData) (limits : Limits)

@@ -1,26 +1,14 @@
--- What a job began behind, and how it went before if it was given up.
-use Rattle.std.proofs.Common.{◌≡◌, List, Option, Some, None, ap, subst, sym}
+-- How a job went before if it was given up.
+use Rattle.std.proofs.Common.{◌≡◌, Option, Some, None, ap, subst}
 use Rattle.std.specs.Prelude.{IfSome}
 use Rattle.sc_lineage.specs.ScriptData.{WorkData}
-use Rattle.sc_core.specs.CoreData.{CoreData}
-use Rattle.sc_core.specs.declared.entries.Entry.{Entry}
 use Rattle.sc_core.specs.declared.journals.JobHistory.{JobHistory}
 use Rattle.sc_jobs.specs.JobData.{JobData, job_data}
 use Rattle.sc_jobs.specs.declared.goals.Goal.{Goal}
-use Rattle.sc_desk.specs.Begins.{FitsLast}
 use Rattle.sc_desk.specs.Sound.{AreEvident}
-use Rattle.sc_desk.proofs.AgainLemmas.{serves_unregistered}
 use Rattle.sc_context.specs.Goings.{IsTrial}
-use Rattle.sc_context.specs.Histories.{BeginsBehind, WasTried}
+use Rattle.sc_context.specs.Histories.{WasTried}
 use Rattle.sc_context.specs.Progress.{Progress}
-
--- what fits the work does with nothing registered too
-pub fits_behind : (work : WorkData) (tried : Option JobHistory) (last from : Option CoreData)
-    (entries : List Entry) → BeginsBehind tried last entries from → FitsLast work last
-    → FitsLast work from
-fits_behind work None last from entries same fits = subst (FitsLast work) (sym same) fits
-fits_behind work (Some tried) last from entries (same, alone) fits =
-    subst (FitsLast work) (sym same) ((serves_unregistered work last).0 fits)
 
 -- a job is one for its goal
 pub job_is : (goal : Goal) (job : JobData) → job.goal ≡ goal → job ≡ job_data goal job.graph

@@ -24,17 +24,19 @@ use Rattle.sc_desk.specs.Files.{dir_of_job}
 use Rattle.sc_context.specs.Aborts.{IsHalted}
 use Rattle.sc_context.specs.Bounding.{GoesOn}
 use Rattle.sc_context.specs.Contexts.{ContextData, Evaluates, GivesNext, IsEnded, ShowsStop, StandBehind, Stops}
-use Rattle.sc_context.specs.Files.{HasCounted, StopsFiles}
+use Rattle.sc_context.specs.Files.{HasCounted, IsOfRenewal, StopsFiles}
 use Rattle.sc_context.specs.Histories.{HasCome, IsCutShort, IsDone, IsHistory, IsUnaborted, last_end}
 use Rattle.sc_context.specs.Goings.{IsLeftOver}
 use Rattle.sc_context.specs.Outputs.{IsOpenIn, RefusesOutput}
 use Rattle.sc_context.specs.Progress.{IsNext, Progress, behind_job, first_progress, next_node}
 use Rattle.sc_context.specs.declared.stops.JobFault.{JobFault}
 use Rattle.sc_context.specs.declared.stops.JobFault.TheVariants as faults
-use Rattle.sc_context.proofs.CountingLemmas.{counts_behind, ended_counts, given_up_counts, left_counts, opened_counts, refused_counts, still_counts}
+use Rattle.sc_context.proofs.CountingLemmas.{counts_behind, ended_counts, given_up_counts, left_counts, not_begun_counts, opened_counts, refused_counts, still_counts}
 use Rattle.sc_context.proofs.BehindLemmas.{tried_so}
 use Rattle.sc_context.proofs.DoneLemmas.{aborted_undone}
-use Rattle.sc_context.proofs.FilesLemmas.{HaveGone, gone_then, given_up_stops, left_stops, refused_stops, stops_for, unbegun_stops, unchanged_stops}
+use Rattle.sc_context.proofs.FilesLemmas.{HaveGone, gone_then, left_stops, refused_stops, stops_for, unbegun_stops, unchanged_stops}
+use Rattle.sc_context.proofs.GivenLemmas.{own_trial, own_tried, stops_more}
+use Rattle.sc_context.proofs.RenewalLemmas.{not_begun_stops}
 
 -- one job more is done
 pub come_more : (work : WorkData) (p mid after : Progress) (histories given_up : List JobHistory)
@@ -168,8 +170,8 @@ stops_short work c why histories given_up files come none all all_given same =
     (record {
       behind = none_behind c histories given_up all all_given;
       shows = cut_short work c histories given_up come all all_given;
-      over = unchanged_stops (dir_of_job work (goals.Action c.progress.actions)) c.files files
-          OutOfMemory same tt;
+      over = unchanged_stops work [] (dir_of_job work (goals.Action c.progress.actions)) c.files
+          files OutOfMemory same tt;
       counted = still_counts c.files files same;
     })
 
@@ -194,9 +196,14 @@ stops_ended work c goal why passed histories given_up left given_left given file
       shows = inl (ended_short work c.progress c.histories c.given_up left given_left ended.tried
           ended.history goal come ended.is (done_unaborted ended.history.end ended.done)
           (all ∙ ended.all) (all_given ∙ ended.all_given));
-      over = subst (λ f. StopsFiles work c.progress.actions c.files f OutOfMemory) (sym same)
-          (stops_for work c.progress goal c.files files OutOfMemory next
-          (left_stops (dir_of_job work goal) work goal ended.history c.files files
+      over = subst (λ f. StopsFiles work (option_to_list ended.tried) c.progress.actions c.files
+          f OutOfMemory) (sym same)
+          (stops_for work (option_to_list ended.tried) c.progress goal c.files files OutOfMemory
+          next
+          (left_stops (dir_of_job work goal) work goal (option_to_list ended.tried) ended.tried
+          ended.history c.files files
+          (own_tried work c.progress goal ended.is.graph (dir_of_job work goal) ended.tried refl
+          ended.is.was_tried)
           ended.left.left));
       counted = subst (λ f. HasCounted (ended.history ∷ []) (option_to_list ended.tried)
           OutOfMemory c.files f) (sym same)
@@ -213,8 +220,8 @@ stops_unbegun work c goal why histories given_up files next come refused all all
     record {
       behind = none_behind c histories given_up all all_given;
       shows = shows (dir_of_job work goal) why refused;
-      over = stops_for work c.progress goal c.files files why next
-          (refused_stops (dir_of_job work goal) c.files files why refused);
+      over = stops_for work [] c.progress goal c.files files why next
+          (refused_stops work [] (dir_of_job work goal) c.files files why refused);
       counted = refused_counts (dir_of_job work goal) c.files files why refused;
     }
   where
@@ -243,54 +250,67 @@ stops_opened ways work c goal why histories given_up files next come opened none
     (record {
       behind = none_behind c histories given_up all all_given;
       shows = cut_short work c histories given_up come all all_given;
-      over = stops_for work c.progress goal c.files files OutOfMemory next
-          (unbegun_stops ways (dir_of_job work goal) c.files files opened);
+      over = stops_for work [] c.progress goal c.files files OutOfMemory next
+          (unbegun_stops ways work [] (dir_of_job work goal) c.files files opened);
       counted = opened_counts (dir_of_job work goal) c.files files opened;
     })
 
--- they were opened, and its executors gave it up, and memory ran out before it began again
+-- they were opened, and its executors gave it up, and it didn't begin again
 pub stops_given_up : WaysGoOn → (work : WorkData) (c : ContextData) (goal : Goal)
     (passed : PassedData) (why : OrMemory JobFault) (histories given_up : List JobHistory)
     (tried : JobHistory) (opened files : FilesState) → IsNext work c.progress goal
     → passed.carried ≡ c.progress.carried
     → HasCome work (first_progress work) c.histories c.given_up c.progress
     → IsOpenIn (dir_of_job work goal) c.files opened
-    → IsLeftOver work passed c.progress.last goal (dir_of_job work goal) opened tried files
-    → why ≡ OutOfMemory → histories ≡ c.histories → given_up ≡ c.given_up ++ tried ∷ []
+    → IsLeftOver work passed c.progress.last goal (dir_of_job work goal) opened tried why files
+    → histories ≡ c.histories → given_up ≡ c.given_up ++ tried ∷ []
     → Stops work c why histories given_up files
 stops_given_up ways work c goal passed why histories given_up tried opened files next same come
-    is_open left none all all_given =
-    subst (λ w. Stops work c w histories given_up files) (sym none)
-    (record {
+    is_open left all all_given =
+    record {
       behind = record {
         more = [];
         all = all ∙ sym (append-nil c.histories);
         given = tried ∷ [];
         all_given = all_given;
       };
-      shows = inl (
-        c.progress,
-        refl,
-        inr (inl (record {
-          given_before = c.given_up;
-          tried = tried;
-          all_given = all_given;
-          come = subst (λ hs. HasCome work (first_progress work) hs c.given_up c.progress) (sym all)
-              come;
-          goal = goal;
-          next = next;
-          graph = left.desk.job.graph;
-          cut = subst (λ k. IsCut work k (goal_node work goal) left.desk.job.graph) same
-              left.begins.cut;
-          was_tried = tried_so work c.progress goal left.desk.job tried left.begins.goal_is
-              left.was_tried;
-        })),
-      );
-      over = stops_for work c.progress goal c.files files OutOfMemory next
-          (given_up_stops ways (dir_of_job work goal) c.files opened files is_open left.left_open);
-      counted = given_up_counts (dir_of_job work goal) c.files opened files tried is_open
-          left.left_open left.counted;
-    })
+      shows = shows why
+          (not_begun_counts (dir_of_job work goal) left.left files why left.not_begun).0;
+      over = stops_for work (tried ∷ []) c.progress goal c.files files why next
+          (not_begun_stops ways work (tried ∷ []) tried (dir_of_job work goal) c.files opened
+          left.left files why is_open left.left_open left.not_begun
+          (own_trial work c.progress.last goal left.desk.job (dir_of_job work goal) (Some tried)
+          refl left.was_tried));
+      counted = given_up_counts (dir_of_job work goal) c.files opened left.left files tried why
+          is_open left.left_open left.counted left.not_begun;
+    }
+  where
+    gone : IsCutShort work c.progress.actions histories given_up
+    gone = (
+      c.progress,
+      refl,
+      inr (inl (record {
+        given_before = c.given_up;
+        tried = tried;
+        all_given = all_given;
+        come = subst (λ hs. HasCome work (first_progress work) hs c.given_up c.progress) (sym all)
+            come;
+        goal = goal;
+        next = next;
+        graph = left.desk.job.graph;
+        cut = subst (λ k. IsCut work k (goal_node work goal) left.desk.job.graph) same
+            left.begins.cut;
+        was_tried = tried_so work c.progress goal left.desk.job tried left.begins.goal_is
+            left.was_tried;
+      })),
+    )
+
+    shows : (why : OrMemory JobFault) → IsOfRenewal why
+        → ShowsStop work c.progress.actions why histories given_up
+    shows (Fault (faults.Aborted abort)) is = absurd is
+    shows (Fault (faults.Exists path)) is = absurd is
+    shows (Fault (faults.Device path)) is = inl gone
+    shows OutOfMemory is = inl gone
 
 -- ---- contexts that go on
 
@@ -350,8 +370,11 @@ stops_behind work c d why histories given_up files on stops =
     record {
       behind = stand_behind work c d histories given_up on stops.behind;
       shows = subst (λ k. ShowsStop work k why histories given_up) on.actions stops.shows;
-      over = subst (λ f. StopsFiles work c.progress.actions f files why) on.files
-          (subst (λ k. StopsFiles work k d.files files why) on.actions stops.over);
+      over = stops_more work on.given stops.behind.given
+          (dir_of_job work (goals.Action c.progress.actions)) c.files files why
+          (subst (λ f. StopsFiles work stops.behind.given c.progress.actions f files why) on.files
+          (subst (λ k. StopsFiles work stops.behind.given k d.files files why) on.actions
+          stops.over));
       counted = counts_behind on.more on.given stops.behind.more stops.behind.given why c.files
           d.files files
           (left_counts work c.progress d.progress on.more on.given c.files d.files on.come on.left)

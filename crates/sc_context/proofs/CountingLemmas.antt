@@ -1,6 +1,6 @@
 -- What the files have counted behind jobs, by what the histories of these tell of.
 use Rattle.std.specs.declared.alloc.Global.{Global}
-use Rattle.std.proofs.Common.{◌≡◌, ◌∙◌, inl, inr, List, [], ◌∷◌, ◌++◌, Option, Some, None, append_assoc, refl, ap, sym, subst, arith, Vec}
+use Rattle.std.proofs.Common.{◌≡◌, ◌∙◌, ◌⊎◌, inl, inr, List, [], ◌∷◌, ◌++◌, Option, Some, None, append_assoc, refl, ap, sym, subst, arith, Vec}
 use Rattle.std.specs.Option.{option_to_list}
 use Rattle.std.specs.Prelude.{IfErr, IfOk, Result, Ok, Err}
 use Rattle.std.proofs.lemmas.List.{append-nil}
@@ -9,7 +9,6 @@ use Rattle.sc_base.specs.Trees.{Path}
 use Rattle.sc_base.specs.declared.refusals.OrMemory.{OrMemory}
 use Rattle.sc_base.specs.declared.refusals.OrMemory.TheVariants.{Fault, OutOfMemory}
 use Rattle.sc_base.proofs.ChangeLemmas.{changes-none}
-use Rattle.sc_files.specs.Calls.{counts_of}
 use Rattle.sc_ids.specs.declared.failures.Fault as device
 use Rattle.sc_lineage.specs.ScriptData.{WorkData}
 use Rattle.sc_output.specs.Calls.{Call, IsNotDone, MakesCalls}
@@ -22,11 +21,10 @@ use Rattle.sc_core.specs.declared.journals.JobHistory.{JobHistory}
 use Rattle.sc_compute.specs.declared.results.TaskResult.{TaskResult}
 use Rattle.sc_output.proofs.CallLemmas.{later-then}
 use Rattle.sc_desk.specs.Files.{AreCounted, faults_of}
-use Rattle.sc_desk.proofs.CountLemmas.{counted_then, counts_quiet}
-use Rattle.sc_context.specs.Files.{CountAll, CountsLast, CountsOf, HasCounted, HaveLeft, faults_with}
-use Rattle.sc_context.specs.Goings.{IsLeftOpen}
+use Rattle.sc_desk.proofs.CountLemmas.{counted_none, counted_quiet, counted_then}
+use Rattle.sc_context.specs.Files.{CountAll, CountsLast, CountsOf, HasCounted, HaveLeft, IsOfRenewal, faults_with}
 use Rattle.sc_context.specs.Histories.{HasCome}
-use Rattle.sc_context.specs.Outputs.{CountsIn, EndsOutput, EndsSave, IsOpenIn, LacksBy, LacksResults, RefusesIn, RefusesOutput}
+use Rattle.sc_context.specs.Outputs.{CountsIn, EndsOutput, EndsSave, IsLeftOpen, IsNotBegun, IsOpenIn, IsRenewedIn, LacksBy, LacksResults, RefusesIn, RefusesOutput, RefusesRenewalIn}
 use Rattle.sc_context.specs.Progress.{Progress}
 use Rattle.sc_context.specs.declared.stops.JobFault.{JobFault}
 use Rattle.sc_context.specs.declared.stops.JobFault.TheVariants as faults
@@ -36,7 +34,7 @@ use Rattle.sc_context.specs.declared.stops.JobFault.TheVariants as faults
 pub quiet_none : (f : FilesState) → IsQuietFiles f f
 quiet_none f = record { faults = refl; clashes = refl }
 
-later_none : (f : FilesState) → IsLaterFiles f f
+pub later_none : (f : FilesState) → IsLaterFiles f f
 later_none f =
     record {
       shown = changes-none (λ t u. Unit {0}) f.shown (λ t. tt);
@@ -109,13 +107,14 @@ last_count (Err OutOfMemory) end why before after lacks counts =
 pub went_counts : {A : Type 0} (told : List device.Fault) (dir : Option Path) (end : CoreData)
     (opened mid closed : FilesState) (ended : Result (Unit {0}) (OrMemory Path))
     (results : Result A (OrMemory JobFault))
-    → AreCounted (counts_of opened) told (counts_of mid) → IsLaterFiles mid closed
+    → AreCounted opened told mid → IsLaterFiles mid closed
     → EndsOutput dir end mid closed ended → IfOk results (λ a. ended ≡ Ok tt)
     → IfErr results (LacksBy ended end) → CountsIn told opened closed results
 went_counts told dir end opened mid closed ended (Ok a) counted later ends ok lacks =
-    subst (λ n. AreCounted (counts_of opened) told n)
-    (sym (counts_quiet mid closed (subst (λ e. Counts e mid closed) ok
-    (output_counts dir end mid closed ended ends)))) counted
+    subst (λ l. AreCounted opened l closed) (append-nil told)
+    (counted_then opened mid closed told [] counted
+    (counted_quiet mid closed later (subst (λ e. Counts e mid closed) ok
+    (output_counts dir end mid closed ended ends))))
 went_counts told dir end opened mid closed ended (Err why) counted later ends ok lacks =
     record {
       last = mid;
@@ -127,9 +126,10 @@ went_counts told dir end opened mid closed ended (Err why) counted later ends ok
 
 -- what is counted while it is opened
 open_counts : (dir : Option Path) (before opened : FilesState) → IsOpenIn dir before opened
-    → counts_of opened ≡ counts_of before
-open_counts None before opened is = ap counts_of is
-open_counts (Some dir) before opened is = counts_quiet before opened is.1
+    → AreCounted before [] opened
+open_counts None before opened is =
+    subst (λ (f : FilesState). AreCounted before [] f) (sym is) (counted_none before)
+open_counts (Some dir) before opened is = counted_quiet before opened is.0 is.1
 
 open_later : (dir : Option Path) (before opened : FilesState) → IsOpenIn dir before opened
     → IsLaterFiles before opened
@@ -140,25 +140,23 @@ open_later (Some dir) before opened is = is.0
 -- what is counted while it runs, behind what was counted before
 pub counts_then : {A : Type 0} (told more : List device.Fault) (opened mid closed : FilesState)
     (results : Result A (OrMemory JobFault))
-    → AreCounted (counts_of opened) told (counts_of mid) → CountsIn more mid closed results
+    → AreCounted opened told mid → CountsIn more mid closed results
     → CountsIn (told ++ more) opened closed results
 counts_then told more opened mid closed (Ok a) first then =
-    counted_then (counts_of opened) (counts_of mid) (counts_of closed) told more first then
+    counted_then opened mid closed told more first then
 counts_then told more opened mid closed (Err why) first then =
     record {
       last = then.last;
-      counted = counted_then (counts_of opened) (counts_of mid) (counts_of then.last) told more
-          first then.counted;
+      counted = counted_then opened mid then.last told more first then.counted;
       later = then.later;
       ends = then.ends;
     }
 
 -- from before its files were opened
 from_open : (dir : Option Path) (told : List device.Fault) (before opened last : FilesState)
-    → IsOpenIn dir before opened → AreCounted (counts_of opened) told (counts_of last)
-    → AreCounted (counts_of before) told (counts_of last)
+    → IsOpenIn dir before opened → AreCounted opened told last → AreCounted before told last
 from_open dir told before opened last is_open counted =
-    subst (λ n. AreCounted n told (counts_of last)) (open_counts dir before opened is_open) counted
+    counted_then before opened last [] told (open_counts dir before opened is_open) counted
 
 pub done_counts : (dir : Option Path) (tried : Option JobHistory) (h : JobHistory)
     (before opened after : FilesState) (given : Vec TaskResult Global)
@@ -259,22 +257,67 @@ pub opened_counts : (dir : Option Path) (before opened : FilesState)
 opened_counts None before opened is = still_counts before opened is
 opened_counts (Some dir) before opened is = none_counts OutOfMemory before opened is.0 is.1
 
--- or its executors gave it up before
-pub given_up_counts : (dir : Option Path) (before opened files : FilesState)
-    (tried : JobHistory) → IsOpenIn dir before opened → IsLeftOpen dir opened files
-    → AreCounted (counts_of opened) (faults_of tried.entries.items) (counts_of files)
-    → HasCounted [] (tried ∷ []) OutOfMemory before files
-given_up_counts dir before opened files tried is left counted =
+-- what is counted where a job didn't begin again
+renewed_counts : (dir : Option Path) (left after : FilesState)
+    → (after ≡ left) ⊎ IsRenewedIn dir left after
+    → IsLaterFiles left after × IsQuietFiles left after
+renewed_counts dir left after (inl same) =
+    subst (λ (f : FilesState). IsLaterFiles left f × IsQuietFiles left f) (sym same)
+    (later_none left, quiet_none left)
+renewed_counts None left after (inr same) =
+    subst (λ (f : FilesState). IsLaterFiles left f × IsQuietFiles left f) (sym same)
+    (later_none left, quiet_none left)
+renewed_counts (Some dir) left after (inr renewed) = (renewed.0, renewed.1)
+
+pub renewed_counted : (dir : Option Path) (left after : FilesState) → IsRenewedIn dir left after
+    → AreCounted left [] after
+renewed_counted dir left after renewed =
+    let counts = renewed_counts dir left after (inr renewed) in
+    counted_quiet left after counts.0 counts.1
+
+abbrev pub EndsAgain : OrMemory JobFault → FilesState → FilesState → Type 0
+EndsAgain why left after = IsOfRenewal why × IsLaterFiles left after × CountsLast why left after
+
+unrenewed_counts : (dir : Path) (left after : FilesState) (why : OrMemory JobFault)
+    → IsLaterFiles left after → RefusesRenewalIn dir left after why → EndsAgain why left after
+unrenewed_counts dir left after (Fault (faults.Aborted abort)) later refused = absurd refused
+unrenewed_counts dir left after (Fault (faults.Exists path)) later refused = absurd refused
+unrenewed_counts dir left after (Fault (faults.Device path)) later refused =
+    (tt, later, refused.1)
+unrenewed_counts dir left after OutOfMemory later refused = (tt, later, refused.0)
+
+pub not_begun_counts : (dir : Option Path) (left after : FilesState) (why : OrMemory JobFault)
+    → IsNotBegun dir left after why → EndsAgain why left after
+not_begun_counts dir left after why (inl (none, how)) =
+    let counts = renewed_counts dir left after how in
+    subst (λ w. EndsAgain w left after) (sym none) (tt, counts.0, counts.1)
+not_begun_counts None left after why (inr refused) = absurd refused
+not_begun_counts (Some dir) left after why (inr refused) =
+    unrenewed_counts dir left after why refused.0 refused.1
+
+-- or its executors gave it up before, and it didn't begin again
+pub given_up_counts : (dir : Option Path) (before opened left files : FilesState)
+    (tried : JobHistory) (why : OrMemory JobFault) → IsOpenIn dir before opened
+    → IsLeftOpen dir opened left → AreCounted opened (faults_of tried.entries.items) left
+    → IsNotBegun dir left files why → HasCounted [] (tried ∷ []) why before files
+given_up_counts dir before opened left files tried why is lay counted not_begun =
+    let ends = not_begun_counts dir left files why not_begun in
     record {
       front = [];
       unfinished = Some tried;
       all = refl;
       last = before;
       counted = (refl, refl);
-      later = later-then before opened files (open_later dir before opened is) left.0;
+      later = later-then before left files
+          (later-then before opened left (open_later dir before opened is) lay.0) ends.1;
       ends = (
-        refl,
-        from_open dir (faults_of tried.entries.items) before opened files is counted,
+        ends.0,
+        (
+          left,
+          from_open dir (faults_of tried.entries.items) before opened left is counted,
+          ends.1,
+          ends.2,
+        ),
       );
     }
 

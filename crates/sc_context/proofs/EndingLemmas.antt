@@ -1,6 +1,6 @@
 -- What a job that is over leads to.
 use Rattle.std.specs.declared.alloc.Global.{Global}
-use Rattle.std.proofs.Common.{◌≡◌, ◌∙◌, inl, inr, ◌<◌, List, [], ◌∷◌, ◌++◌, Option, Some, None, length, refl, ap, subst, sym, Vec}
+use Rattle.std.proofs.Common.{◌≡◌, ◌∙◌, inl, inr, ◌<◌, List, ◌++◌, Option, Some, None, length, refl, ap, subst, sym, Vec}
 use Rattle.std.specs.Prelude.{All, Result, Ok, Err}
 use Rattle.std.specs.List.{AllZip}
 use Rattle.std.specs.Option.{option_to_list}
@@ -17,7 +17,6 @@ use Rattle.sc_core.specs.CoreData.{CoreData}
 use Rattle.sc_core.specs.declared.journals.JobHistory.{JobHistory}
 use Rattle.sc_jobs.specs.JobData.{IsGoal}
 use Rattle.sc_jobs.specs.declared.goals.Goal.{Goal}
-use Rattle.sc_desk.specs.Begins.{FitsLast}
 use Rattle.sc_desk.specs.DeskData.{PassedData}
 use Rattle.sc_desk.specs.Files.{dir_of_job}
 use Rattle.sc_logs.specs.declared.logs.ExecLog.{ExecLog}
@@ -37,19 +36,21 @@ use Rattle.sc_context.proofs.AbortLemmas.{AreCauses}
 use Rattle.sc_context.proofs.ChainLemmas.{stops_given_up}
 use Rattle.sc_context.proofs.CountingLemmas.{done_counts, stop_counts}
 use Rattle.sc_context.proofs.FilesLemmas.{went_stops}
+use Rattle.sc_context.proofs.GivenLemmas.{own_trial}
 use Rattle.sc_context.proofs.JobLemmas.{HasWent, ended_is, given_for, has_went, left_for, none_for, stops_job}
 use Rattle.sc_context.proofs.SaveLemmas.{went_leaves}
 
 -- ---- records
 
 -- what is kept is kept in records of the same jobs
-pub same_kept : (r after : Records) → IsSame r after → AreKept r → AreKept after
-same_kept r after same kept =
+pub same_kept : (work : WorkData) (r after : Records) → IsSame r after → AreKept work r
+    → AreKept work after
+same_kept work r after same kept =
     record {
       logged = subst (λ hs. AllZip logged hs after.logs.items) (sym same.histories)
           (subst (λ (ls : List (Vec ExecLog Global)). AllZip logged r.histories.items ls)
           (sym same.logs) kept.logged);
-      given_up = subst (All IsGivenUp) (sym same.given_up) kept.given_up;
+      given_up = subst (All (IsGivenUp work)) (sym same.given_up) kept.given_up;
     }
   where
     logged : JobHistory → Vec ExecLog Global → Type 0
@@ -72,10 +73,10 @@ histories_more given one all is =
 -- what came of a job that began can be recorded
 pub can_be_kept : {W F : Type 0} → (work : WorkData) (state : F → FilesState) (passed : PassedData)
     (last : Option CoreData) (goal : Goal) (dir : Option Path) (opened : FilesState)
-    (run : Run W F) → RunsFrom work state passed last goal dir opened run → CanBeKept run
+    (run : Run W F) → RunsFrom work state passed last goal dir opened run → CanBeKept work run
 can_be_kept work state passed last goal dir opened (runs.Went went logs gave_up stores) from =
     (from.1, from.2)
-can_be_kept work state passed last goal dir opened (runs.Refused gave_up files) from = from.0
+can_be_kept work state passed last goal dir opened (runs.Refused gave_up why files) from = from.0
 
 -- ---- a job that is over, behind a context
 
@@ -156,8 +157,8 @@ module _ (ways : WaysGoOn) (work : WorkData) (c : ContextData) (goal : Goal)
       (went_of histories given_up next results files is) is.all is.all_given are.done
       (record { passed_on = is.run.goes.passed_on; fits = is.run.goes.fits }) are.all
       (record {
-        left = went_leaves ways law work goal h given.items dir c.files opened files given results
-            refl sound known refl are.all is_open left;
+        left = went_leaves ways law work goal tried h given.items dir c.files opened is.run.begun
+            files given results refl sound known refl are.all is_open is.run.began left;
         counted = done_counts dir tried h c.files opened files given results refl is_open
             is.run.counted;
       })
@@ -166,8 +167,7 @@ module _ (ways : WaysGoOn) (work : WorkData) (c : ContextData) (goal : Goal)
   module _ (known_causes : AreCauses) (sound : IsSoundWork work)
       (come : HasCome work (first_progress work) c.histories c.given_up c.progress)
       (within : c.progress.actions < length work.script.actions)
-      (carried : IsCarriedFor work.script.nodes c.progress.carried)
-      (last : FitsLast work c.progress.last) where
+      (carried : IsCarriedFor work.script.nodes c.progress.carried) where
     stops_recorded : (histories given_up : List JobHistory) (next : PassedData)
         (why : OrMemory JobFault) (files : FilesState)
         → Recorded histories given_up next (Err why) files
@@ -183,8 +183,10 @@ module _ (ways : WaysGoOn) (work : WorkData) (c : ContextData) (goal : Goal)
         is.run in
         stops_job known_causes work sound c goal tried h histories given_up
         (went_of histories given_up next results files is).is is.ended is.run.goes.fits come is.all
-        is.all_given within carried known last why files none
-        (went_stops ways dir work goal h.end c.files opened files why results refl is_open left)
+        is.all_given within carried known why files none
+        (went_stops ways dir work goal (option_to_list tried) tried h.end c.files opened
+        is.run.begun files why results refl is_open is.run.began
+        (own_trial work c.progress.last goal is.run.desk.job dir tried refl is.run.was_tried) left)
         (stop_counts dir tried h c.files opened files why results refl is_open is.run.counted)
 
     pub stops_over : (histories given_up : List JobHistory) (why : OrMemory JobFault)
@@ -193,6 +195,6 @@ module _ (ways : WaysGoOn) (work : WorkData) (c : ContextData) (goal : Goal)
         c.given_up histories given_up why files → Stops work c why histories given_up files
     stops_over histories given_up why files (inl (next, is)) =
         stops_recorded histories given_up next why files is
-    stops_over histories given_up why files (inr (none, all, (tried, all_given, left))) =
+    stops_over histories given_up why files (inr (all, (tried, all_given, left))) =
         stops_given_up ways work c goal passed why histories given_up tried opened files comes same
-        come is_open left none all all_given
+        come is_open left all all_given

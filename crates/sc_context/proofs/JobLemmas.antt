@@ -19,7 +19,7 @@ use Rattle.sc_core.specs.declared.answers.JobState.TheVariants as jobs
 use Rattle.sc_core.specs.declared.journals.JobHistory.{JobHistory}
 use Rattle.sc_jobs.specs.JobData.{IsGoal, JobData, goal_node, saves}
 use Rattle.sc_jobs.specs.declared.goals.Goal.{Goal}
-use Rattle.sc_desk.specs.Begins.{FitsLast, FitsRun, IsPassedFor}
+use Rattle.sc_desk.specs.Begins.{FitsRun, IsPassedFor}
 use Rattle.sc_desk.specs.DeskData.{PassedData}
 use Rattle.sc_desk.specs.Files.{dir_of_job}
 use Rattle.sc_desk.specs.Sound.{AreEvident}
@@ -87,9 +87,9 @@ module _ (work : WorkData) (p : Progress) (goal : Goal) (passed next : PassedDat
   none_for =
       subst (λ g. IfErr results (HasNoResults work g h.end)) run.begins.goal_is run.goes.none
 
-  pub left_for : WentIn dir work goal h.end opened files results
+  pub left_for : WentIn dir work goal h.end run.begun files results
   left_for =
-      subst (λ g. WentIn dir work g h.end opened files results) run.begins.goal_is run.goes.left
+      subst (λ g. WentIn dir work g h.end run.begun files results) run.begins.goal_is run.goes.left
 
 -- a job that is done
 pub ended_is : (work : WorkData) (c : ContextData) (goal : Goal) (tried : Option JobHistory)
@@ -123,13 +123,13 @@ module _ (known_causes : AreCauses) (work : WorkData) (sound : IsSoundWork work)
     (all : histories ≡ c.histories ++ h ∷ [])
     (all_given : given_up ≡ c.given_up ++ option_to_list tried)
     (within : c.progress.actions < length work.script.actions)
-    (carried : IsCarriedFor work.script.nodes c.progress.carried) (known : IsGoal work goal)
-    (last : FitsLast work c.progress.last) where
+    (carried : IsCarriedFor work.script.nodes c.progress.carried)
+    (known : IsGoal work goal) where
   aborts : (abort : Abort) → h.end.job ≡ jobs.Aborted abort
       → IsAborted work c.progress.actions histories given_up abort
   aborts abort e =
       is_aborted known_causes work sound c.progress goal tried h is core fits histories given_up
-      c.histories c.given_up abort come all all_given within carried known last e
+      c.histories c.given_up abort come all all_given within carried known e
 
   cut_short : IsUnaborted h.end → IsCutShort work c.progress.actions histories given_up
   cut_short unaborted =
@@ -158,7 +158,8 @@ module _ (known_causes : AreCauses) (work : WorkData) (sound : IsSoundWork work)
   shows_stop OutOfMemory e = halts e
 
   pub stops_job : (why : OrMemory JobFault) (files : FilesState)
-      → HasNoResults work goal h.end why → StopsIn (dir_of_job work goal) c.files files why
+      → HasNoResults work goal h.end why
+      → StopsIn work (option_to_list tried) (dir_of_job work goal) c.files files why
       → HasCounted (h ∷ []) (option_to_list tried) why c.files files
       → Stops work c why histories given_up files
   stops_job why files none stops counted =
@@ -170,7 +171,8 @@ module _ (known_causes : AreCauses) (work : WorkData) (sound : IsSoundWork work)
           all_given = all_given;
         };
         shows = shows_stop why none;
-        over = stops_for work c.progress goal c.files files why is.next stops;
+        over = stops_for work (option_to_list tried) c.progress goal c.files files why is.next
+            stops;
         counted = counted;
       }
 

@@ -1,15 +1,14 @@
 -- What came of a job that began: its executors worked to its end, or gave it up.
-use Rattle.std.proofs.Common.{◌≡◌, ◌∙◌, ◌⊎◌, inl, inr, ◌||◌, All, Bool, true, false, Global, List, [], Option, Some, None, option_map, length, refl, ap, sym, subst}
-use Rattle.std.specs.Prelude.{Result, Vec}
+use Rattle.std.proofs.Common.{◌≡◌, ◌∙◌, ◌⊎◌, inl, inr, ◌||◌, Bool, true, false, Global, List, [], Option, Some, None, option_map, length, refl, ap, sym, subst}
+use Rattle.std.specs.Prelude.{IsSomeAnd, Result, Vec}
+use Rattle.std.proofs.lemmas.List.{append-nil}
 use Rattle.std.proofs.lemmas.List.Elements.{All-nil, All-weaker}
-use Rattle.sc_base.specs.Outside.{FilesState, IsLaterFiles}
+use Rattle.sc_base.specs.Outside.{FilesState}
 use Rattle.sc_base.specs.Trees.{Path}
 use Rattle.sc_base.specs.declared.refusals.OrMemory.{OrMemory}
 use Rattle.sc_ids.specs.declared.attempts.Mark.TheVariants.{Driver}
 use Rattle.sc_compute.specs.declared.results.TaskResult.{TaskResult}
 use Rattle.sc_lineage.specs.ScriptData.{WorkData}
-use Rattle.sc_files.specs.Calls.{counts_of}
-use Rattle.sc_staging.specs.Outputs.{GoesOnIn}
 use Rattle.sc_core.specs.CoreData.{CoreData}
 use Rattle.sc_core.specs.Openings.{IsOpening, unregistered_core}
 use Rattle.sc_core.specs.Journals.{Replays}
@@ -21,10 +20,11 @@ use Rattle.sc_logs.specs.Logs.{Interleaves, IsLogIn, is_known, marks_driver}
 use Rattle.sc_logs.specs.declared.logs.ExecLog.{ExecLog}
 use Rattle.sc_desk.specs.Begins.{Begins, BeginsAgain}
 use Rattle.sc_desk.specs.DeskData.{DeskData, PassedData}
-use Rattle.sc_desk.specs.Files.{AreCounted, faults_of}
+use Rattle.sc_desk.specs.Files.{AreCounted, FilesStand, faults_of}
 use Rattle.sc_desk.specs.declared.orders.Ordered.{Ordered}
 use Rattle.sc_desk.specs.Sound.{AreEvident}
 use Rattle.sc_desk.proofs.AgainLemmas.{again_is_begun}
+use Rattle.sc_desk.proofs.CountLemmas.{counted_then}
 use Rattle.sc_exec.specs.Helms.{IsJobOf, helm_data, opening_of}
 use Rattle.sc_exec.specs.Openings.{OpeningData, opening_data}
 use Rattle.sc_exec.specs.Verdicts as judging
@@ -33,17 +33,17 @@ use Rattle.sc_exec.specs.declared.lefts.Left.{Left}
 use Rattle.sc_exec.specs.declared.verdicts.Verdict.{Verdict}
 use Rattle.sc_exec.specs.declared.verdicts.Verdict.TheVariants as verdicts
 use Rattle.sc_exec.specs.declared.workers.Worker.{Worker}
-use Rattle.sc_context.specs.Goings.{BeganBehind, CameFrom, ComesFrom, GivesUp, GoesFrom, HasRun, IsSoFar, IsTrial, RunsAgain, RunsFrom}
+use Rattle.sc_context.specs.Goings.{BeganBehind, CameFrom, ComesFrom, GivesUp, GoesFrom, HasRun, IsSoFar, IsTrial, RunsAgain, RunsFrom, RunsRenewed}
 use Rattle.sc_context.specs.Histories.{AreDrivers}
-use Rattle.sc_context.specs.Outputs.{CountsIn}
-use Rattle.sc_context.specs.Records.{IsLogged, WasGivenUp}
+use Rattle.sc_context.specs.Outputs.{CountsIn, IsNotBegun, IsRenewedIn}
+use Rattle.sc_context.specs.Records.{HaveStopped, IsLogged, WasGivenUp}
 use Rattle.sc_context.specs.declared.records.GaveUp.{GaveUp}
 use Rattle.sc_context.specs.declared.running.Run.{Run}
 use Rattle.sc_context.specs.declared.running.Run.TheVariants as runs
 use Rattle.sc_context.specs.declared.stops.JobFault.{JobFault}
 use Rattle.sc_context.specs.declared.went.Went.{Went}
-use Rattle.sc_context.proofs.AloneLemmas.{again_stands, comes_along}
-use Rattle.sc_context.proofs.CountingLemmas.{counts_then}
+use Rattle.sc_context.proofs.AloneLemmas.{comes_along, goes_self}
+use Rattle.sc_context.proofs.CountingLemmas.{counts_then, later_none, renewed_counted}
 
 -- ---- what executors wrote down
 
@@ -110,7 +110,7 @@ module _ (work : WorkData) (passed : PassedData) (last : Option CoreData) (goal 
       → ((o : OpeningData) → ComesFrom work o (helm_data d then files)
       → GoesFrom work o h next results closed)
       → ((begun : FilesState)
-      → AreCounted (counts_of begun) (faults_of d.journal.entries) (counts_of files)
+      → AreCounted begun (faults_of d.journal.entries) files
       → CountsIn (faults_of h.entries.items) begun closed results)
       → HasRun work passed last goal dir opened None h next results closed
   has_run h next results closed begins goes counts =
@@ -120,6 +120,8 @@ module _ (work : WorkData) (passed : PassedData) (last : Option CoreData) (goal 
         begins = begins;
         behind = refl;
         was_tried = tt;
+        begun = opened;
+        began = refl;
         goes = goes (opening_of (helm_data first dir opened))
             (comes_along work (opening_of (helm_data first dir opened)) (helm_data d then files)
             is);
@@ -155,23 +157,24 @@ module _ (work : WorkData) (passed : PassedData) (last : Option CoreData) (goal 
 
   -- and what its files had counted
   told_of : (tried : JobHistory) → IsSoFar work d tried
-      → AreCounted (counts_of opened) (faults_of tried.entries.items) (counts_of files)
+      → AreCounted opened (faults_of tried.entries.items) files
   told_of tried so =
-      subst (λ (es : List Entry). AreCounted (counts_of opened) (faults_of es) (counts_of files))
-      (sym so.entries) is.counted
+      subst (λ (es : List Entry). AreCounted opened (faults_of es) files) (sym so.entries)
+      is.counted
 
   -- it began again
   went_again : {F : Type 0} (state : F → FilesState) (orders : List Ordered) (went : Went F)
       (gave_up : GaveUp) → Begins work passed last goal first → orders ≡ first.ordered
-      → ((after : DeskData) × BeginsAgain work d last orders after
-      × ((o : OpeningData) → ComesFrom work o (helm_data after then files)
-      → GoesFrom work o went.history went.passed went.results (state went.files)))
-      → AreDrivers went.history.entries.items
-      → CountsIn (faults_of went.history.entries.items) files (state went.files) went.results
-      → IsSoFar work d gave_up.history
+      → (after : DeskData) → BeginsAgain work d last orders after → (begun : FilesState)
+      → IsRenewedIn then files begun → FilesStand work after then begun
+      → ((o : OpeningData) → ComesFrom work o (helm_data after then begun)
+      → GoesFrom work o went.history went.passed went.results (state went.files))
+      → CountsIn (faults_of went.history.entries.items) begun (state went.files) went.results
+      → AreDrivers went.history.entries.items → IsSoFar work d gave_up.history
       → HasRun work passed last goal dir opened (Some gave_up.history) went.history went.passed
       went.results (state went.files)
-  went_again state orders went gave_up begins same (after, again, goes) drivers counted so =
+  went_again state orders went gave_up begins same after again begun renewed stand goes counted
+      drivers so =
       record {
         desk = after;
         from = option_map unregistered_core last;
@@ -180,19 +183,29 @@ module _ (work : WorkData) (passed : PassedData) (last : Option CoreData) (goal 
         behind = (refl, drivers);
         was_tried = subst (λ (j : JobData). IsTrial work last goal j gave_up.history)
             (sym (again.job ∙ is.job)) (trial_of gave_up.history begins so);
-        goes = goes (opening_data after.journal.opening after.job after.carried dir opened)
+        begun = begun;
+        began = (
+          files,
+          (is.later, is.goes),
+          subst (λ (p : Option Path). IsRenewedIn p files begun) is.dir renewed,
+        );
+        goes = goes (opening_data after.journal.opening after.job after.carried dir begun)
             (record {
               core = refl;
               job = refl;
               carried = refl;
               dir = is.dir;
-              stand = again_stands work d after last orders then files again is.stand;
-              later = is.later;
-              goes = is.goes;
+              stand = stand;
+              later = later_none begun;
+              goes = goes_self dir begun;
             });
         counted = counts_then (faults_of gave_up.history.entries.items)
-            (faults_of went.history.entries.items) opened files (state went.files) went.results
-            (told_of gave_up.history so) counted;
+            (faults_of went.history.entries.items) opened begun (state went.files) went.results
+            (subst (λ l. AreCounted opened l begun)
+            (append-nil (faults_of gave_up.history.entries.items))
+            (counted_then opened files begun (faults_of gave_up.history.entries.items) []
+            (told_of gave_up.history so) (renewed_counted then files begun renewed)))
+            counted;
       }
 
   -- and did, or didn't
@@ -202,26 +215,25 @@ module _ (work : WorkData) (passed : PassedData) (last : Option CoreData) (goal 
       → RunsAgain work state d last orders then files run
       → RunsFrom work state passed last goal dir opened run
   has_run_again state orders (runs.Went went logs None stores) begins same
-      (again, drivers, counted, logged, given) = absurd given
+      (again, drivers, logged, given) = absurd given
   has_run_again state orders (runs.Went went logs (Some gave_up) stores) begins same
-      (again, drivers, counted, logged, given) = (
-        went_again state orders went gave_up begins same again drivers counted given.1,
+      ((after, again, (begun, renewed, stand, goes, counted)), drivers, logged, given) = (
+        went_again state orders went gave_up begins same after again begun renewed stand goes
+            counted drivers given.1,
         logged,
         given.0,
       )
-  has_run_again state orders (runs.Refused gave_up after) begins same (given, stays) = (
+  has_run_again state orders (runs.Refused gave_up why after) begins same (given, not_begun) = (
     given.0,
     record {
       desk = first;
       begins = begins;
       was_tried = trial_of gave_up.history begins given.1;
-      left_open = (
-        subst (λ (f : FilesState). IsLaterFiles opened f) (sym stays) is.later,
-        subst (λ (f : FilesState). GoesOnIn dir opened f) (sym stays) is.goes,
-      );
-      counted = subst (λ (f : FilesState). AreCounted (counts_of opened)
-          (faults_of gave_up.history.entries.items) (counts_of f)) (sym stays)
-          (told_of gave_up.history given.1);
+      left = files;
+      left_open = (is.later, is.goes);
+      counted = told_of gave_up.history given.1;
+      not_begun = subst (λ (p : Option Path). IsNotBegun p files (state after) why) is.dir
+          not_begun;
     },
   )
 
@@ -232,15 +244,55 @@ pub gives_up : (work : WorkData) (d : DeskData) (g : GaveUp)
     → g.history.opening ≡ d.journal.opening → g.history.entries.items ≡ d.journal.entries
     → (is : Replays g.history.opening g.history.entries.items g.history.end)
     → AreEvident work d.job g.history.opening g.history.entries.items g.history.end is
+    → HaveStopped work g.logs.items g.lefts.items
     → WasGivenUp d.journal.entries g.logs.items g.lefts.items → GivesUp work d g
-gives_up work d g opening entries replays evidence cause = (
+gives_up work d g opening entries replays evidence stopped cause = (
   record {
     replays = replays;
+    stopped = stopped;
     cause = subst (λ (es : List Entry). WasGivenUp es g.logs.items g.lefts.items) (sym entries)
         cause;
   },
   record { opening = opening; entries = entries; replays = replays; evidence = evidence },
 )
+
+-- what came of a job with nothing in its staging area came of it since it was given up
+pub renewed_again : {W F : Type 0} (work : WorkData) (state : F → FilesState) (d after : DeskData)
+    (last : Option CoreData) (orders : List Ordered) (dir there : Option Path)
+    (files begun : FilesState) (gave_up : GaveUp) (run : Run W F) → GivesUp work d gave_up
+    → BeginsAgain work d last orders after → there ≡ dir → IsRenewedIn dir files begun
+    → FilesStand work after dir begun
+    → RunsRenewed work state after there begun gave_up run
+    → RunsAgain work state d last orders dir files run
+renewed_again work state d after last orders dir there files begun gave_up
+    (runs.Went went logs given stores) gives again same renewed stand
+    (goes, counted, drivers, logged, is) = (
+      (
+        after,
+        again,
+        (
+          begun,
+          renewed,
+          stand,
+          subst (λ (p : Option Path). (o : OpeningData)
+              → ComesFrom work o (helm_data after p begun)
+              → GoesFrom work o went.history went.passed went.results (state went.files)) same
+              goes,
+          counted,
+        ),
+      ),
+      drivers,
+      logged,
+      subst (λ (o : Option GaveUp). IsSomeAnd o (GivesUp work d)) (sym is) gives,
+    )
+renewed_again work state d after last orders dir there files begun gave_up
+    (runs.Refused given why left) gives again same renewed stand (is, none, still) = (
+      subst (GivesUp work d) (sym is) gives,
+      inl (
+        none,
+        inr (subst (λ (f : FilesState). IsRenewedIn dir files f) (sym still) renewed),
+      ),
+    )
 
 -- it begins like any other, behind a job of which nothing is registered
 pub begins_again : (work : WorkData) (last : Option CoreData) (orders : List Ordered)

@@ -16,11 +16,8 @@ use Rattle.sc_laws.specs.Skips.{OutcomeLaw}
 use Rattle.sc_compute.specs.Evaluations.{local_outcome}
 use Rattle.sc_compute.specs.declared.results.TaskResult.{TaskResult}
 use Rattle.sc_compute.proofs.SettleLemmas.{saved_parts}
-use Rattle.sc_output.specs.Commits.{commit_calls}
-use Rattle.sc_output.specs.Saved.{IsUnderWay}
 use Rattle.sc_output.proofs.CallLemmas.{later-then}
 use Rattle.sc_staging.specs.Laws.{WaysGoOn}
-use Rattle.sc_staging.specs.Opening.{IsOpened}
 use Rattle.sc_core.specs.declared.journals.JobHistory.{JobHistory}
 use Rattle.sc_jobs.specs.JobData.{IsGoal, goal_action}
 use Rattle.sc_jobs.specs.declared.goals.Goal.{Goal}
@@ -28,9 +25,10 @@ use Rattle.sc_jobs.proofs.NodeLemmas.{goal_known}
 use Rattle.sc_desk.specs.Files.{dir_of_job, part_texts}
 use Rattle.sc_context.specs.Files.{LeavesIn}
 use Rattle.sc_context.specs.Jobs.{AreResultsFor}
-use Rattle.sc_context.specs.Outputs.{IsOpenIn, WentIn}
+use Rattle.sc_context.specs.Outputs.{HasBegunIn, IsOpenIn, WentIn}
 use Rattle.sc_context.specs.declared.stops.JobFault.{JobFault}
-use Rattle.sc_context.proofs.FilesLemmas.{ends_by}
+use Rattle.sc_context.proofs.FilesLemmas.{begun_same}
+use Rattle.sc_context.proofs.RenewalLemmas.{begun_since, begun_under, goes_since}
 
 -- the action that saves to a directory
 save_is : (action : ActionData) (dir : Path) → dir_of_action action ≡ Some dir
@@ -67,46 +65,44 @@ saved_shown : (dir : Path) (texts : List (List ℕ)) (opening : Tree) (a : Optio
 saved_shown dir texts opening None shown is = absurd shown
 saved_shown dir texts opening (Some t) shown is = ap Some is
 
--- what was opened of one is under way
-under_way : (ways : WaysGoOn) (dir : Path) (opening : Tree) (a : Option Tree)
-    → Changes (IsOpened dir) (Some opening) a → IfSome a (IsUnderWay dir opening)
-under_way ways dir opening None opened = tt
-under_way ways dir opening (Some t) opened =
-    subst (IsUnderWay dir opening) (sym opened.made) (ways.opened dir opening)
-
 pub went_leaves : {A : Type 0} (ways : WaysGoOn) (law : OutcomeLaw) (work : WorkData)
-    (goal : Goal) (h : JobHistory) (given : List TaskResult) (dir : Option Path)
-    (before opened after : FilesState) (a : A) (results : Result A (OrMemory JobFault))
-    → results ≡ Ok a → IsSoundScript work.script → IsGoal work goal → dir_of_job work goal ≡ dir
-    → AreResultsFor work goal given → IsOpenIn dir before opened
-    → WentIn dir work goal h.end opened after results → LeavesIn dir work goal h before after
-went_leaves ways law work goal h given dir before opened after a results ok sound known is are
-    open_is went =
-    by dir is open_is went
+    (goal : Goal) (tried : Option JobHistory) (h : JobHistory) (given : List TaskResult)
+    (dir : Option Path) (before opened begun after : FilesState) (a : A)
+    (results : Result A (OrMemory JobFault)) → results ≡ Ok a → IsSoundScript work.script
+    → IsGoal work goal → dir_of_job work goal ≡ dir → AreResultsFor work goal given
+    → IsOpenIn dir before opened → HasBegunIn tried dir opened begun
+    → WentIn dir work goal h.end begun after results
+    → LeavesIn dir work goal tried h before after
+went_leaves ways law work goal tried h given dir before opened begun after a results ok sound known
+    is are open_is began went =
+    by dir is open_is began went
   where
     by : (dir : Option Path) → dir_of_job work goal ≡ dir → IsOpenIn dir before opened
-        → WentIn dir work goal h.end opened after results → LeavesIn dir work goal h before after
-    by None is open_is went = subst (WentIn None work goal h.end opened after) ok went ∙ open_is
-    by (Some dir) is open_is went =
-        let w = subst (WentIn (Some dir) work goal h.end opened after) ok went in
+        → HasBegunIn tried dir opened begun
+        → WentIn dir work goal h.end begun after results
+        → LeavesIn dir work goal tried h before after
+    by None is open_is began went =
+        subst (WentIn None work goal h.end begun after) ok went
+        ∙ begun_same tried opened begun began ∙ open_is
+    by (Some dir) is open_is began went =
+        let w = subst (WentIn (Some dir) work goal h.end begun after) ok went in
         let c = w.1 in
-        let later = later-then before opened after open_is.0 w.0 in
-        let ended = ends_by ways dir before opened open_is after (commit_calls dir c.winners)
-        (Ok tt) c.made in (
+        let since = begun_since ways dir before opened open_is tried begun began in
+        let later = later-then before begun after since.later w.0 in (
           record {
-            mid = ended.mid;
-            way = ended.way;
+            mid = c.made.mid;
+            way = goes_since ways dir before opened open_is tried begun c.made.mid since
+                c.made.later c.made.goes;
             winners = c.winners;
             are_winners = c.are_winners;
-            commits = ended.makes;
+            commits = c.made.makes;
             texts = part_texts work goal;
             gives = save_gives law work goal dir given sound known is are;
             saved = λ opening shown apart.
                 saved_shown dir (part_texts work goal) opening after.shown
                 (subst (λ o. Changes (λ t u. Unit {0}) o after.shown) shown later.shown)
                 (c.saved opening apart
-                (under_way ways dir opening opened.shown
-                (subst (λ o. Changes (IsOpened dir) o opened.shown) shown open_is.2)));
+                (begun_under ways dir before opened open_is tried begun began opening shown apart));
           },
           later,
         )

@@ -1,8 +1,7 @@
 -- What the driver leaves of a job that it ran alone.
-use Rattle.std.proofs.Common.{◌≡◌, ◌∙◌, List, [], length, ap, sym, subst}
+use Rattle.std.proofs.Common.{◌≡◌, ◌∙◌, List, [], ap, sym, subst}
 use Rattle.sc_base.specs.Outside.{FilesState}
 use Rattle.sc_lineage.specs.ScriptData.{WorkData}
-use Rattle.sc_files.specs.Calls.{counts_of}
 use Rattle.sc_staging.specs.Outputs.{output_dir, output_files}
 use Rattle.sc_staging.specs.declared.outputs.Output.{Output}
 use Rattle.sc_core.specs.declared.entries.Entry.{Entry}
@@ -60,11 +59,11 @@ module _ {F : Type 0} (work : WorkData) (w after : WorldData) (left : DeskData)
 
   -- and tell of all that the files have counted
   pub counted_alone : w.desk.journal.entries ≡ [] → OutputGoesOn work w after state old new
-      → AreCounted (counts_of (output_files state old)) (faults_of left.journal.entries)
-      (counts_of (output_files state new))
+      → AreCounted (output_files state old) (faults_of left.journal.entries)
+      (output_files state new)
   counted_alone none goes =
-      subst (λ (x : DeskData). AreCounted (counts_of (output_files state old))
-      (faults_of x.journal.entries) (counts_of (output_files state new))) (sym is)
+      subst (λ (x : DeskData). AreCounted (output_files state old) (faults_of x.journal.entries)
+      (output_files state new)) (sym is)
       (counts_alone w.desk after.desk (output_files state old) (output_files state new) none
       goes.counts)
 

@@ -130,5 +130,5 @@ pub record Stops (work : WorkData) (c : ContextData) (why : OrMemory JobFault)
     (histories given_up : List JobHistory) (files : FilesState) : Type 0 where
   pub behind : StandBehind c histories given_up
   pub shows : ShowsStop work c.progress.actions why histories given_up
-  pub over : StopsFiles work c.progress.actions c.files files why
+  pub over : StopsFiles work behind.given c.progress.actions c.files files why
   pub counted : HasCounted behind.more behind.given why c.files files

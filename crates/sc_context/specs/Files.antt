@@ -1,5 +1,5 @@
 -- What the jobs of a run leave of the files.
-use Rattle.std.specs.Prelude.{ℕ, ◌≡◌, ◌⊎◌, false, List, [], ◌∷◌, ◌++◌, Option, Some, None, Result, Ok, Err}
+use Rattle.std.specs.Prelude.{ℕ, ◌≡◌, ◌⊎◌, false, true, Contains, IfSome, List, [], ◌∷◌, ◌++◌, Option, Some, None, Result, Ok, Err}
 use Rattle.std.specs.Option.{option_to_list}
 use Rattle.sc_base.specs.Outside.{Changes, FilesState, IsLaterFiles, IsQuietFiles}
 use Rattle.sc_base.specs.Saves.{IsApart, saved_tree}
@@ -8,13 +8,18 @@ use Rattle.sc_base.specs.declared.refusals.OrMemory.{OrMemory}
 use Rattle.sc_base.specs.declared.refusals.OrMemory.TheVariants.{Fault, OutOfMemory}
 use Rattle.sc_ids.specs.declared.attempts.AttemptId.{AttemptId}
 use Rattle.sc_ids.specs.declared.failures.Fault as device
+use Rattle.sc_ids.specs.Graphs.{StageData}
 use Rattle.sc_lineage.specs.Actions.{action_outcome, saves}
 use Rattle.sc_lineage.specs.ScriptData.{WorkData}
-use Rattle.sc_files.specs.Calls.{CountsClash, CountsFault, counts_of}
+use Rattle.sc_files.specs.Calls.{CountsClash, CountsFault}
 use Rattle.sc_output.specs.Calls.{Call, IsNotDone, MakesCalls}
 use Rattle.sc_output.specs.Commits.{abort_calls, commit_calls}
+use Rattle.sc_output.specs.Names.{staging_path}
 use Rattle.sc_output.specs.Saved.{IsUnderWay}
 use Rattle.sc_staging.specs.Opening.{IsHalfOpened, IsInTheWay, IsOfSave, IsOpenedNoFurther}
+use Rattle.sc_staging.specs.Renewal.{IsHalfRenewed, cleared_tree}
+use Rattle.sc_core.specs.CoreData.{CoreData}
+use Rattle.sc_core.specs.Openings.{IsOpening}
 use Rattle.sc_core.specs.declared.journals.JobHistory.{JobHistory}
 use Rattle.sc_jobs.specs.JobData.{goal_action}
 use Rattle.sc_jobs.specs.declared.goals.Goal.{Goal}
@@ -25,21 +30,32 @@ use Rattle.sc_context.specs.Progress.{Progress}
 use Rattle.sc_context.specs.declared.stops.JobFault.{JobFault}
 use Rattle.sc_context.specs.declared.stops.JobFault.TheVariants as faults
 
--- ---- a job that is done
+-- ---- a save that is under way
+
+-- the tree since which a save is under way: where it was given up before, its staging area was
+-- removed with all that lay there
+abbrev pub begun_tree : Option JobHistory → Path → Tree → Tree
+begun_tree None dir t = t
+begun_tree (Some tried) dir t = cleared_tree dir t
 
 -- A save is under way since the files were so: its directory wasn't there, and since both
--- directories were made only files in the staging area have changed.
-pub record IsOpenSince (dir : Path) (before after : FilesState) : Type 0 where
+-- directories were made only files in the staging area have changed. Where it was given up before,
+-- the staging area was made anew.
+pub record IsOpenSince (tried : Option JobHistory) (dir : Path) (before after : FilesState)
+    : Type 0 where
   pub later : IsLaterFiles before after
-  pub way : Changes (λ t u. (has_dir t dir ≡ false) × IsUnderWay dir t u) before.shown after.shown
+  pub way : Changes (λ t u. (has_dir t dir ≡ false) × IsUnderWay dir (begun_tree tried dir t) u)
+      before.shown after.shown
+
+-- ---- a job that is done
 
 -- A job that saves is done and committed: the part of each partition is the one that its winner
 -- moved. Where the files show, and nothing was at the directory or under it, there is what a save
 -- leaves by the sequential meaning, and nothing else has changed.
-pub record IsCommitted (work : WorkData) (goal : Goal) (dir : Path) (h : JobHistory)
-    (before after : FilesState) : Type 0 where
+pub record IsCommitted (work : WorkData) (goal : Goal) (dir : Path) (tried : Option JobHistory)
+    (h : JobHistory) (before after : FilesState) : Type 0 where
   pub mid : FilesState
-  pub way : IsOpenSince dir before mid
+  pub way : IsOpenSince tried dir before mid
   pub winners : List AttemptId
   pub are_winners : AreWinners h.end.committers winners
   pub commits : MakesCalls (commit_calls dir winners) mid after (Ok tt)
@@ -49,11 +65,11 @@ pub record IsCommitted (work : WorkData) (goal : Goal) (dir : Path) (h : JobHist
       → after.shown ≡ Some (saved_tree dir texts opening)
 
 -- the same of any job, by the directory that it saves to
-abbrev pub LeavesIn :
-    Option Path → WorkData → Goal → JobHistory → FilesState → FilesState → Type 0
-LeavesIn None work goal h before after = after ≡ before
-LeavesIn (Some dir) work goal h before after =
-    IsCommitted work goal dir h before after × IsLaterFiles before after
+abbrev pub LeavesIn : Option Path → WorkData → Goal → Option JobHistory → JobHistory → FilesState
+    → FilesState → Type 0
+LeavesIn None work goal tried h before after = after ≡ before
+LeavesIn (Some dir) work goal tried h before after =
+    IsCommitted work goal dir tried h before after × IsLaterFiles before after
 
 -- the faults that the entries of a job tell of that was given up, if it was
 abbrev pub faults_before : Option JobHistory → List device.Fault
@@ -66,13 +82,12 @@ faults_with tried h = faults_before tried ++ faults_of h.entries.items
 
 -- What the files have counted while a job ran: just the faults that its entries tell of.
 abbrev pub CountsOf : Option JobHistory → JobHistory → FilesState → FilesState → Type 0
-CountsOf tried h before after =
-    AreCounted (counts_of before) (faults_with tried h) (counts_of after)
+CountsOf tried h before after = AreCounted before (faults_with tried h) after
 
 -- What a job that is done leaves of the files.
 pub record LeavesFiles (work : WorkData) (goal : Goal) (tried : Option JobHistory)
     (h : JobHistory) (before after : FilesState) : Type 0 where
-  pub left : LeavesIn (dir_of_job work goal) work goal h before after
+  pub left : LeavesIn (dir_of_job work goal) work goal tried h before after
   pub counted : CountsOf tried h before after
 
 -- what jobs leave that were done, one behind the other
@@ -90,32 +105,60 @@ abbrev pub IsEnding : Path → List Call → Type 0
 IsEnding dir calls =
     (calls ≡ abort_calls dir) ⊎ ((winners : List AttemptId) × (calls ≡ commit_calls dir winners))
 
--- a save that was under way made these calls at its end
-pub record EndsBy (dir : Path) (before after : FilesState) (calls : List Call)
-    (result : Result (Unit {0}) (OrMemory Path)) : Type 0 where
+-- a job that saves went so
+abbrev pub IsSave : WorkData → JobHistory → Type 0
+IsSave work h =
+    (graph : List StageData) × (last : Option CoreData)
+    × IsOpening graph work.limits true work.plan last h.opening
+
+-- if a save was given up, it is one of these
+abbrev pub IsTriedIn : WorkData → List JobHistory → Option JobHistory → Type 0
+IsTriedIn work given tried = IfSome tried (λ h. Contains given h × IsSave work h)
+
+-- a save that was under way made these calls at its end; it may have been given up before, and is
+-- among these then
+pub record EndsBy (work : WorkData) (given : List JobHistory) (dir : Path)
+    (before after : FilesState) (calls : List Call) (result : Result (Unit {0}) (OrMemory Path))
+    : Type 0 where
+  pub tried : Option JobHistory
+  pub own : IsTriedIn work given tried
   pub mid : FilesState
-  pub way : IsOpenSince dir before mid
+  pub way : IsOpenSince tried dir before mid
   pub makes : MakesCalls calls mid after result
 
+-- a save that was given up couldn't begin again, since a call for its staging area failed: some of
+-- that may be gone, or all of it is, and it was made anew or wasn't
+pub record FailsAgain (work : WorkData) (given : List JobHistory) (dir path : Path)
+    (before after : FilesState) : Type 0 where
+  pub tried : JobHistory
+  pub own : IsTriedIn work given (Some tried)
+  pub mid : FilesState
+  pub way : IsOpenSince None dir before mid
+  pub at : path ≡ staging_path dir
+  pub not_done : IsNotDone mid after
+  pub half : Changes (IsHalfRenewed dir) mid.shown after.shown
+
 -- How the files of a save stand that came to no end, by what ended it: an abort that was through; a
--- directory that is there already; a call that failed where the save was opened or at its end; or
--- want of memory anywhere.
-abbrev pub FailsIn : Path → FilesState → FilesState → OrMemory JobFault → Type 0
-FailsIn dir before after (Fault (faults.Aborted abort)) =
-    EndsBy dir before after (abort_calls dir) (Ok tt)
-FailsIn dir before after (Fault (faults.Exists path)) =
+-- directory that is there already; a call that failed where the save was opened, began again or at
+-- its end; or want of memory anywhere.
+abbrev pub FailsIn : WorkData → List JobHistory → Path → FilesState → FilesState
+    → OrMemory JobFault → Type 0
+FailsIn work given dir before after (Fault (faults.Aborted abort)) =
+    EndsBy work given dir before after (abort_calls dir) (Ok tt)
+FailsIn work given dir before after (Fault (faults.Exists path)) =
     IsOfSave dir path × CountsClash before after
     × Changes (IsInTheWay dir path) before.shown after.shown
-FailsIn dir before after (Fault (faults.Device path)) =
+FailsIn work given dir before after (Fault (faults.Device path)) =
     (IsOfSave dir path × CountsFault before after
     × Changes (IsHalfOpened dir path) before.shown after.shown)
-    ⊎ ((calls : List Call) × IsEnding dir calls
-    × EndsBy dir before after calls (Err (Fault path)))
-FailsIn dir before after OutOfMemory =
+    ⊎ (((calls : List Call) × IsEnding dir calls
+    × EndsBy work given dir before after calls (Err (Fault path)))
+    ⊎ FailsAgain work given dir path before after)
+FailsIn work given dir before after OutOfMemory =
     (IsQuietFiles before after × Changes (IsOpenedNoFurther dir) before.shown after.shown)
     ⊎ ((calls : List Call) × IsEnding dir calls
-    × (EndsBy dir before after calls (Ok tt)
-    ⊎ EndsBy dir before after calls (Err OutOfMemory)))
+    × (EndsBy work given dir before after calls (Ok tt)
+    ⊎ EndsBy work given dir before after calls (Err OutOfMemory)))
 
 -- what ends a job that calls no files
 abbrev pub IsOfNoFiles : OrMemory JobFault → Type 0
@@ -124,17 +167,20 @@ IsOfNoFiles (Fault (faults.Exists path)) = ⊥
 IsOfNoFiles (Fault (faults.Device path)) = ⊥
 IsOfNoFiles OutOfMemory = Unit {0}
 
--- how the files stand where a job came to no end, by the directory that its action saves to
-abbrev pub StopsIn : Option Path → FilesState → FilesState → OrMemory JobFault → Type 0
-StopsIn None before after why = (after ≡ before) × IsOfNoFiles why
-StopsIn (Some dir) before after why =
+-- how the files stand where a job came to no end, by the directory that its action saves to, and by
+-- those that were given up for that action
+abbrev pub StopsIn : WorkData → List JobHistory → Option Path → FilesState → FilesState
+    → OrMemory JobFault → Type 0
+StopsIn work given None before after why = (after ≡ before) × IsOfNoFiles why
+StopsIn work given (Some dir) before after why =
     ((after ≡ before) × IsOfNoFiles why)
-    ⊎ (IsLaterFiles before after × FailsIn dir before after why)
+    ⊎ (IsLaterFiles before after × FailsIn work given dir before after why)
 
 -- the same of a job for the action of a number
-abbrev pub StopsFiles : WorkData → ℕ → FilesState → FilesState → OrMemory JobFault → Type 0
-StopsFiles work k before after why =
-    StopsIn (dir_of_job work (goals.Action k)) before after why
+abbrev pub StopsFiles : WorkData → List JobHistory → ℕ → FilesState → FilesState
+    → OrMemory JobFault → Type 0
+StopsFiles work given k before after why =
+    StopsIn work given (dir_of_job work (goals.Action k)) before after why
 
 -- ---- what the files have counted
 
@@ -162,12 +208,20 @@ CountsLast (Fault (faults.Exists path)) before after = CountsClash before after
 CountsLast (Fault (faults.Device path)) before after = IsNotDone before after
 CountsLast OutOfMemory before after = IsQuietFiles before after
 
--- the same, or of a job that was given up and not run again, which is for want of memory alone
+-- why a job that was given up didn't begin again: memory ran out, or a call failed
+abbrev pub IsOfRenewal : OrMemory JobFault → Type 0
+IsOfRenewal (Fault (faults.Aborted abort)) = ⊥
+IsOfRenewal (Fault (faults.Exists path)) = ⊥
+IsOfRenewal (Fault (faults.Device path)) = Unit {0}
+IsOfRenewal OutOfMemory = Unit {0}
+
+-- the same, or behind a job that was given up and didn't begin again
 abbrev pub CountsEnd : OrMemory JobFault → Option JobHistory → FilesState → FilesState → Type 0
 CountsEnd why None before after = CountsLast why before after
 CountsEnd why (Some tried) before after =
-    (why ≡ OutOfMemory)
-    × AreCounted (counts_of before) (faults_of tried.entries.items) (counts_of after)
+    IsOfRenewal why
+    × ((left : FilesState) × AreCounted before (faults_of tried.entries.items) left
+    × IsLaterFiles left after × CountsLast why left after)
 
 -- The files have counted what some jobs tell of, and behind them what ended the last job.
 pub record HasCounted (histories given_up : List JobHistory) (why : OrMemory JobFault)

@@ -4,9 +4,9 @@ use Rattle.std.specs.Prelude.{◌≡◌, IfErr, IfOk, IfSome, IsSomeAnd, List, O
 use Rattle.sc_base.specs.Outside.{FilesState, IsLaterFiles}
 use Rattle.sc_base.specs.Trees.{Path}
 use Rattle.sc_base.specs.declared.refusals.OrMemory.{OrMemory}
+use Rattle.sc_base.specs.declared.refusals.OrMemory.TheVariants.{OutOfMemory}
 use Rattle.sc_compute.specs.declared.results.TaskResult.{TaskResult}
 use Rattle.sc_lineage.specs.ScriptData.{WorkData}
-use Rattle.sc_files.specs.Calls.{counts_of}
 use Rattle.sc_staging.specs.Outputs.{GoesOnIn}
 use Rattle.sc_core.specs.CoreData.{CoreData}
 use Rattle.sc_core.specs.Journals.{Replays}
@@ -24,7 +24,7 @@ use Rattle.sc_exec.specs.Openings.{OpeningData, opening_data}
 use Rattle.sc_context.specs.Files.{faults_with}
 use Rattle.sc_context.specs.Histories.{AreDrivers, BeginsBehind}
 use Rattle.sc_context.specs.Jobs.{HasNoResults, HasResults}
-use Rattle.sc_context.specs.Outputs.{CountsIn, WentIn}
+use Rattle.sc_context.specs.Outputs.{CountsIn, HasBegunIn, IsLeftOpen, IsNotBegun, IsRenewedIn, WentIn}
 use Rattle.sc_context.specs.Records.{IsGivenUp, IsLogged, tried_in}
 use Rattle.sc_context.specs.declared.records.GaveUp.{GaveUp}
 use Rattle.sc_context.specs.declared.running.Run.{Run}
@@ -83,8 +83,8 @@ pub record IsTrial (work : WorkData) (last : Option CoreData) (goal : Goal) (job
   pub evidence : AreEvident work job tried.opening tried.entries.items tried.end replays
 
 -- A job that began with a desk, or that was given up before and began once more with nothing
--- registered, went so. The files have counted just the faults that its entries tell of, then and
--- before, and then what ended it.
+-- registered and nothing in its staging area, went so. The files have counted just the faults that
+-- its entries tell of, then and before, and then what ended it.
 pub record HasRun (work : WorkData) (passed : PassedData) (last : Option CoreData) (goal : Goal)
     (dir : Option Path) (opened : FilesState) (tried : Option JobHistory) (h : JobHistory)
     (next : PassedData) (results : Result (Vec TaskResult Global) (OrMemory JobFault))
@@ -94,8 +94,10 @@ pub record HasRun (work : WorkData) (passed : PassedData) (last : Option CoreDat
   pub begins : Begins work passed from goal desk
   pub behind : BeginsBehind tried last h.entries.items from
   pub was_tried : IfSome tried (IsTrial work last goal desk.job)
+  pub begun : FilesState
+  pub began : HasBegunIn tried dir opened begun
   pub goes : GoesFrom work
-      (opening_data desk.journal.opening desk.job desk.carried dir opened) h next results files
+      (opening_data desk.journal.opening desk.job desk.carried dir begun) h next results files
   pub counted : CountsIn (faults_with tried h) opened files results
 
 -- a history is that of a desk so far
@@ -107,35 +109,47 @@ pub record IsSoFar (work : WorkData) (d : DeskData) (h : JobHistory) : Type 0 wh
 
 -- the job of a desk was given up for a reason
 abbrev pub GivesUp : WorkData → DeskData → GaveUp → Type 0
-GivesUp work d gave_up = IsGivenUp gave_up × IsSoFar work d gave_up.history
+GivesUp work d gave_up = IsGivenUp work gave_up × IsSoFar work d gave_up.history
 
--- What came of a job that was given up: it began again with nothing registered and went so, by the
--- driver alone; or it didn't begin again, and its files are as they were.
+-- What came of a job that began again with nothing registered and nothing in its staging area: the
+-- driver ran it alone, and it went so; or memory ran out before it began.
+abbrev pub RunsRenewed : {W F : Type 0} → WorkData → (F → FilesState) → DeskData → Option Path
+    → FilesState → GaveUp → Run W F → Type 0
+RunsRenewed work state d dir begun given (runs.Went went logs gave_up stores) =
+    ((o : OpeningData) → ComesFrom work o (helm_data d dir begun)
+    → GoesFrom work o went.history went.passed went.results (state went.files))
+    × CountsIn (faults_of went.history.entries.items) begun (state went.files) went.results
+    × AreDrivers went.history.entries.items × IsLogged went.history logs.items
+    × (gave_up ≡ Some given)
+RunsRenewed work state d dir begun given (runs.Refused gave_up why after) =
+    (gave_up ≡ given) × (why ≡ OutOfMemory) × (state after ≡ begun)
+
+-- What came of a job that was given up: it began again with nothing registered and nothing in its
+-- staging area, and went so, by the driver alone; or it didn't begin again.
 abbrev pub RunsAgain : {W F : Type 0} → WorkData → (F → FilesState) → DeskData → Option CoreData
     → List Ordered → Option Path → FilesState → Run W F → Type 0
 RunsAgain work state d last ordered dir files (runs.Went went logs gave_up stores) =
     ((after : DeskData) × BeginsAgain work d last ordered after
-    × ((o : OpeningData) → ComesFrom work o (helm_data after dir files)
-    → GoesFrom work o went.history went.passed went.results (state went.files)))
+    × ((begun : FilesState) × IsRenewedIn dir files begun × FilesStand work after dir begun
+    × ((o : OpeningData) → ComesFrom work o (helm_data after dir begun)
+    → GoesFrom work o went.history went.passed went.results (state went.files))
+    × CountsIn (faults_of went.history.entries.items) begun (state went.files) went.results))
     × AreDrivers went.history.entries.items
-    × CountsIn (faults_of went.history.entries.items) files (state went.files) went.results
     × IsLogged went.history logs.items × IsSomeAnd gave_up (GivesUp work d)
-RunsAgain work state d last ordered dir files (runs.Refused gave_up after) =
-    GivesUp work d gave_up × (state after ≡ files)
-
--- a job that was given up didn't begin again: a save that was under way is under way
-abbrev pub IsLeftOpen : Option Path → FilesState → FilesState → Type 0
-IsLeftOpen dir opened files = IsLaterFiles opened files × GoesOnIn dir opened files
+RunsAgain work state d last ordered dir files (runs.Refused gave_up why after) =
+    GivesUp work d gave_up × IsNotBegun dir files (state after) why
 
 -- A job began with a desk, went so until its executors gave it up, and didn't begin again.
 pub record IsLeftOver (work : WorkData) (passed : PassedData) (last : Option CoreData)
     (goal : Goal) (dir : Option Path) (opened : FilesState) (tried : JobHistory)
-    (files : FilesState) : Type 0 where
+    (why : OrMemory JobFault) (files : FilesState) : Type 0 where
   pub desk : DeskData
   pub begins : Begins work passed last goal desk
   pub was_tried : IsTrial work last goal desk.job tried
-  pub left_open : IsLeftOpen dir opened files
-  pub counted : AreCounted (counts_of opened) (faults_of tried.entries.items) (counts_of files)
+  pub left : FilesState
+  pub left_open : IsLeftOpen dir opened left
+  pub counted : AreCounted opened (faults_of tried.entries.items) left
+  pub not_begun : IsNotBegun dir left files why
 
 -- What came of a job that began with a desk behind what goes on and another job or none.
 abbrev pub RunsFrom : {W F : Type 0} → WorkData → (F → FilesState) → PassedData → Option CoreData
@@ -143,7 +157,7 @@ abbrev pub RunsFrom : {W F : Type 0} → WorkData → (F → FilesState) → Pas
 RunsFrom work state passed last goal dir opened (runs.Went went logs gave_up stores) =
     HasRun work passed last goal dir opened (tried_in gave_up) went.history went.passed
     went.results (state went.files)
-    × IsLogged went.history logs.items × IfSome gave_up IsGivenUp
-RunsFrom work state passed last goal dir opened (runs.Refused gave_up files) =
-    IsGivenUp gave_up
-    × IsLeftOver work passed last goal dir opened gave_up.history (state files)
+    × IsLogged went.history logs.items × IfSome gave_up (IsGivenUp work)
+RunsFrom work state passed last goal dir opened (runs.Refused gave_up why files) =
+    IsGivenUp work gave_up
+    × IsLeftOver work passed last goal dir opened gave_up.history why (state files)

@@ -98,8 +98,7 @@ pub record HasGone (work : WorkData) (histories given_up : List JobHistory) (p :
   pub come : HasCome work (first_progress work) before given_before p
   pub is : IsHistory work p goal tried h
 
--- Some jobs were done and led so far, and the one that came next was given up and not run again,
--- since memory ran out.
+-- Some jobs were done and led so far, and the one that came next was given up and not run again.
 pub record HasGivenUp (work : WorkData) (histories given_up : List JobHistory) (p : Progress)
     : Type 0 where
   pub given_before : List JobHistory
@@ -116,8 +115,9 @@ pub record HasGivenUp (work : WorkData) (histories given_up : List JobHistory) (
 abbrev pub IsUnaborted : CoreData → Type 0
 IsUnaborted end = (abort : Abort) → end.job ≢ jobs.Aborted abort
 
--- So many actions had their value when memory ran out: the jobs of these are done, and perhaps one
--- more went somehow, which was not aborted, or was given up and not run again.
+-- So many actions had their value when memory ran out or a call on files failed: the jobs of these
+-- are done, and perhaps one more went somehow, which was not aborted, or was given up and not run
+-- again.
 abbrev pub IsCutShort : WorkData → ℕ → List JobHistory → List JobHistory → Type 0
 IsCutShort work k histories given_up =
     (p : Progress) × (p.actions ≡ k)

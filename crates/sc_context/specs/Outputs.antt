@@ -7,14 +7,16 @@ use Rattle.sc_base.specs.declared.refusals.OrMemory.{OrMemory}
 use Rattle.sc_base.specs.declared.refusals.OrMemory.TheVariants.{Fault, OutOfMemory}
 use Rattle.sc_ids.specs.declared.attempts.AttemptId.{AttemptId}
 use Rattle.sc_lineage.specs.ScriptData.{WorkData}
-use Rattle.sc_files.specs.Calls.{CountsClash, CountsFault, counts_of}
+use Rattle.sc_files.specs.Calls.{CountsClash, CountsFault, IsAllOrNothing}
 use Rattle.sc_ids.specs.declared.failures.Fault as device
-use Rattle.sc_output.specs.Calls.{Call, MakesCalls}
+use Rattle.sc_output.specs.Calls.{Call, IsNotDone, MakesCalls}
 use Rattle.sc_output.specs.Commits.{AreCommitted, AreWinnersFrom, abort_calls, commit_calls}
+use Rattle.sc_output.specs.Names.{staging_path}
 use Rattle.sc_output.specs.Saved.{IsUnderWay}
 use Rattle.sc_staging.specs.Laws.{StaysUnderWay}
 use Rattle.sc_staging.specs.Opening.{IsHalfOpened, IsInTheWay, IsOfSave, IsOpened, IsOpenedNoFurther}
-use Rattle.sc_staging.specs.Outputs.{output_dir, output_files}
+use Rattle.sc_staging.specs.Outputs.{GoesOnIn, output_dir, output_files}
+use Rattle.sc_staging.specs.Renewal.{IsHalfRenewed, cleared_tree, renewed_tree}
 use Rattle.sc_staging.specs.declared.outputs.Output.{Output}
 use Rattle.sc_commit.specs.CommitLaws.{winner_of}
 use Rattle.sc_commit.specs.declared.committers.Committer.{Committer}
@@ -22,6 +24,7 @@ use Rattle.sc_dag.specs.DagData.{stage_at}
 use Rattle.sc_core.specs.CoreData.{CoreData, result_stage}
 use Rattle.sc_core.specs.declared.answers.JobState.{JobState}
 use Rattle.sc_core.specs.declared.answers.JobState.TheVariants as jobs
+use Rattle.sc_core.specs.declared.journals.JobHistory.{JobHistory}
 use Rattle.sc_jobs.specs.declared.goals.Goal.{Goal}
 use Rattle.sc_desk.specs.Files.{AreCounted, AreWinners, part_texts}
 use Rattle.sc_context.specs.Files.{CountsLast, IsEnding, IsOfNoFiles}
@@ -62,6 +65,58 @@ abbrev pub RefusesOutput : Option Path → FilesState → FilesState → OrMemor
 RefusesOutput None before after why = ⊥
 RefusesOutput (Some dir) before after why =
     IsLaterFiles before after × RefusesIn dir before after why
+
+-- ---- where it begins again
+
+-- files that are put aside stay as they are, and of those of a save the staging area was removed
+-- with all that lay there, and made anew
+abbrev pub IsRenewedIn : Option Path → FilesState → FilesState → Type 0
+IsRenewedIn None before after = after ≡ before
+IsRenewedIn (Some dir) before after =
+    IsLaterFiles before after × IsQuietFiles before after
+    × Changes (λ t u. u ≡ renewed_tree dir t) before.shown after.shown
+
+-- the files of a job are open as before, with nothing in the staging area
+pub record IsRenewedFor {F : Type 0} (state : F → FilesState) (before after : Output F)
+    : Type 0 where
+  pub dir : output_dir after ≡ output_dir before
+  pub renewed : IsRenewedIn (output_dir before) (output_files state before)
+      (output_files state after)
+
+-- why that couldn't be done, and how the files are then
+abbrev pub RefusesRenewalIn : Path → FilesState → FilesState → OrMemory JobFault → Type 0
+RefusesRenewalIn dir before after (Fault (faults.Aborted abort)) = ⊥
+RefusesRenewalIn dir before after (Fault (faults.Exists path)) = ⊥
+RefusesRenewalIn dir before after (Fault (faults.Device path)) =
+    (path ≡ staging_path dir) × IsNotDone before after
+    × Changes (IsHalfRenewed dir) before.shown after.shown
+RefusesRenewalIn dir before after OutOfMemory =
+    IsQuietFiles before after
+    × Changes (IsAllOrNothing (cleared_tree dir)) before.shown after.shown
+
+-- the same of a job, which saves
+abbrev pub RefusesRenewal : Option Path → FilesState → FilesState → OrMemory JobFault → Type 0
+RefusesRenewal None before after why = ⊥
+RefusesRenewal (Some dir) before after why =
+    IsLaterFiles before after × RefusesRenewalIn dir before after why
+
+-- as executors left the files of a job: a save that was under way is under way
+abbrev pub IsLeftOpen : Option Path → FilesState → FilesState → Type 0
+IsLeftOpen dir opened left = IsLaterFiles opened left × GoesOnIn dir opened left
+
+-- The files with which a job began that were opened for it: as they were then, or, where it was
+-- given up before, as its executors left them, but with its staging area made anew.
+abbrev pub HasBegunIn : Option JobHistory → Option Path → FilesState → FilesState → Type 0
+HasBegunIn None dir opened begun = begun ≡ opened
+HasBegunIn (Some tried) dir opened begun =
+    (left : FilesState) × IsLeftOpen dir opened left × IsRenewedIn dir left begun
+
+-- Why a job didn't begin again, and how its files are then: memory ran out, with its staging area
+-- made anew or not; or that couldn't be done.
+abbrev pub IsNotBegun : Option Path → FilesState → FilesState → OrMemory JobFault → Type 0
+IsNotBegun dir left after why =
+    ((why ≡ OutOfMemory) × ((after ≡ left) ⊎ IsRenewedIn dir left after))
+    ⊎ RefusesRenewal dir left after why
 
 -- ---- where it ends
 
@@ -168,12 +223,12 @@ WentIn (Some dir) work goal end opened after (Err why) =
 pub record CountsToEnd (told : List device.Fault) (why : OrMemory JobFault)
     (opened after : FilesState) : Type 0 where
   pub last : FilesState
-  pub counted : AreCounted (counts_of opened) told (counts_of last)
+  pub counted : AreCounted opened told last
   pub later : IsLaterFiles last after
   pub ends : CountsLast why last after
 
 -- the same by whether it has results
 abbrev pub CountsIn : {A : Type 0} → List device.Fault → FilesState → FilesState
     → Result A (OrMemory JobFault) → Type 0
-CountsIn told opened after (Ok a) = AreCounted (counts_of opened) told (counts_of after)
+CountsIn told opened after (Ok a) = AreCounted opened told after
 CountsIn told opened after (Err why) = CountsToEnd told why opened after

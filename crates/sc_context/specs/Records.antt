@@ -1,10 +1,12 @@
 -- How the jobs of a run are recorded.
-use Rattle.std.specs.Prelude.{◌≡◌, ◌<◌, ◌⊎◌, true, List, All, Contains, Option, map, vec_capacity, vec_len}
+use Rattle.std.specs.Prelude.{ℕ, ◌≡◌, ◌<◌, ◌⊎◌, true, List, All, Contains, IfSome, Option, length, map, slice_get, vec_capacity, vec_len}
 use Rattle.std.specs.List.{AllZip}
 use Rattle.std.specs.Option.{option_map}
 use Rattle.sc_core.specs.Journals.{Replays}
 use Rattle.sc_core.specs.declared.entries.Entry.{Entry}
 use Rattle.sc_core.specs.declared.journals.JobHistory.{JobHistory}
+use Rattle.sc_lineage.specs.ScriptData.{WorkData}
+use Rattle.sc_exec.specs.Lefts.{IsCause}
 use Rattle.sc_exec.specs.Verdicts.{gives_up}
 use Rattle.sc_exec.specs.declared.lefts.Left.{Left}
 use Rattle.sc_logs.specs.Logs.{Interleaves}
@@ -23,9 +25,17 @@ WasGivenUp entries logs lefts =
     (Interleaves entries logs → ⊥)
     ⊎ ((left : Left) × Contains lefts left × (gives_up left ≡ true))
 
--- a job was given up for a reason
-pub record IsGivenUp (g : GaveUp) : Type 0 where
+-- The executors of a job have stopped: each has a log, at its place, and why each takes no more
+-- tasks is as its log tells.
+pub record HaveStopped (work : WorkData) (logs : List ExecLog) (lefts : List Left) : Type 0 where
+  pub many : length logs ≡ work.limits.executors
+  pub places : (exec : ℕ) → IfSome (slice_get logs exec) (λ log. log.exec ≡ exec)
+  pub causes : AllZip (λ log left. IsCause work log left) logs lefts
+
+-- a job was given up for a reason, once its executors had stopped
+pub record IsGivenUp (work : WorkData) (g : GaveUp) : Type 0 where
   pub replays : Replays g.history.opening g.history.entries.items g.history.end
+  pub stopped : HaveStopped work g.logs.items g.lefts.items
   pub cause : WasGivenUp g.history.entries.items g.logs.items g.lefts.items
 
 -- how jobs went that were given up, until then
@@ -37,9 +47,9 @@ abbrev pub tried_in : Option GaveUp → Option JobHistory
 tried_in gave_up = option_map (λ g. g.history) gave_up
 
 -- each job has what its executors wrote down, and each that was given up its reason
-pub record AreKept (r : Records) : Type 0 where
+pub record AreKept (work : WorkData) (r : Records) : Type 0 where
   pub logged : AllZip (λ h logs. IsLogged h logs.items) r.histories.items r.logs.items
-  pub given_up : All IsGivenUp r.gave_up.items
+  pub given_up : All (IsGivenUp work) r.gave_up.items
 
 -- there is room for how one job more went
 pub record HasRoomToKeep (r : Records) : Type 0 where

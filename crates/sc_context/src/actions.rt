@@ -57,7 +57,7 @@ impl<W: Naming + Send + Sync, F: Files + Send> Context<W, F> {
         ensures given { IfOk result (λ g. GivesNext W.work self g.value g.context) }
         ensures stops { IfErr result (λ s. Stops W.work self s.why s.records.histories.items
             (histories_of s.records.gave_up.items) (F.state s.files)) }
-        ensures kept { IfErr result (λ s. AreKept s.records) }
+        ensures kept { IfErr result (λ s. AreKept W.work s.records) }
     {
         let context = self.find_all_bounds(rt, alloc, gate, clock)?;
         context.run_own_job(rt, alloc, gate, clock)
@@ -77,7 +77,7 @@ impl<W: Naming + Send + Sync, F: Files + Send> Context<W, F> {
         ensures given { IfOk result (λ g. GivesNext W.work self g.value g.context) }
         ensures stops { IfErr result (λ s. Stops W.work self s.why s.records.histories.items
             (histories_of s.records.gave_up.items) (F.state s.files)) }
-        ensures kept { IfErr result (λ s. AreKept s.records) }
+        ensures kept { IfErr result (λ s. AreKept W.work s.records) }
     {
         self.is_sound();
         let number = self.actions;

@@ -42,7 +42,7 @@ impl<W: Naming + Send + Sync, F: Files + Send> Context<W, F> {
         ensures finds { IfOk result (FindsAll W.work self) }
         ensures stops { IfErr result (λ s. Stops W.work self s.why s.records.histories.items
             (histories_of s.records.gave_up.items) (F.state s.files)) }
-        ensures kept { IfErr result (λ s. AreKept s.records) }
+        ensures kept { IfErr result (λ s. AreKept W.work s.records) }
     {
         let mut context = self;
         loop {
@@ -85,7 +85,7 @@ impl<W: Naming + Send + Sync, F: Files + Send> Context<W, F> {
         ensures finds { IfOk result (Finds W.work self sort) }
         ensures stops { IfErr result (λ s. Stops W.work self s.why s.records.histories.items
             (histories_of s.records.gave_up.items) (F.state s.files)) }
-        ensures kept { IfErr result (λ s. AreKept s.records) }
+        ensures kept { IfErr result (λ s. AreKept W.work s.records) }
     {
         self.is_sound();
         let ended = self.run_job(rt, alloc, gate, clock, Goal::Bounds { sort })?;

@@ -46,7 +46,7 @@ impl<W: Naming, F: Files> Model for Context<W, F> {
     ghost invariant = { λ c. IsContext W.work c.passed
         (context_data c.actions c.passed.carried c.records.histories.items
         (histories_of c.records.gave_up.items) (F.state c.files))
-        × AreKept c.records };
+        × AreKept W.work c.records };
 }
 
 impl<W: Naming, F: Files> Context<W, F> {
@@ -106,7 +106,7 @@ impl<W: Naming, F: Files> Context<W, F> {
     pub fn into_parts(self) -> (Records, F)
         ensures histories { result.0.histories.items ≡ self.histories }
         ensures given_up { histories_of result.0.gave_up.items ≡ self.given_up }
-        ensures kept { AreKept result.0 }
+        ensures kept { AreKept W.work result.0 }
         ensures files { F.state result.1 ≡ self.files }
     {
         (self.records, self.files)

@@ -11,6 +11,7 @@ ghost use Rattle.sc_context.specs.Records.{AreKept, HasRoom, HasRoomToKeep, IsGi
 ghost use Rattle.sc_core.specs.CoreData.{CoreData};
 ghost use Rattle.sc_desk.specs.DeskData.{PassedData};
 ghost use Rattle.sc_jobs.specs.declared.goals.Goal.{Goal};
+ghost use Rattle.sc_lineage.specs.ScriptData.{WorkData};
 
 use crate::records::{GaveUp, Records};
 use crate::running::Run;
@@ -44,8 +45,8 @@ pub(crate) fn end_job<W: Naming, F: Files>(
     run: Run<W, F>,
 ) -> Result<Ended<W, F>, Stopped<F>>
     requires room { HasRoom records }
-    requires before { AreKept records }
-    requires run { CanBeKept run }
+    requires before { AreKept W.work records }
+    requires run { CanBeKept W.work run }
     ensures went { (passed : PassedData) (last : Option CoreData) (goal : Goal)
         (dir : Option Path) (opened : FilesState)
         → RunsFrom W.work F.state passed last goal dir opened run
@@ -59,8 +60,8 @@ pub(crate) fn end_job<W: Naming, F: Files>(
         (histories_of records.gave_up.items) s.records.histories.items
         (histories_of s.records.gave_up.items) s.why (F.state s.files)) }
     ensures actions { IfOk result (λ e. e.actions ≡ actions) }
-    ensures recorded { IfOk result (λ e. AreKept e.records) }
-    ensures kept { IfErr result (λ s. AreKept s.records) }
+    ensures recorded { IfOk result (λ e. AreKept W.work e.records) }
+    ensures kept { IfErr result (λ s. AreKept W.work s.records) }
     ensures given { IfOk result (λ e. e.records.gave_up.items
         ≡ records.gave_up.items ++ option_to_list (given_by run)) }
     ensures given_over { IfErr result (λ s. s.records.gave_up.items
@@ -100,9 +101,17 @@ pub(crate) fn end_job<W: Naming, F: Files>(
                 }),
             }
         }
-        Run::Refused { gave_up, files } => {
+        Run::Refused {
+            gave_up,
+            why,
+            files,
+        } => {
             records.give_up(gave_up);
-            Err(Stopped::without_memory(records, files))
+            Err(Stopped {
+                why,
+                records,
+                files,
+            })
         }
     }
 }
@@ -110,10 +119,9 @@ pub(crate) fn end_job<W: Naming, F: Files>(
 /// Records a job that was given up before it ran again, where it was.
 fn keep_given_up(records: &mut Records, gave_up: Option<GaveUp>)
     requires room { HasRoom records.old }
-    requires before { AreKept records.old }
-    requires cause { IfSome gave_up IsGivenUp }
     ensures room { HasRoomToKeep records.new }
-    ensures kept { AreKept records.new }
+    ensures kept { (work : WorkData) → AreKept work records.old
+        → IfSome gave_up (IsGivenUp work) → AreKept work records.new }
     ensures histories { records.new.histories.items ≡ records.old.histories.items }
     ensures given { records.new.gave_up.items
         ≡ records.old.gave_up.items ++ option_to_list gave_up }

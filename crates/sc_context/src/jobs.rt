@@ -3,8 +3,8 @@
 
 ghost use Rattle.std.specs.Prelude.{◌≡◌, ◌<◌, IfErr, IfOk, OnOk, length};
 ghost use Rattle.std.specs.Option.{option_map};
-ghost use Rattle.sc_causes.specs.Inputs.{MissingInputsWereLost};
-ghost use Rattle.sc_causes.specs.Losses.{EmptyPlansLoseNone, PlannedLossesAlone};
+ghost use Rattle.sc_bound.specs.Suffice.{StageAttemptsSuffice};
+ghost use Rattle.sc_causes.specs.Losses.{PlannedLossesAlone};
 ghost use Rattle.sc_causes.specs.Raises.{RaisesLeaveNoValue};
 ghost use Rattle.sc_context.specs.Contexts.{IsEnded, IsReady, Stops};
 ghost use Rattle.sc_context.specs.Progress.{IsNext};
@@ -27,7 +27,8 @@ use crate::outputs::{Refused, open_output};
 use crate::records::Records;
 use crate::running::{Begun, run_begun};
 use crate::stops::Stopped;
-use sc_causes::{missing_inputs_were_lost, planned_losses_alone, raises_leave_no_value};
+use sc_bound::limits_suffice;
+use sc_causes::{planned_losses_alone, raises_leave_no_value};
 use sc_clock::Clock;
 use sc_core::Core;
 use sc_desk::{Desk, Passed, files_go_on};
@@ -60,10 +61,10 @@ impl<W: Naming + Send + Sync, F: Files + Send> Context<W, F> {
             e.records.histories.items (histories_of e.records.gave_up.items) e.results.items
             (F.state e.files)) }
         ensures actions { IfOk result (λ e. e.actions ≡ self.progress.actions) }
-        ensures recorded { IfOk result (λ e. AreKept e.records) }
+        ensures recorded { IfOk result (λ e. AreKept W.work e.records) }
         ensures stops { IfErr result (λ s. Stops W.work self s.why s.records.histories.items
             (histories_of s.records.gave_up.items) (F.state s.files)) }
-        ensures kept { IfErr result (λ s. AreKept s.records) }
+        ensures kept { IfErr result (λ s. AreKept W.work s.records) }
     {
         laws_of_ends();
         self.is_sound();
@@ -103,8 +104,8 @@ fn make_room<W: Naming>(
     work: &SharedWork<W>,
     records: &mut Records,
 ) -> Result<Crew, AllocError>
-    requires kept { AreKept records.old }
-    ensures kept { AreKept records.new }
+    requires kept { AreKept W.work records.old }
+    ensures kept { AreKept W.work records.new }
     ensures room { OnOk result (HasRoom records.new) }
     ensures crew { IfOk result (IsCrew W.work.limits.executors) }
     ensures same { IsSame records.old records.new }
@@ -118,15 +119,14 @@ fn make_room<W: Naming>(
 fn laws_of_ends()
     ensures raises { RaisesLeaveNoValue }
     ensures losses { PlannedLossesAlone }
-    ensures empty { EmptyPlansLoseNone }
-    ensures missing { MissingInputsWereLost }
+    ensures stages { StageAttemptsSuffice }
     ensures outcome { OutcomeLaw }
     ensures files { FilesGoOn }
     ensures ways { WaysGoOn }
 {
     raises_leave_no_value();
     planned_losses_alone();
-    missing_inputs_were_lost();
+    limits_suffice();
     outcome_law();
     files_go_on();
     laws_of_ways();

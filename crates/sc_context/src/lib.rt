@@ -14,9 +14,10 @@
 //! shows, and `specs/Contexts.antt` what an action answers. Executor threads run the jobs
 //! (`work_job` of `sc_exec`). Where what they wrote down isn't what the driver's desk says, or one
 //! of them met what can't be, they give the job up, and the driver runs it again alone
-//! (`World::serial`), with no output registered and over new stores: what is known of the stores
-//! isn't known past their locks. `specs/Records.antt` says what is kept of each job, and
-//! `specs/Goings.antt` how one goes from its beginning to its end. No text is written here.
+//! (`World::serial`), with no output registered, its staging area made anew, and over new stores:
+//! what is known of stores isn't known past their locks. `specs/Records.antt` says what is kept of
+//! each job, and `specs/Goings.antt` how one goes from its beginning to its end. No text is written
+//! here.
 //!
 //! After `SparkContext.runJob` of Spark.
 #![tactic(auto)]

@@ -1,10 +1,10 @@
-//! The files of a job: opened before it begins, and ended behind it.
+//! The files of a job: opened before it begins, made anew where it begins again, ended at its end.
 #![tactic(auto)]
 
-ghost use Rattle.std.specs.Prelude.{◌≡◌, IfErr, IfOk, IfSome};
+ghost use Rattle.std.specs.Prelude.{◌≡◌, IfErr, IfOk, IfSome, Some};
 ghost use Rattle.std.specs.Option.{option_map};
 ghost use Rattle.sc_base.specs.Outside.{IsLaterFiles};
-ghost use Rattle.sc_context.specs.Outputs.{CanCommit, EndsOutput, EndsSave, HaveWinners, IsOpenFor, RefusesOutput};
+ghost use Rattle.sc_context.specs.Outputs.{CanCommit, EndsOutput, EndsSave, HaveWinners, IsOpenFor, IsRenewedFor, IsRenewedIn, RefusesOutput, RefusesRenewal};
 ghost use Rattle.sc_core.specs.declared.answers.JobState.TheVariants.{Done};
 ghost use Rattle.sc_desk.specs.Files.{AreWinners, dir_of_job};
 ghost use Rattle.sc_jobs.specs.JobData.{IsGoal};
@@ -18,12 +18,12 @@ use sc_files::Files;
 use sc_ids::AttemptId;
 use sc_jobs::Goal;
 use sc_output::is_within_types;
-use sc_staging::{Ended, Opened, Output, Staging};
+use sc_staging::{Ended, Opened, Output, Renewed, Staging};
 use sc_value::Name;
 use sc_work::{Naming, SharedWork};
 use std::alloc::{AllocError, Global};
 
-/// Why the files of a job weren't opened, with the files handed back.
+/// Why the files of a job weren't opened or made anew, with the files handed back.
 #[derive(Drop)]
 pub(crate) struct Refused<F: Files> {
     pub(crate) why: OrMemory<JobFault>,
@@ -72,6 +72,38 @@ fn directory<W: Naming>(work: &SharedWork<W>, goal: Goal) -> Option<&Name>
     };
     work.is_named();
     work.get().script().actions()[number as usize].saves_to()
+}
+
+/// The files of a job that begins again: where it saves, its staging area is made anew.
+pub(crate) fn renew_output<F: Files>(output: Output<F>) -> Result<Output<F>, Refused<F>>
+    ensures renewed { IfOk result (IsRenewedFor F.state output) }
+    ensures refused { IfErr result (λ r. RefusesRenewal (output_dir output)
+        (output_files F.state output) (F.state r.files) r.why) }
+{
+    match output {
+        Output::Nothing(files) => Ok(Output::Nothing(files)),
+        Output::Save(staging) => renew_save(staging),
+    }
+}
+
+/// The files of a save that begins again.
+fn renew_save<F: Files>(staging: Staging<F>) -> Result<Output<F>, Refused<F>>
+    ensures renewed { IfOk result (λ o. (output_dir o ≡ Some staging.dir)
+        × IsRenewedIn (Some staging.dir) staging.files (output_files F.state o)) }
+    ensures refused { IfErr result (λ r. RefusesRenewal (Some staging.dir) staging.files
+        (F.state r.files) r.why) }
+{
+    match staging.again() {
+        Renewed::Staging(staging) => Ok(Output::Save(staging)),
+        Renewed::Device { path, files } => Err(Refused {
+            why: OrMemory::Fault(JobFault::Device(path)),
+            files,
+        }),
+        Renewed::NoMemory { files } => Err(Refused {
+            why: OrMemory::OutOfMemory,
+            files,
+        }),
+    }
 }
 
 /// Ends the files of a job, where they weren't put aside, by how far it is.

@@ -3,6 +3,7 @@
 
 ghost use Rattle.std.specs.Prelude.{◌≡◌, [], ◌∷◌, ◌++◌, OnErr, OnOk};
 ghost use Rattle.sc_context.specs.Records.{AreKept, HasRoom, HasRoomToKeep, IsGivenUp, IsLogged, IsSame};
+ghost use Rattle.sc_lineage.specs.ScriptData.{WorkData};
 
 use sc_core::JobHistory;
 use sc_exec::Left;
@@ -28,15 +29,16 @@ pub struct Records {
     pub histories: Vec<JobHistory>,
     /// What the executors of each wrote down; nothing where the driver ran it alone.
     pub logs: Vec<Vec<ExecLog>>,
-    /// The jobs that were given up, each of which was run again, unless memory ran out.
+    /// The jobs that were given up, each of which was run again, unless that couldn't be.
     pub gave_up: Vec<GaveUp>,
 }
 
 impl Records {
     /// No job has run.
     pub fn new(alloc: Global) -> Records
-        ensures kept { AreKept result }
+        ensures kept { (work : WorkData) → AreKept work result }
         ensures none { result.histories.items ≡ [] }
+        ensures none_logged { result.logs.items ≡ [] }
         ensures none_given { result.gave_up.items ≡ [] }
     {
         Records {
@@ -59,9 +61,8 @@ impl Records {
     /// One job more, of which this is what its executors wrote down. It takes no memory.
     pub(crate) fn keep(&mut self, history: JobHistory, logs: Vec<ExecLog>)
         requires room { HasRoomToKeep self.old }
-        requires kept { AreKept self.old }
         requires logged { IsLogged history logs.items }
-        ensures kept { AreKept self.new }
+        ensures kept { (work : WorkData) → AreKept work self.old → AreKept work self.new }
         ensures histories { self.new.histories.items ≡ self.old.histories.items ++ history ∷ [] }
         ensures given { self.new.gave_up.items ≡ self.old.gave_up.items }
     {
@@ -72,9 +73,8 @@ impl Records {
     /// A job that was given up. It takes no memory, and leaves room for how it goes again.
     pub(crate) fn give_up(&mut self, gave_up: GaveUp)
         requires room { HasRoom self.old }
-        requires kept { AreKept self.old }
-        requires cause { IsGivenUp gave_up }
-        ensures kept { AreKept self.new }
+        ensures kept { (work : WorkData) → AreKept work self.old → IsGivenUp work gave_up
+            → AreKept work self.new }
         ensures room { HasRoomToKeep self.new }
         ensures histories { self.new.histories.items ≡ self.old.histories.items }
         ensures given { self.new.gave_up.items ≡ self.old.gave_up.items ++ gave_up ∷ [] }

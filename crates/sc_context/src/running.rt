@@ -4,8 +4,9 @@
 ghost use Rattle.std.specs.Prelude.{◌≡◌, length};
 ghost use Rattle.std.specs.Option.{option_map};
 ghost use Rattle.sc_context.specs.Crews.{IsCrew};
-ghost use Rattle.sc_context.specs.Goings.{BeganBehind, CameFrom, RunsAgain, RunsFrom};
-ghost use Rattle.sc_context.specs.Records.{WasGivenUp};
+ghost use Rattle.sc_context.specs.Goings.{BeganBehind, CameFrom, RunsAgain, RunsFrom, RunsRenewed};
+ghost use Rattle.sc_context.specs.Records.{HaveStopped, WasGivenUp};
+ghost use Rattle.sc_context.specs.Starts.{IsUnregistered};
 ghost use Rattle.sc_core.specs.Openings.{tracker_behind};
 ghost use Rattle.sc_core.specs.Sound.{HasLive};
 ghost use Rattle.sc_desk.specs.Begins.{Begins, FitsLast};
@@ -13,18 +14,22 @@ ghost use Rattle.sc_desk.specs.DeskData.{PassedData};
 ghost use Rattle.sc_desk.specs.Files.{FilesStand};
 ghost use Rattle.sc_jobs.specs.declared.goals.Goal.{Goal};
 ghost use Rattle.sc_staging.specs.Outputs.{output_dir, output_files};
+ghost use Rattle.sc_world.specs.Runs.{HasBegun};
 
 use crate::alone::run_alone;
 use crate::crews::Crew;
+use crate::outputs::{Refused, renew_output};
 use crate::records::GaveUp;
+use crate::stops::JobFault;
 use crate::went::{Went, finish};
+use sc_base::OrMemory;
 use sc_clock::Clock;
 use sc_core::Core;
 use sc_desk::{Again, Desk, Orders};
 use sc_exec::{Gate, Left, Stores, Verdict, into_logs, judge, work_job};
 use sc_files::Files;
 use sc_logs::ExecLog;
-use sc_staging::Output;
+use sc_staging::{Output, laws_of_files};
 use sc_work::Naming;
 use std::alloc::Global;
 use std::sync::{Mutex, Wait};
@@ -52,18 +57,20 @@ pub(crate) enum Run<W: Naming, F: Files> {
         /// The stores of its executors.
         stores: Stores<W>,
     },
-    /// Its executors gave it up, and memory ran out before it began again.
+    /// Its executors gave it up, and it didn't begin again.
     Refused {
         /// How it went.
         gave_up: GaveUp,
+        /// Why it didn't: its staging area couldn't be made anew, or memory ran out.
+        why: OrMemory<JobFault>,
         /// The files.
         files: F,
     },
 }
 
 /// Runs a job on executor threads until all of them have left it. Where they give it up, which what
-/// they wrote down shows, the driver runs it again alone, with nothing registered and over new
-/// stores.
+/// they wrote down shows, the driver runs it again alone, with nothing registered, nothing in its
+/// staging area, and over new stores.
 pub(crate) fn run_begun<
     W: Naming + Send + Sync,
     F: Files + Send,
@@ -129,10 +136,12 @@ fn run_again<W: Naming, F: Files>(
     requires many { length given.ordered ≡ W.work.limits.executors }
     requires fits { FitsLast W.work (option_map (λ l. l.now) last) }
     requires live { HasLive (tracker_behind (option_map (λ l. l.now) last) W.work.limits) }
+    requires stopped { HaveStopped W.work logs.items lefts.items }
     requires cause { WasGivenUp given.desk.journal.entries logs.items lefts.items }
     ensures again { RunsAgain W.work F.state given.desk (option_map (λ l. l.now) last.entry)
         given.ordered (output_dir output) (output_files F.state output) result }
 {
+    laws_of_files();
     let Begun { desk, ordered } = given;
     let Again { history, begun } = desk.again(alloc, last, ordered);
     let gave_up = GaveUp {
@@ -140,21 +149,46 @@ fn run_again<W: Naming, F: Files>(
         logs,
         lefts,
     };
-    match begun {
-        Ok(desk) => match run_alone(alloc, desk, output) {
-            Ok(alone) => Run::Went {
-                went: alone.went,
-                logs: Vec::new(alloc),
-                gave_up: Some(gave_up),
-                stores: alone.stores,
-            },
-            Err(output) => Run::Refused {
-                gave_up,
-                files: output.close(),
-            },
-        },
-        Err(_) => Run::Refused {
+    let Ok(desk) = begun else {
+        return Run::Refused {
             gave_up,
+            why: OrMemory::OutOfMemory,
+            files: output.close(),
+        };
+    };
+    match renew_output(output) {
+        Ok(output) => run_renewed(alloc, desk, output, gave_up),
+        Err(Refused { why, files }) => Run::Refused {
+            gave_up,
+            why,
+            files,
+        },
+    }
+}
+
+/// Runs a job again that began again, with nothing in its staging area.
+fn run_renewed<W: Naming, F: Files>(
+    alloc: Global,
+    desk: Desk<W>,
+    output: Output<F>,
+    gave_up: GaveUp,
+) -> Run<W, F>
+    requires begun { HasBegun W.work desk }
+    requires unregistered { IsUnregistered desk }
+    requires stand { FilesStand W.work desk (output_dir output) (output_files F.state output) }
+    ensures runs { RunsRenewed W.work F.state desk (output_dir output) (output_files F.state output)
+        gave_up result }
+{
+    match run_alone(alloc, desk, output) {
+        Ok(alone) => Run::Went {
+            went: alone.went,
+            logs: Vec::new(alloc),
+            gave_up: Some(gave_up),
+            stores: alone.stores,
+        },
+        Err(output) => Run::Refused {
+            gave_up,
+            why: OrMemory::OutOfMemory,
             files: output.close(),
         },
     }

@@ -21,7 +21,8 @@ pub enum JobFault {
     /// The directory that it was to make, or the staging area in that, is there already. Nothing in
     /// this has changed.
     Exists(Name),
-    /// It saves, and a call on the files failed where it was opened, committed or aborted.
+    /// It saves, and a call on the files failed where it was opened, began again, or was committed
+    /// or aborted.
     Device(Name),
 }
 
@@ -57,7 +58,7 @@ impl<W: Naming, F: Files> Context<W, F> {
         ensures why { result.why ≡ OutOfMemory }
         ensures histories { result.records.histories.items ≡ self.histories }
         ensures given_up { histories_of result.records.gave_up.items ≡ self.given_up }
-        ensures kept { AreKept result.records }
+        ensures kept { AreKept W.work result.records }
         ensures files { F.state result.files ≡ self.files }
     {
         Stopped::without_memory(self.records, self.files)

@@ -10,7 +10,6 @@ ghost use Rattle.sc_core.specs.declared.answers.JobState.TheVariants.{Done};
 ghost use Rattle.sc_desk.specs.Files.{AreCounted, FilesStand, faults_of};
 ghost use Rattle.sc_exec.specs.Helms.{helm_data};
 ghost use Rattle.sc_exec.specs.Openings.{OpeningData};
-ghost use Rattle.sc_files.specs.Calls.{counts_of};
 ghost use Rattle.sc_staging.specs.Outputs.{output_dir, output_files};
 
 use crate::outputs::end_output;
@@ -51,8 +50,7 @@ pub(crate) fn finish<W: Naming, F: Files>(
         → GoesFrom W.work o result.history result.passed result.results
         (F.state result.files) }
     ensures counted { (opened : FilesState)
-        → AreCounted (counts_of opened) (faults_of desk.journal.entries)
-        (counts_of (output_files F.state output))
+        → AreCounted opened (faults_of desk.journal.entries) (output_files F.state output)
         → CountsIn (faults_of result.history.entries.items) opened (F.state result.files)
         result.results }
 {

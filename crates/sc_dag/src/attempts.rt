@@ -11,9 +11,12 @@ ghost use Rattle.sc_dag.specs.DagData.{set_in, with_set};
 ghost use Rattle.sc_dag.specs.Offers.{may_be_given_in};
 ghost use Rattle.sc_dag.specs.Reports.{reaches_limit_in};
 
+use crate::uncounted::lose_in;
 use sc_ids::{AttemptId, ExecId, FailureCause};
 use sc_taskset::{TaskSet, Verdict};
 use std::alloc::AllocError;
+use std::marker::Brand;
+use std::sync::ledger::Blank;
 
 /// What becomes of an attempt of a stage.
 #[derive(Clone, Copy)]
@@ -75,7 +78,7 @@ impl StageAttempt {
                 self.has_failed = true;
             }
             AttemptChange::Forgiven => self.has_failed = false,
-            AttemptChange::Lost(exec) => self.set.executor_lost(exec),
+            AttemptChange::Lost(exec) => lose_in::<Brand>(&mut self.set, exec, Blank::new(1)),
         }
     }
 }

@@ -29,6 +29,7 @@ mod reports;
 mod rows;
 mod stages;
 mod submissions;
+mod uncounted;
 
 pub use attempts::StageAttempt;
 pub use dags::Dag;

@@ -12,11 +12,13 @@ ghost use Rattle.sc_dag.specs.Submission.{is_idle};
 
 use crate::attempts::{StageAttempt, failed_count, newest};
 use crate::outputs::{all_have_results, is_map};
+use crate::uncounted::peek_in;
 use sc_ids::{ExecId, Stage, Target};
 use sc_taskset::{GivenTask, SetRoom};
 use sc_tracker::Tracker;
 use std::alloc::{AllocError, Global};
-use std::marker::Model;
+use std::marker::{Brand, Model};
+use std::sync::ledger::Blank;
 
 /// A stage of a job, what becomes of it, and room for its next attempt.
 #[derive(Drop)]
@@ -156,7 +158,7 @@ impl StageRow {
         ensures { OffersIn (newest_set self.now.state) exec now result }
     {
         match newest(&self.attempts) {
-            Some(attempt) => attempt.set.peek(exec, now),
+            Some(attempt) => peek_in::<Brand>(&attempt.set, exec, now, Blank::new(1)),
             None => None,
         }
     }

@@ -1,8 +1,7 @@
 //! What may begin new attempts of stages, and what is lost.
 #![tactic(auto)]
 
-ghost use Rattle.std.specs.Prelude.{◌≡◌, ◌<◌, true};
-ghost use Rattle.sc_tracker.specs.Tracking.{after_executor_lost};
+ghost use Rattle.std.specs.Prelude.{◌≡◌, true};
 ghost use Rattle.sc_dag.specs.Losses.{after_lost, after_seen};
 ghost use Rattle.sc_dag.specs.Reports.{CompletesMap, FailsStage, has_failed_often};
 ghost use Rattle.sc_dag.specs.Rows.{is_submitted};
@@ -13,12 +12,11 @@ use crate::changes::RowChange;
 use crate::dags::Dag;
 use crate::fates::{Submitted, submit};
 use crate::stages::{failed_count_at, lose_all};
-use sc_base::Steps;
+use crate::uncounted::unregister;
 use sc_ids::{ExecId, Generation, StageId};
 use sc_taskset::Verdict;
-use sc_tracker::Tracker;
 use std::marker::Brand;
-use std::sync::ledger::{Blank, Ledger};
+use std::sync::ledger::Blank;
 
 impl Dag {
     /// Submits a stage: unless it is complete it gets a new attempt, or it waits and the parents
@@ -93,15 +91,4 @@ impl Dag {
         unregister::<Brand>(&mut self.tracker, exec, Blank::new(1));
         lose_all(&mut self.rows, exec);
     }
-}
-
-/// An executor told lost to the tracker, where nobody counts what that looks at.
-fn unregister<L: Ledger>(tracker: &mut Tracker, exec: ExecId, blank: Blank)
-    requires name { blank.name ≡ L.name }
-    requires parts { blank.parts ≡ L.parts }
-    requires some { 0 < blank.parts }
-    ensures { tracker.new ≡ after_executor_lost tracker.old exec }
-{
-    let mut steps = Steps::<L>::new(blank);
-    tracker.unregister_exec(exec, &mut steps);
 }

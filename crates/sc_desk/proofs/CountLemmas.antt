@@ -1,15 +1,18 @@
 -- What a call for a part leaves by its answer, and that the files count what the journal tells of.
-use Rattle.std.proofs.Common.{◌≡◌, ◌∙◌, ℕ, Bool, true, false, List, [], ◌∷◌, ◌++◌, Option, None, Some, append-nil, append_assoc, refl, ap, sym, subst}
+use Rattle.std.proofs.Common.{◌≡◌, ◌∙◌, ◌≤◌, ◌⊎◌, inl, inr, ℕ, Bool, true, false, List, [], ◌∷◌, ◌++◌, Option, None, Some, append-nil, append_assoc, refl, ap, sym, subst}
+use Rattle.std.specs.Prelude.{is_some}
 use Rattle.std.specs.List.{cons_option}
 use Rattle.std.proofs.lemmas.List.Elements.{filter_map-append}
-use Rattle.sc_base.specs.Outside.{FilesState, IsQuietFiles}
+use Rattle.sc_base.specs.Counts.{Rose}
+use Rattle.sc_base.specs.Outside.{Changes, FilesState, IsLaterFiles, IsQuietFiles}
+use Rattle.sc_base.specs.Trees.{Tree}
 use Rattle.sc_files.specs.Calls.{counts_of}
 use Rattle.sc_ids.specs.declared.attempts.AttemptId.{AttemptId}
 use Rattle.sc_ids.specs.declared.attempts.Mark.{Mark}
 use Rattle.sc_ids.specs.declared.failures.Counts.{Counts}
 use Rattle.sc_ids.specs.declared.failures.Fault.{Fault}
-use Rattle.sc_output.specs.Calls.{Call}
-use Rattle.sc_staging.specs.Parts.{part_rename, part_write}
+use Rattle.sc_output.specs.Calls.{Call, IsNotDone}
+use Rattle.sc_staging.specs.Parts.{TellsOf, part_rename, part_write}
 use Rattle.sc_staging.specs.StagingData.{StagingData}
 use Rattle.sc_core.specs.Journals.{entry}
 use Rattle.sc_core.specs.Saving.{is_given, is_granted, move_answer, saver_phase, stage_answer}
@@ -25,7 +28,7 @@ use Rattle.sc_core.specs.declared.events.FileOutcome.TheVariants as outcomes
 use Rattle.sc_core.specs.declared.events.SideEvent.TheVariants.{Move, Stage}
 use Rattle.sc_desk.specs.DeskData.{DeskData, core_of}
 use Rattle.sc_desk.specs.Entries.{Enters}
-use Rattle.sc_desk.specs.Files.{AreCounted, CountsGoOn, fault_by, fault_in, faults_of}
+use Rattle.sc_desk.specs.Files.{AreCounted, AreInRow, CountsGoOn, TellsOfCall, fault_by, fault_in, faults_of}
 use Rattle.sc_desk.specs.Saving.{CallsAs, CallsIf, MovesPart, StagesPart}
 use Rattle.sc_desk.specs.declared.receipts.Noted.{Noted}
 use Rattle.sc_desk.proofs.PartLemmas.{AnswersIf, move_said, stage_said}
@@ -77,18 +80,76 @@ pub counts_quiet : (f g : FilesState) → IsQuietFiles f g → counts_of g ≡ c
 counts_quiet f g quiet =
     ap (λ n. counts n g.clashes) quiet.faults ∙ ap (counts f.faults) quiet.clashes
 
--- a call counts the fault that its answer tells of
-counted_as : (call : Call) (f g : FilesState) (said : SideAnswer) → CallsAs call f g said
-    → AreCounted (counts_of f) (cons_option (fault_by said) []) (counts_of g)
-counted_as call f g sides.Staged ended = counts_quiet f g ended.0
-counted_as call f g sides.Moved ended = counts_quiet f g ended.0
-counted_as call f g (sides.Fault fault) ended = (ended.0.before, sym ended.0.after)
-counted_as call f g said same = ap counts_of same
+-- files later on show as they did
+pub later_shows : (f g : FilesState) → IsLaterFiles f g → is_some g.shown ≡ is_some f.shown
+later_shows f g later = by f.shown g.shown later.shown
+  where
+    by : (a b : Option Tree) → Changes (λ t u. Unit {0}) a b → is_some b ≡ is_some a
+    by None None h = refl
+    by None (Some u) h = absurd h
+    by (Some t) None h = absurd h
+    by (Some t) (Some u) h = refl
 
-pub counted_then : (a b c : Counts) (xs ys : List Fault) → AreCounted a xs b → AreCounted b ys c
-    → AreCounted a (xs ++ ys) c
-counted_then a b c [] ys x y = subst (λ t. AreCounted t ys c) x y
-counted_then a b c (fault ∷ xs) ys (is, x) y = (is, counted_then fault.after b c xs ys x y)
+pub counted_none : (f : FilesState) → AreCounted f [] f
+counted_none f = record { shows = refl; row = refl }
+
+pub counted_quiet : (f g : FilesState) → IsLaterFiles f g → IsQuietFiles f g
+    → AreCounted f [] g
+counted_quiet f g later quiet =
+    record { shows = later_shows f g later; row = counts_quiet f g quiet }
+
+-- what a fault tells of is that call
+told_call : (f g : FilesState) (fault : Fault) → IsLaterFiles f g → TellsOf fault f g
+    → TellsOfCall (is_some f.shown) fault
+told_call f g fault later tells =
+    record {
+      faults = subst (λ (c : Counts). c.faults ≤ fault.after.faults) (sym tells.before)
+          (subst (λ (c : Counts). f.faults ≤ c.faults) (sym tells.after) later.faults);
+      clashes = subst (λ (c : Counts). c.clashes ≤ fault.after.clashes) (sym tells.before)
+          (subst (λ (c : Counts). f.clashes ≤ c.clashes) (sym tells.after) later.clashes);
+      cause = by tells.cause;
+    }
+  where
+    by : IsNotDone f g
+        → Rose fault.before.faults fault.after.faults
+        ⊎ ((is_some f.shown ≡ false) × Rose fault.before.clashes fault.after.clashes)
+    by (inl rose) =
+        inl (subst (λ (c : Counts). Rose c.faults fault.after.faults) (sym tells.before)
+        (subst (λ (c : Counts). Rose f.faults c.faults) (sym tells.after) rose))
+    by (inr (unseen, rose)) =
+        inr (
+          ap is_some unseen,
+          subst (λ (c : Counts). Rose c.clashes fault.after.clashes) (sym tells.before)
+              (subst (λ (c : Counts). Rose f.clashes c.clashes) (sym tells.after) rose),
+        )
+
+-- a call counts the fault that its answer tells of
+counted_as : (call : Call) (f g : FilesState) (said : SideAnswer) → IsLaterFiles f g
+    → CallsAs call f g said → AreCounted f (cons_option (fault_by said) []) g
+counted_as call f g sides.Staged later ended = counted_quiet f g later ended.0
+counted_as call f g sides.Moved later ended = counted_quiet f g later ended.0
+counted_as call f g (sides.Fault fault) later ended =
+    record {
+      shows = later_shows f g later;
+      row = (ended.0.before, told_call f g fault later ended.0, sym ended.0.after);
+    }
+counted_as call f g said later same =
+    subst (λ (x : FilesState). AreCounted f [] x) (sym same) (counted_none f)
+
+row_then : (shows : Bool) (a b c : Counts) (xs ys : List Fault) → AreInRow shows a xs b
+    → AreInRow shows b ys c → AreInRow shows a (xs ++ ys) c
+row_then shows a b c [] ys x y = subst (λ t. AreInRow shows t ys c) x y
+row_then shows a b c (fault ∷ xs) ys (is, tells, x) y =
+    (is, tells, row_then shows fault.after b c xs ys x y)
+
+pub counted_then : (a b c : FilesState) (xs ys : List Fault) → AreCounted a xs b
+    → AreCounted b ys c → AreCounted a (xs ++ ys) c
+counted_then a b c xs ys x y =
+    record {
+      shows = y.shows ∙ x.shows;
+      row = row_then (is_some a.shown) (counts_of a) (counts_of b) (counts_of c) xs ys x.row
+          (subst (λ shows. AreInRow shows (counts_of b) ys (counts_of c)) x.shows y.row);
+    }
 
 -- ---- what the journal tells of
 
@@ -106,7 +167,7 @@ counts_same d after files same =
     record {
       faults = [];
       told = same ∙ sym (append-nil (faults_of d.journal.entries));
-      counted = refl;
+      counted = counted_none files;
     }
 
 pub counts_then : (d mid after : DeskData) (f g h : FilesState) → CountsGoOn d mid f g
@@ -116,14 +177,13 @@ counts_then d mid after f g h x y =
       faults = x.faults ++ y.faults;
       told = y.told ∙ ap (λ l. l ++ y.faults) x.told
           ∙ append_assoc (faults_of d.journal.entries) x.faults y.faults;
-      counted = counted_then (counts_of f) (counts_of g) (counts_of h) x.faults y.faults
-          x.counted y.counted;
+      counted = counted_then f g h x.faults y.faults x.counted y.counted;
     }
 
 -- one more entry
 entered_so : (d after : DeskData) (by : Mark) (event : Event) (answer : Answer)
     (f g : FilesState) → Enters d by event answer after
-    → AreCounted (counts_of f) (cons_option (fault_in event answer) []) (counts_of g)
+    → AreCounted f (cons_option (fault_in event answer) []) g
     → CountsGoOn d after f g
 entered_so d after by event answer f g enters counted =
     record {
@@ -138,8 +198,7 @@ pub counts_entered : (d after : DeskData) (by : Mark) (event : Event) (answer : 
     → CountsGoOn d after files files
 counts_entered d after by event answer files enters none =
     entered_so d after by event answer files files enters
-    (subst (λ o. AreCounted (counts_of files) (cons_option o []) (counts_of files)) (sym none)
-    refl)
+    (subst (λ o. AreCounted files (cons_option o []) files) (sym none) (counted_none files))
 
 pub counts_staged : (d after : DeskData) (by : Mark) (a : AttemptId) (text : List ℕ)
     (before left : StagingData) (noted : Noted) → StagesPart d by a text before left noted after
@@ -147,7 +206,7 @@ pub counts_staged : (d after : DeskData) (by : Mark) (a : AttemptId) (text : Lis
 counts_staged d after by a text before left noted stages =
     entered_so d after by (Side (Stage a stages.wrote)) (says.Side noted.answer) before.files
     left.files stages.notes.enters
-    (counted_as (part_write before.dir a text) before.files left.files noted.answer
+    (counted_as (part_write before.dir a text) before.files left.files noted.answer stages.later
     (stage_calls d after by a text before left noted stages))
 
 pub counts_moved : (d after : DeskData) (by : Mark) (a : AttemptId) (before left : StagingData)
@@ -156,5 +215,5 @@ pub counts_moved : (d after : DeskData) (by : Mark) (a : AttemptId) (before left
 counts_moved d after by a before left noted moves =
     entered_so d after by (Side (Move a moves.renamed)) (says.Side noted.answer) before.files
     left.files moves.notes.enters
-    (counted_as (part_rename before.dir a) before.files left.files noted.answer
+    (counted_as (part_rename before.dir a) before.files left.files noted.answer moves.later
     (move_calls d after by a before left noted moves))

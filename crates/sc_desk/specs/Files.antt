@@ -1,7 +1,8 @@
 -- The files of a job, as far as its journal tells of them.
-use Rattle.std.specs.Prelude.{ℕ, ◌≡◌, ◌<◌, true, List, [], ◌∷◌, ◌++◌, Option, Some, None, IfSome, length, map, slice_get}
+use Rattle.std.specs.Prelude.{ℕ, ◌≡◌, ◌≤◌, ◌<◌, ◌⊎◌, Bool, true, false, List, [], ◌∷◌, ◌++◌, Option, Some, None, IfSome, is_some, length, map, slice_get}
 use Rattle.std.specs.List.{filter_map}
 use Rattle.std.specs.Option.{option_map}
+use Rattle.sc_base.specs.Counts.{Rose}
 use Rattle.sc_base.specs.Outside.{FilesState}
 use Rattle.sc_base.specs.Trees.{Path, Tree}
 use Rattle.sc_value.specs.Printing.{printed_lines}
@@ -87,18 +88,33 @@ fault_in event answer = None
 abbrev pub faults_of : List Entry → List Fault
 faults_of entries = filter_map (λ e. fault_in e.event e.answer) entries
 
+-- What a fault tells of is a call that wasn't done: no count fell over it, and that of faults rose,
+-- or that of clashes, which comes only where the files don't show.
+pub record TellsOfCall (shows : Bool) (fault : Fault) : Type 0 where
+  pub faults : fault.before.faults ≤ fault.after.faults
+  pub clashes : fault.before.clashes ≤ fault.after.clashes
+  pub cause : Rose fault.before.faults fault.after.faults
+      ⊎ ((shows ≡ false) × Rose fault.before.clashes fault.after.clashes)
+
 -- from these counts to those nothing was counted but these faults: each begins with what was
 -- counted up to the one before
-abbrev pub AreCounted : Counts → List Fault → Counts → Type 0
-AreCounted from [] to = to ≡ from
-AreCounted from (fault ∷ faults) to = (fault.before ≡ from) × AreCounted fault.after faults to
+abbrev pub AreInRow : Bool → Counts → List Fault → Counts → Type 0
+AreInRow shows from [] to = to ≡ from
+AreInRow shows from (fault ∷ faults) to =
+    (fault.before ≡ from) × TellsOfCall shows fault × AreInRow shows fault.after faults to
+
+-- from one moment to another the files, which show as they did, have counted just these faults
+pub record AreCounted (before : FilesState) (faults : List Fault) (after : FilesState)
+    : Type 0 where
+  pub shows : is_some after.shown ≡ is_some before.shown
+  pub row : AreInRow (is_some before.shown) (counts_of before) faults (counts_of after)
 
 -- From one moment of a desk to a later one the files have counted just the faults that its journal
 -- tells of since.
 pub record CountsGoOn (d after : DeskData) (before then : FilesState) : Type 0 where
   pub faults : List Fault
   pub told : faults_of after.journal.entries ≡ faults_of d.journal.entries ++ faults
-  pub counted : AreCounted (counts_of before) faults (counts_of then)
+  pub counted : AreCounted before faults then
 
 -- ---- which files stand
 

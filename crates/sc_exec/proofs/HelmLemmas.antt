@@ -8,7 +8,6 @@ use Rattle.sc_lineage.specs.ScriptData.{ActionData, WorkData}
 use Rattle.sc_ids.specs.declared.attempts.AttemptId.{AttemptId}
 use Rattle.sc_ids.specs.declared.attempts.Mark.{Mark}
 use Rattle.sc_plan.specs.declared.orders.Order.{Order}
-use Rattle.sc_files.specs.Calls.{counts_of}
 use Rattle.sc_output.specs.Calls.{IsOpen}
 use Rattle.sc_output.specs.Names.{IsWithinTypes}
 use Rattle.sc_output.proofs.CallLemmas.{later-then}
@@ -39,7 +38,7 @@ use Rattle.sc_desk.specs.declared.posts.Posted.TheVariants as posteds
 use Rattle.sc_desk.specs.declared.receipts.Noted.{Noted}
 use Rattle.sc_desk.specs.declared.receipts.Receipt.{Receipt}
 use Rattle.sc_desk.specs.declared.takes.Taken.{Taken}
-use Rattle.sc_desk.proofs.CountLemmas.{counted_then, counts_entered, counts_moved, counts_staged}
+use Rattle.sc_desk.proofs.CountLemmas.{counted_none, counted_then, counts_entered, counts_moved, counts_staged}
 use Rattle.sc_desk.proofs.FilesLemmas.{files_go_on}
 use Rattle.sc_exec.specs.Helms.{HelmData, IsJobOf, helm_data, opening_of}
 use Rattle.sc_exec.specs.Openings.{OpeningData}
@@ -62,10 +61,9 @@ goes_on work o h after opening job carried dir stand later goes counts is =
       stand = stand;
       later = later;
       goes = goes;
-      counted = subst (λ fs. AreCounted (counts_of o.files) fs (counts_of after.files))
-          (sym counts.told)
-          (counted_then (counts_of o.files) (counts_of h.files) (counts_of after.files)
-          (faults_of h.desk.journal.entries) counts.faults is.counted counts.counted);
+      counted = subst (λ fs. AreCounted o.files fs after.files) (sym counts.told)
+          (counted_then o.files h.files after.files (faults_of h.desk.journal.entries)
+          counts.faults is.counted counts.counted);
     }
 
 -- an entry that tells of no call on the files
@@ -252,8 +250,8 @@ job_opened work h none stand =
         clashes = omega arith;
       };
       goes = goes h.dir;
-      counted = subst (λ es. AreCounted (counts_of h.files) (faults_of es) (counts_of h.files))
-          (sym none) refl;
+      counted = subst (λ es. AreCounted h.files (faults_of es) h.files) (sym none)
+          (counted_none h.files);
     }
   where
     goes : (dir : Option Path) → GoesOnIn dir h.files h.files

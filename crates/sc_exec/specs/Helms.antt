@@ -4,7 +4,6 @@ use Rattle.std.specs.Coded.{Coded, code_by, coded×, coded_list, coded_option, c
 use Rattle.sc_base.specs.Outside.{FilesState, IsLaterFiles, files_state_code}
 use Rattle.sc_base.specs.Trees.{Path}
 use Rattle.sc_lineage.specs.ScriptData.{WorkData}
-use Rattle.sc_files.specs.Calls.{counts_of}
 use Rattle.sc_staging.specs.Outputs.{GoesOnIn}
 use Rattle.sc_desk.specs.DeskData.{DeskData, desk_code}
 use Rattle.sc_desk.specs.Files.{AreCounted, FilesStand, faults_of}
@@ -44,8 +43,7 @@ pub record IsJobOf (work : WorkData) (o : OpeningData) (h : HelmData) : Type 0 w
   pub later : IsLaterFiles o.files h.files
   pub goes : GoesOnIn o.dir o.files h.files
   -- and have counted just the faults that its journal tells of
-  pub counted : AreCounted (counts_of o.files) (faults_of h.desk.journal.entries)
-      (counts_of h.files)
+  pub counted : AreCounted o.files (faults_of h.desk.journal.entries) h.files
 
 -- the files stay as they are
 abbrev pub KeepsFiles : HelmData → HelmData → Type 0

@@ -7,5 +7,6 @@ pub mod LentLemmas
 pub mod LawLemmas
 pub mod GroupLemmas
 pub mod CodeLemmas
+pub mod CodedLemmas
 pub mod KeyLemmas
 pub mod OrderLemmas

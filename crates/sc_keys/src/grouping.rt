@@ -2,6 +2,7 @@
 #![tactic(auto)]
 
 ghost use Rattle.std.specs.Prelude.{◌≡◌, ◌≤◌, IfOk, length, map};
+ghost use Rattle.std.specs.List.{All};
 ghost use Rattle.std.specs.Ordering.{int_eq};
 ghost use Rattle.std.specs.Str.{bytes_eq};
 ghost use Rattle.sc_base.specs.Limits.{count_limit};
@@ -9,7 +10,7 @@ ghost use Rattle.sc_keys.specs.Groups.{AreGroups};
 ghost use Rattle.sc_part.specs.Bounds.{is_same_key};
 ghost use Rattle.sc_value.specs.Views.{key_data_of};
 
-use crate::codes::{are_short, coded};
+use crate::codes::{NARROW, WIDE, are_short, coded, longest, narrow_code, wide_code};
 use crate::keyed::Keys;
 use crate::lending::{LentKey, lent};
 use indexmap::IndexSet;
@@ -70,14 +71,53 @@ fn group_texts(alloc: Global, keys: &Texts) -> Result<Groups, AllocError>
     if keys.len() > COUNT_LIMIT {
         return Err(AllocError);
     }
-    if are_short(keys) {
+    let longest = longest(keys);
+    if longest <= NARROW {
+        group_narrow(alloc, keys)
+    } else if longest <= WIDE {
+        group_wide(alloc, keys)
+    } else if are_short(keys) {
         group_coded(alloc, keys)
     } else {
         group_slices(alloc, keys)
     }
 }
 
-/// The groups of texts, most of which are short: the table has their bytes as numbers.
+/// The groups of texts of at most seven bytes: the table has their codes alone.
+fn group_narrow(alloc: Global, keys: &Texts) -> Result<Groups, AllocError>
+    requires short { All (λ text. length text ≤ 7) keys.now }
+    requires few { length keys.now ≤ count_limit }
+    ensures { IfOk result (λ g. AreGroups bytes_eq keys.now g.numbers.items g.count) }
+{
+    let mut known: IndexSet<u64> = IndexSet::new(alloc);
+    let mut numbers = Vec::with_capacity(alloc, keys.len())?;
+    for i in 0..keys.len() {
+        let code = narrow_code(keys.get(i).as_bytes());
+        let (group, _) = known.insert_full(code)?;
+        numbers.push(group as u32)?;
+    }
+    let count = known.len() as u32;
+    Ok(Groups { numbers, count })
+}
+
+/// The groups of texts of at most fifteen bytes: the table has their codes alone.
+fn group_wide(alloc: Global, keys: &Texts) -> Result<Groups, AllocError>
+    requires short { All (λ text. length text ≤ 15) keys.now }
+    requires few { length keys.now ≤ count_limit }
+    ensures { IfOk result (λ g. AreGroups bytes_eq keys.now g.numbers.items g.count) }
+{
+    let mut known: IndexSet<u128> = IndexSet::new(alloc);
+    let mut numbers = Vec::with_capacity(alloc, keys.len())?;
+    for i in 0..keys.len() {
+        let code = wide_code(keys.get(i).as_bytes());
+        let (group, _) = known.insert_full(code)?;
+        numbers.push(group as u32)?;
+    }
+    let count = known.len() as u32;
+    Ok(Groups { numbers, count })
+}
+
+/// The groups of texts, most of which are short: the table has their first bytes as numbers.
 fn group_coded(alloc: Global, keys: &Texts) -> Result<Groups, AllocError>
     requires { length keys.now ≤ count_limit }
     ensures { IfOk result (λ g. AreGroups bytes_eq keys.now g.numbers.items g.count) }

@@ -69,8 +69,16 @@ pub(crate) fn write_value(out: &mut String, ty: &Ty) -> Result<(), AllocError> {
     }
 }
 
-/// Writes which type what an expression is over has.
-pub(crate) fn write_rows(text: &mut String, row: &Ty) -> Result<(), AllocError> {
-    text.push_str("\n  the variable here is ")?;
-    write_type(text, row)
+/// Writes which type the variables of an operation's expression have.
+pub(crate) fn write_variables(
+    text: &mut String,
+    operation: &str,
+    row: &Ty,
+) -> Result<(), AllocError> {
+    text.push_str(match operation {
+        "reduce" | "reduceByKey" => "\n  `a` and `b` are ",
+        _ => "\n  `x` is ",
+    })?;
+    write_type(text, row)?;
+    text.push_str(" here")
 }

@@ -2,7 +2,7 @@
 #![tactic(auto)]
 
 use crate::gives::{Gives, head_takes, is_given, wanted_word};
-use crate::rows::{type_word, write_rows, write_type};
+use crate::rows::{type_word, write_type, write_variables};
 use crate::typing::{type_over, types_before};
 use sc_pieces::{
     Argument, Found, Known, Note, Piece, arguments_from, closing, opens, operation_place, word_at,
@@ -198,7 +198,7 @@ impl<'a> TypedLine<'a> {
             "the expression of {operation} is to give {wanted}, and this gives {found}"
         )?;
         if matches!(gives, Gives::TheSame) {
-            write_rows(&mut text, row)?;
+            write_variables(&mut text, operation, row)?;
         }
         Ok(text)
     }
@@ -244,7 +244,7 @@ impl<'a> TypedLine<'a> {
             }
             self.write_type_of(alloc, text, *argument, row)?;
         }
-        write_rows(text, row)
+        write_variables(text, self.operation, row)
     }
 
     /// Writes of which type an argument is.

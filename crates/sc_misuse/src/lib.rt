@@ -6,10 +6,12 @@
 //! Where no word shows it an explanation tells how a line is written, or the program called.
 #![tactic(auto)]
 
+mod help;
 mod options;
 mod plan_words;
 mod plans;
 mod usage;
 
+pub use help::synopsis;
 pub use plans::explain_plan;
-pub use usage::{explain_words, synopsis};
+pub use usage::explain_words;

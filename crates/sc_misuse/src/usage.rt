@@ -1,28 +1,23 @@
 //! Words that are no command.
 #![tactic(auto)]
 
+use crate::help::{asks_help, meanings, synopsis, write_release};
 use crate::options::{GEN, is_flag, options_of, rule_of};
 use sc_pieces::{is_among, nearest, write_near};
 use std::alloc::{AllocError, Global};
 
-/// How the program is called.
-pub fn synopsis() -> &'static str {
-    "  spark_story run SCRIPT [--plan FILE] [--executors 1..64] [--task-failures 1..16]
-                  [--stage-attempts 1..16] [--cache 1..4096] [--speculation]
-                  [--history FILE] [--page FILE] [--progress]
-  spark_story gen --seed 0..2147483647 --size 1..100000 [--executors 1..64]
-                  [--history FILE] [--page FILE] [--progress]
-  spark_story check SCRIPT [--plan FILE] [--executors 1..64]
-"
-}
-
-/// What is wrong with words that are refused, and how the program is called.
+/// What is wrong with words that are refused, and how the program is called. Where they ask for
+/// that alone, also its release and what its options mean; where there are none, its release.
 pub fn explain_words(alloc: Global, words: &[String]) -> Result<String, AllocError> {
     let mut out = String::new(alloc);
-    if !asks_help(words) {
+    if asks_help(words) {
+        write_release(&mut out)?;
+        out.push_str(synopsis())?;
+        out.push_str(meanings())?;
+    } else {
         explain_refused(alloc, &mut out, words)?;
+        out.push_str(synopsis())?;
     }
-    out.push_str(synopsis())?;
     Ok(out)
 }
 
@@ -31,16 +26,12 @@ fn explain_refused(alloc: Global, out: &mut String, words: &[String]) -> Result<
     let first = word_of(words, 0);
     match options_of(first) {
         Some(options) => explain_options(alloc, out, words, options),
-        None if words.is_empty() || first == "help" => Ok(()),
+        None if words.is_empty() => {
+            write_release(out)?;
+            out.push_str("  `spark_story help` tells what the options mean\n")
+        }
         None => explain_command(alloc, out, first),
     }
-}
-
-/// Whether words ask how the program is called.
-fn asks_help(words: &[String]) -> bool {
-    words
-        .iter()
-        .any(|word| matches!(word.as_str(), "--help" | "-h"))
 }
 
 /// A first word that is no command.

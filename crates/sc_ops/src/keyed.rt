@@ -1,7 +1,8 @@
 //! Operations on the values of pairs.
 #![tactic(auto)]
 
-ghost use Rattle.std.specs.Prelude.{◌≡◌, IfOk, List, map};
+ghost use Rattle.std.specs.Prelude.{◌≡◌, ◌≤◌, IfOk, List, length, map};
+ghost use Rattle.sc_base.specs.Limits.{count_limit};
 ghost use Rattle.sc_value.specs.Datum.{Datum};
 ghost use Rattle.sc_value.specs.Views.{datum_of};
 ghost use Rattle.sc_columns.specs.Parts.{AreLists};
@@ -12,6 +13,7 @@ ghost use Rattle.sc_lineage.specs.Streams.{each_gives};
 ghost use Rattle.sc_lineage.specs.declared.nodes.Elementwise.TheVariants.{MapValues, FlatMapValues};
 ghost use Rattle.sc_ops.specs.Given.{item_count, numbers_times};
 
+use sc_base::COUNT_LIMIT;
 use sc_batch::{eval_rows, halves};
 use sc_columns::{Lists, Rows};
 use sc_expr::{Expr, Raise};
@@ -105,14 +107,18 @@ fn list_len(value: &Value) -> usize
     }
 }
 
-/// The numbers from 0 on, each as often as the count at its place says. A number past 32 bits is
-/// answered as want of memory.
+/// The numbers from 0 on, each as often as the count at its place says. More than [`COUNT_LIMIT`]
+/// numbers that differ are answered as want of memory, and so are more than 64 bits count.
 fn row_numbers(alloc: Global, counts: &[usize]) -> Result<Vec<u32>, AllocError>
-    ensures { IfOk result (λ v. v.items ≡ numbers_times 0 counts.now) }
+    ensures are { IfOk result (λ v. v.items ≡ numbers_times 0 counts.now) }
+    ensures within { IfOk result (λ v. length counts.now ≤ count_limit) }
 {
+    if counts.len() > COUNT_LIMIT {
+        return Err(AllocError);
+    }
     let mut numbers = Vec::new(alloc);
     for i in 0..counts.len() {
-        if i > u32::MAX as usize || numbers.len().checked_add(counts[i]).is_none() {
+        if numbers.len().checked_add(counts[i]).is_none() {
             return Err(AllocError);
         }
         numbers.resize(numbers.len() + counts[i], i as u32)?;

@@ -40,7 +40,8 @@ still-over work before after histories given_up k done =
       all = sym (append-nil histories);
       given = [];
       all_given = sym (append-nil given_up);
-      over = unchanged_stops (dir_of_job work (goals.Action k)) after after OutOfMemory refl tt;
+      over = unchanged_stops work [] (dir_of_job work (goals.Action k)) after after OutOfMemory
+          refl tt;
       counted = still_counts after after refl;
     }
 

@@ -139,20 +139,21 @@ module _ (work : WorkData) (before : FilesState) (c : ContextData)
 -- ---- files go on
 
 -- a job that came to no end leaves later files
-stops-later : (dir : Option Path) (before after : FilesState) (why : OrMemory JobFault)
-    → StopsIn dir before after why → IsLaterFiles before after
-stops-later None before after why stops =
+stops-later : (work : WorkData) (given : List JobHistory) (dir : Option Path)
+    (before after : FilesState) (why : OrMemory JobFault)
+    → StopsIn work given dir before after why → IsLaterFiles before after
+stops-later work given None before after why stops =
     subst (λ s. IsLaterFiles before s) (sym stops.0) (later-same before)
-stops-later (Some dir) before after why (inl stops) =
+stops-later work given (Some dir) before after why (inl stops) =
     subst (λ s. IsLaterFiles before s) (sym stops.0) (later-same before)
-stops-later (Some dir) before after why (inr stops) = stops.0
+stops-later work given (Some dir) before after why (inr stops) = stops.0
 
 ends-later : (work : WorkData) (before after : FilesState)
     (histories given_up : List JobHistory) (k : ℕ) (why : OrMemory JobFault)
     → EndsOver work before after histories given_up k why → IsLaterFiles before after
 ends-later work before after histories given_up k why ends =
     later-then before ends.mid after ends.done.later
-    (stops-later (dir_of_job work (goals.Action k)) ends.mid after why ends.over)
+    (stops-later work ends.given (dir_of_job work (goals.Action k)) ends.mid after why ends.over)
 
 -- however the running ends, it leaves later files
 pub prints-later : (work : WorkData) (start now : SinkState) (before after : FilesState)

@@ -20,7 +20,7 @@ use Rattle.sc_jobs.specs.JobData.{goal_action}
 use Rattle.sc_jobs.specs.declared.goals.Goal.{Goal}
 use Rattle.sc_jobs.specs.declared.goals.Goal.TheVariants as goals
 use Rattle.sc_desk.specs.Files.{dir_of_job}
-use Rattle.sc_context.specs.Files.{HaveLeft, LeavesFiles, LeavesIn}
+use Rattle.sc_context.specs.Files.{HaveLeft, LeavesFiles, LeavesIn, begun_tree}
 use Rattle.sc_context.specs.Histories.{HasCome}
 use Rattle.sc_context.specs.Progress.{IsNext, Progress, actions_behind}
 
@@ -36,12 +36,12 @@ later-same s =
     }
 
 -- a job that is done leaves later files
-leaves-later : (dir : Option Path) (work : WorkData) (goal : Goal) (h : JobHistory)
-    (before after : FilesState) → LeavesIn dir work goal h before after
+leaves-later : (dir : Option Path) (work : WorkData) (goal : Goal) (tried : Option JobHistory)
+    (h : JobHistory) (before after : FilesState) → LeavesIn dir work goal tried h before after
     → IsLaterFiles before after
-leaves-later None work goal h before after left =
+leaves-later None work goal tried h before after left =
     subst (λ s. IsLaterFiles before s) (sym left) (later-same before)
-leaves-later (Some dir) work goal h before after left = left.1
+leaves-later (Some dir) work goal tried h before after left = left.1
 
 -- and so do jobs one behind the other
 pub left-later : (work : WorkData) (histories given_up : List JobHistory) (p q : Progress)
@@ -51,7 +51,8 @@ left-later work [] given_up p q come before after left =
     subst (λ s. IsLaterFiles before s) (sym left) (later-same before)
 left-later work (h ∷ histories) given_up p q come before after (then, leaves, left) =
     later-then before then after
-    (leaves-later (dir_of_job work come.done.goal) work come.done.goal h before then leaves.left)
+    (leaves-later (dir_of_job work come.done.goal) work come.done.goal come.tried h before then
+    leaves.left)
     (left-later work histories come.rest come.mid q come.then then after left)
 
 -- ---- what an action leaves by its outcome
@@ -124,28 +125,31 @@ module _ (laws : SavesAreLawful) (work : WorkData) (opening : Tree)
     (apart : AreApart work.script opening)
   where
     -- an action that is done leaves what its outcome does
-    action-saved : (k : ℕ) (h : JobHistory) (before after : FilesState)
+    action-saved : (k : ℕ) (tried : Option JobHistory) (h : JobHistory)
+        (before after : FilesState)
         → before.shown ≡ Some (saved_by work k opening) → (action : ActionData)
         → goal_action work (goals.Action k) ≡ action
-        → LeavesIn (dir_of_action action) work (goals.Action k) h before after
+        → LeavesIn (dir_of_action action) work (goals.Action k) tried h before after
         → after.shown
         ≡ Some (after_outcome (saved_by work k opening) (action_outcome work action))
-    action-saved k h before after shown (collect_action node) is left =
+    action-saved k tried h before after shown (collect_action node) is left =
         ap (λ (s : FilesState). s.shown) left ∙ shown
         ∙ ap Some
         (sym (no-save-leaves work (saved_by work k opening) (collect_action node) refl))
-    action-saved k h before after shown (count_action node) is left =
+    action-saved k tried h before after shown (count_action node) is left =
         ap (λ (s : FilesState). s.shown) left ∙ shown
         ∙ ap Some
         (sym (no-save-leaves work (saved_by work k opening) (count_action node) refl))
-    action-saved k h before after shown (reduce_action node e) is left =
+    action-saved k tried h before after shown (reduce_action node e) is left =
         ap (λ (s : FilesState). s.shown) left ∙ shown
         ∙ ap Some
         (sym (no-save-leaves work (saved_by work k opening) (reduce_action node e) refl))
-    action-saved k h before after shown (save_action node dir) is left =
-        let was = was-so (λ t u. (has_dir t dir ≡ false) × IsUnderWay dir t u)
+    action-saved k tried h before after shown (save_action node dir) is left =
+        let was = was-so
+        (λ t u. (has_dir t dir ≡ false) × IsUnderWay dir (begun_tree tried dir t) u)
         (saved_by work k opening) left.0.mid.shown
-        (subst (λ s. Changes (λ t u. (has_dir t dir ≡ false) × IsUnderWay dir t u) s
+        (subst (λ s. Changes
+        (λ t u. (has_dir t dir ≡ false) × IsUnderWay dir (begun_tree tried dir t) u) s
         left.0.mid.shown) shown left.0.way.way) in
         left.0.saved (saved_by work k opening) shown
         (laws.apart work k dir opening apart
@@ -160,7 +164,7 @@ module _ (laws : SavesAreLawful) (work : WorkData) (opening : Tree)
         → LeavesFiles work goal tried h before after
         → after.shown ≡ Some (saved_by work (actions_behind goal p.actions) opening)
     job-saved p (goals.Action number) next tried h before after shown left =
-        action-saved p.actions h before after shown
+        action-saved p.actions tried h before after shown
         (goal_action work (goals.Action p.actions)) refl
         (subst (λ n. LeavesFiles work (goals.Action n) tried h before after) next.0 left).left
         ∙ ap Some (sym (next-leaves work work.script.actions p.actions opening))

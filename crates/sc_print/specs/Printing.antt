@@ -83,7 +83,7 @@ pub record EndsOver (work : WorkData) (before after : FilesState)
   pub all : histories ≡ front ++ more
   pub given : List JobHistory
   pub all_given : given_up ≡ given_front ++ given
-  pub over : StopsFiles work k mid after why
+  pub over : StopsFiles work given k mid after why
   pub counted : HasCounted more given why mid after
 
 -- ---- how it ends

@@ -58,7 +58,7 @@ pub fn print_work<
     requires named { work ≡ W.work }
     ensures later { (K.state sink.old).faults ≤ (K.state sink.new).faults }
     ensures files_later { IsLaterFiles (F.state files) (F.state result.files) }
-    ensures kept { AreKept result.records }
+    ensures kept { AreKept W.work result.records }
     ensures prints { Prints W.work (K.state sink.old) (K.state sink.new) (F.state files)
         (F.state result.files) result.end result.records.histories.items
         (histories_of result.records.gave_up.items) }
@@ -108,7 +108,7 @@ fn print_actions<
     requires { first ≡ new_context W.work first.files }
     ensures later { (K.state sink.old).faults ≤ (K.state sink.new).faults }
     ensures files_later { IsLaterFiles first.files (F.state result.files) }
-    ensures kept { AreKept result.records }
+    ensures kept { AreKept W.work result.records }
     ensures prints { Prints W.work (K.state sink.old) (K.state sink.new) first.files
         (F.state result.files) result.end result.records.histories.items
         (histories_of result.records.gave_up.items) }
@@ -168,7 +168,7 @@ fn print_action<
     ensures stops { IfErr result (λ s. StopsNext W.work (K.state sink.old) (K.state sink.new)
         context (F.state s.files) s.why s.records.histories.items
         (histories_of s.records.gave_up.items)) }
-    ensures kept { IfErr result (λ s. AreKept s.records) }
+    ensures kept { IfErr result (λ s. AreKept W.work s.records) }
 {
     let action = context.actions();
     match context.run_action(rt, alloc, gate, clock) {

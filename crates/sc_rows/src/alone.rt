@@ -10,6 +10,7 @@
 ghost use Rattle.std.specs.Prelude.{◌≡◌, Option};
 ghost use Rattle.sc_base.specs.Outside.{FilesState};
 ghost use Rattle.sc_base.specs.Trees.{Path};
+ghost use Rattle.sc_context.specs.Outputs.{IsRenewedFor, IsRenewedIn};
 ghost use Rattle.sc_desk.specs.Files.{FilesStand};
 ghost use Rattle.sc_rows.specs.Worlds.{IsFirstDesk, IsOfFirst};
 ghost use Rattle.sc_staging.specs.Outputs.{output_dir, output_files};
@@ -23,7 +24,7 @@ use sc_desk::{Again, Closed, Desk, Passed, files_go_on};
 use sc_exec::{Verdict, judge};
 use sc_files::{Files, MemFiles};
 use sc_lineage::Work;
-use sc_staging::Output;
+use sc_staging::{Output, Renewed, laws_of_files};
 use sc_work::{Naming, SharedWork};
 use sc_world::World;
 use std::marker::Brand;
@@ -61,6 +62,22 @@ Done
 1 | failed
 6 | take: task
 3 | : registered
+2 | : finished
+==== three wipes let the reading stage fail twice, and the results are those without a plan
+--executors=2 or --executors=4
+drop 0 1
+drop 0 3
+drop 1 2
+----
+collect c
+----
+Done
+(b,2)
+(a,1)
+----
+1 | post 1.0.0.0 failed: gone 0@0 found 1: resubmitted
+1 | post 1.1.0.0 failed: gone 1@0 found 1: resubmitted
+2 | failed
 2 | : finished
 ==== the first executor is lost behind its output, and has no turn any more
 --executors=2
@@ -264,6 +281,7 @@ fn seen_again<
     let went = judge(&desk, workers.as_slice());
     assert_eq!(rt; went, Verdict::GivenUp);
     let desk = begun_again(rt, desk);
+    let output = renewed(rt, output);
     run_alone(rt, desk, output)
 }
 
@@ -271,9 +289,11 @@ fn seen_again<
 fn begun_again<W: Naming, R: Abort + AllocGlobal>(rt: &R, desk: Desk<W>) -> Desk<W>
     requires first { IsOfFirst W.work desk }
     ensures first { IsFirstDesk W.work result }
-    ensures stand { (dir : Option Path) (files : FilesState) → FilesStand W.work desk dir files
-        → FilesStand W.work result dir files }
+    ensures stand { (dir : Option Path) (files begun : FilesState)
+        → FilesStand W.work desk dir files → IsRenewedIn dir files begun
+        → FilesStand W.work result dir begun }
 {
+    laws_of_files();
     let work = desk.work();
     work.is_named();
     work.get().is_sound();
@@ -282,6 +302,19 @@ fn begun_again<W: Naming, R: Abort + AllocGlobal>(rt: &R, desk: Desk<W>) -> Desk
     match begun {
         Ok(desk) => desk,
         Err(_) => panic!(rt; "memory"),
+    }
+}
+
+/// The files of a job that begins again, with nothing in its staging area where it saves.
+fn renewed<F: Files, R: Abort>(rt: &R, output: Output<F>) -> Output<F>
+    ensures { IsRenewedFor F.state output result }
+{
+    match output {
+        Output::Nothing(files) => Output::Nothing(files),
+        Output::Save(staging) => match staging.again() {
+            Renewed::Staging(staging) => Output::Save(staging),
+            Renewed::Device { .. } | Renewed::NoMemory { .. } => panic!(rt; "not renewed"),
+        },
     }
 }
 

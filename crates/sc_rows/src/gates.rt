@@ -23,16 +23,18 @@ const FIRST: AttemptId = AttemptId {
     nth: 0,
 };
 
-/// Which attempt a gate keeps back.
+/// Which attempts a gate keeps back, and until how many have entered.
 #[derive(Clone, Copy, Debug, PartialEq, Eq)]
 pub enum Kept {
-    /// The first that enters.
+    /// The first that enters, until so many have.
     First,
-    /// The first of the first task.
+    /// The first of the first task, until so many have entered.
     FirstTask,
+    /// The first so many, two by two: each until the other one has entered too.
+    Pairs,
 }
 
-/// A gate that keeps an attempt back until so many have entered, itself among them, for so many
+/// A gate that keeps attempts back until so many have entered, themselves among them, for so many
 /// turns at most, and writes down who entered.
 #[derive(Drop)]
 pub struct Keeper {
@@ -59,17 +61,19 @@ impl Keeper {
         before
     }
 
-    /// Whether an attempt is kept back, before which so many entered.
-    fn keeps(&self, before: usize, attempt: AttemptId) -> bool {
+    /// How many are to have entered before an attempt goes on, before which so many entered.
+    fn awaited(&self, before: usize, attempt: AttemptId) -> usize {
         match self.kept {
-            Kept::First => before == 0,
-            Kept::FirstTask => attempt == FIRST,
+            Kept::First if before == 0 => self.until,
+            Kept::FirstTask if attempt == FIRST => self.until,
+            Kept::Pairs if before < self.until => (before | 1).saturating_add(1),
+            Kept::First | Kept::FirstTask | Kept::Pairs => 0,
         }
     }
 
-    /// Whether so many have entered that whoever is kept back may go.
-    fn is_open<R: Wait>(&self, rt: &R) -> bool {
-        self.entered.lock(rt).len() >= self.until
+    /// Whether so many have entered.
+    fn have_entered<R: Wait>(&self, rt: &R, many: usize) -> bool {
+        self.entered.lock(rt).len() >= many
     }
 
     /// Who entered, in order.
@@ -82,11 +86,9 @@ impl Keeper {
 impl Gate for Keeper {
     fn enter<R: Wait>(&self, rt: &R, exec: ExecId, attempt: AttemptId) {
         let before = self.note(rt, exec, attempt);
-        if !self.keeps(before, attempt) {
-            return;
-        }
+        let awaited = self.awaited(before, attempt);
         for _ in 0..TURNS {
-            if self.is_open(rt) {
+            if self.have_entered(rt, awaited) {
                 return;
             }
             thread::yield_now();

@@ -122,7 +122,7 @@ fn end_of<R: Abort + AllocGlobal>(rt: &R, printed: &[u8], status: &Status) -> St
 }
 
 /// The entries of jobs, with an empty line between two jobs.
-fn history_of<R: Abort + AllocGlobal>(rt: &R, histories: &[JobHistory]) -> String {
+pub fn history_of<R: Abort + AllocGlobal>(rt: &R, histories: &[JobHistory]) -> String {
     let mut out = String::new(rt.alloc());
     for history in histories {
         if !out.is_empty() {

@@ -76,7 +76,160 @@ four saved results: task failures 4, stage attempts 4, hand-outs 99, speculation
 told 6
 "#;
 
+/// A holder whose stage has begun a newer attempt, in which another attempt of its part is denied.
+const OLDER: &str = r#"==== the holder fails, uncounted, and the newest attempt hands out its part
+saved counts: task failures 1, stage attempts 4, hand-outs 99
+----
+0 take: task 0.0.0.0, epoch 0
+0 post 0.0.0.0 map at 0@0: registered
+0 take: task 0.0.1.0, epoch 0
+0 post 0.0.1.0 map at 0@0: registered
+0 take: task 1.0.0.0, epoch 0, from 0@0 0@0
+0 stage 1.0.0.0: staged
+0 ask 1.0.0.0: granted
+1 take: task 1.0.1.0, epoch 0, from 0@0 0@0
+1 post 1.0.1.0 failed: gone 0@0 found 1: resubmitted
+1 take: task 0.1.0.0, epoch 1
+1 post 0.1.0.0 map at 1@0: registered
+1 take: task 0.1.1.0, epoch 1
+1 post 0.1.1.0 map at 1@0: registered
+1 take: task 1.1.0.0, epoch 1, from 1@0 1@0
+1 stage 1.1.0.0: staged
+1 ask 1.1.0.0: denied by 1.0.0.0
+1 post 1.1.0.0 failed: denied: again
+1 take: task 1.1.1.0, epoch 1, from 1@0 1@0
+1 stage 1.1.1.0: staged
+1 ask 1.1.1.0: granted
+1 move 1.1.1.0: moved
+1 post 1.1.1.0 result: finished
+1 take: wait for 1.0.0.0
+0 move 1.0.0.0: device, faults 0 to 1, clashes 0 to 0
+1 take: wait for 1.0.0.0
+0 post 1.0.0.0 failed: device, faults 0 to 1, clashes 0 to 0: again
+1 take: task 1.1.0.1, epoch 1, from 1@0 1@0
+1 stage 1.1.0.1: staged
+1 ask 1.1.0.1: granted
+1 move 1.1.0.1: moved
+1 post 1.1.0.1 result: finished
+1 take: ended
+told 9
+==== an attempt that begins under the grant hands out the part once the holder has failed
+saved counts: task failures 1, stage attempts 4, hand-outs 99
+----
+0 take: task 0.0.0.0, epoch 0
+0 post 0.0.0.0 map at 0@0: registered
+0 take: task 0.0.1.0, epoch 0
+0 post 0.0.1.0 map at 0@0: registered
+0 take: task 1.0.0.0, epoch 0, from 0@0 0@0
+0 stage 1.0.0.0: staged
+0 ask 1.0.0.0: granted
+1 take: task 1.0.1.0, epoch 0, from 0@0 0@0
+1 post 1.0.1.0 failed: gone 0@0 found 1: resubmitted
+1 take: task 0.1.0.0, epoch 1
+1 post 0.1.0.0 map at 1@0: registered
+1 take: task 0.1.1.0, epoch 1
+1 post 0.1.1.0 map at 1@0: registered
+1 take: task 1.1.0.0, epoch 1, from 1@0 1@0
+1 stage 1.1.0.0: staged
+1 ask 1.1.0.0: denied by 1.0.0.0
+1 post 1.1.0.0 failed: denied: again
+1 take: task 1.1.1.0, epoch 1, from 1@0 1@0
+1 post 1.1.1.0 failed: gone 1@0 found 1: resubmitted
+1 take: task 0.2.0.0, epoch 2
+1 post 0.2.0.0 map at 1@1: registered
+1 take: task 0.2.1.0, epoch 2
+1 post 0.2.1.0 map at 1@1: registered
+1 take: task 1.2.1.0, epoch 2, from 1@1 1@1
+1 stage 1.2.1.0: staged
+1 ask 1.2.1.0: granted
+1 move 1.2.1.0: moved
+1 post 1.2.1.0 result: finished
+1 take: wait for 1.0.0.0
+0 move 1.0.0.0: device, faults 0 to 1, clashes 0 to 0
+1 take: wait for 1.0.0.0
+0 post 1.0.0.0 failed: device, faults 0 to 1, clashes 0 to 0: again
+1 take: task 1.2.0.0, epoch 2, from 1@1 1@1
+1 stage 1.2.0.0: staged
+1 ask 1.2.0.0: granted
+1 move 1.2.0.0: moved
+1 post 1.2.0.0 result: finished
+1 take: ended
+told 12
+==== the holder may commit, and its part isn't made again
+saved counts: task failures 1, stage attempts 4, hand-outs 99
+----
+0 take: task 0.0.0.0, epoch 0
+0 post 0.0.0.0 map at 0@0: registered
+0 take: task 0.0.1.0, epoch 0
+0 post 0.0.1.0 map at 0@0: registered
+0 take: task 1.0.0.0, epoch 0, from 0@0 0@0
+0 stage 1.0.0.0: staged
+0 ask 1.0.0.0: granted
+1 take: task 1.0.1.0, epoch 0, from 0@0 0@0
+1 post 1.0.1.0 failed: gone 0@0 found 1: resubmitted
+1 take: task 0.1.0.0, epoch 1
+1 post 0.1.0.0 map at 1@0: registered
+1 take: task 0.1.1.0, epoch 1
+1 post 0.1.1.0 map at 1@0: registered
+1 take: task 1.1.0.0, epoch 1, from 1@0 1@0
+1 stage 1.1.0.0: staged
+1 ask 1.1.0.0: denied by 1.0.0.0
+1 post 1.1.0.0 failed: denied: again
+1 take: task 1.1.1.0, epoch 1, from 1@0 1@0
+1 stage 1.1.1.0: staged
+1 ask 1.1.1.0: granted
+1 move 1.1.1.0: moved
+1 post 1.1.1.0 result: finished
+1 take: wait for 1.0.0.0
+0 move 1.0.0.0: moved
+0 post 1.0.0.0 result: finished
+1 take: ended
+told 8
+==== the holder is told lost, and its part is handed out again
+saved counts: task failures 1, stage attempts 4, hand-outs 99
+lose 0 0 0
+----
+0 take: task 0.0.0.0, epoch 0
+0 post 0.0.0.0 map at 0@0: registered
+0 take: task 0.0.1.0, epoch 0
+0 post 0.0.1.0 map at 0@0: registered
+0 take: task 1.0.0.0, epoch 0, from 0@0 0@0
+0 stage 1.0.0.0: staged
+0 ask 1.0.0.0: granted
+1 take: task 1.0.1.0, epoch 0, from 0@0 0@0
+1 post 1.0.1.0 failed: gone 0@0 found 1: resubmitted
+1 take: task 0.1.0.0, epoch 1
+1 post 0.1.0.0 map at 1@0: registered
+1 take: task 0.1.1.0, epoch 1
+1 post 0.1.1.0 map at 1@0: registered
+1 take: task 1.1.0.0, epoch 1, from 1@0 1@0
+1 stage 1.1.0.0: staged
+1 ask 1.1.0.0: denied by 1.0.0.0
+1 post 1.1.0.0 failed: denied: again
+1 take: task 1.1.1.0, epoch 1, from 1@0 1@0
+1 stage 1.1.1.0: staged
+1 ask 1.1.1.0: granted
+1 move 1.1.1.0: moved
+1 post 1.1.1.0 result: finished
+1 take: wait for 1.0.0.0
+1 lost 0: told
+0 move 1.0.0.0: over
+0 post 1.0.0.0 failed: device, faults 0 to 1, clashes 0 to 0: ignored
+1 take: task 1.1.0.1, epoch 2, from 1@0 1@0
+1 stage 1.1.0.1: staged
+1 ask 1.1.0.1: granted
+1 move 1.1.0.1: moved
+1 post 1.1.0.1 result: finished
+1 take: ended
+told 9
+"#;
+
 #[test]
 fn the_first_that_asks_commits(rt: HostRuntime) {
     assert_jobs(&rt, SAVES);
+}
+
+#[test]
+fn a_grant_of_an_older_attempt_of_a_stage_holds_in_the_newest(rt: HostRuntime) {
+    assert_jobs(&rt, OLDER);
 }

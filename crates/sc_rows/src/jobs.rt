@@ -32,6 +32,12 @@ pub fn counting_again<R: Abort + AllocGlobal>(rt: &R, limits: Limits, last: &Cor
     begun(rt, &graph, limits, false, &plan_of(rt, ""), Some(last))
 }
 
+/// That of a word count that saves its results.
+pub fn counting_saved<R: Abort + AllocGlobal>(rt: &R, limits: Limits, plan: &str) -> Journal {
+    let graph = word_count(rt, 1);
+    begun(rt, &graph, limits, true, &plan_of(rt, plan), None)
+}
+
 /// That of a job without a shuffle, of so many results.
 pub fn results<R: Abort + AllocGlobal>(rt: &R, limits: Limits, tasks: u32) -> Journal
     requires { 0 < tasks }

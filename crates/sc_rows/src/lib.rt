@@ -34,6 +34,8 @@ mod crews;
 #[cfg(test)]
 mod executors;
 #[cfg(test)]
+mod failing_saves;
+#[cfg(test)]
 mod failures;
 #[cfg(test)]
 mod files;
@@ -65,6 +67,8 @@ mod leaving;
 mod losses;
 #[cfg(test)]
 mod outside;
+#[cfg(test)]
+mod planned_saves;
 #[cfg(test)]
 mod plans;
 #[cfg(test)]

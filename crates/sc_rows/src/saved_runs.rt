@@ -1,25 +1,21 @@
 //! Runs that save: what is printed and told, and which directories and files stand.
-//!
-//! What is wanted are the worked rows of the formats, and what follows by hand from the order of
-//! the calls: the directory and its staging area are made, each attempt writes its part and moves
-//! it, and in the end the parts get their names, the staging area goes, and `_SUCCESS` is written.
 #![tactic(auto)]
 
 use crate::files::standing;
-use crate::given::Row;
+use crate::given::{Row, Seen};
 use std::process::Abort;
 use std::sync::Wait;
 use std::thread::Threads;
 use std::time;
 
 /// Five numbers in three parts.
-const THREE: &str = r#"
+pub const THREE: &str = r#"
 l = parallelize 3 1 2 3 4 5
 save l "out"
 "#;
 
 /// What stands of these.
-const THREE_SAVED: &[u8] =
+pub const THREE_SAVED: &[u8] =
     b"out/ out/part-00000=1\n out/part-00001=2\n3\n out/part-00002=4\n5\n out/_SUCCESS= ";
 
 /// Five partitions put together to two.
@@ -124,14 +120,23 @@ const ROWS: [(&str, &str, &str, &[u8]); 9] = [
     ),
 ];
 
-/// Sees what a run told, and what stands behind it.
-fn assert_saved<R: Abort + AllocGlobal + Threads + Wait + time::Clock + Sync>(
+/// Sees what a run tells, and what stands behind it.
+pub fn assert_saved<R: Abort + AllocGlobal + Threads + Wait + time::Clock + Sync>(
     rt: &R,
     row: Row,
     want: (&str, &[u8]),
     label: &str,
 ) {
-    let seen = row.run(rt);
+    assert_stands(rt, &row.run(rt), want, label);
+}
+
+/// Sees what a run told, and what stands behind it.
+pub fn assert_stands<R: Abort + AllocGlobal>(
+    rt: &R,
+    seen: &Seen,
+    want: (&str, &[u8]),
+    label: &str,
+) {
     let all = seen.all().expect(rt, "memory");
     assert_eq!(rt; all.as_str(), want.0, "{label}");
     assert_eq!(rt; seen.given_up(), 0, "{label}");
@@ -149,117 +154,5 @@ fn saves_leave_their_parts(rt: HostRuntime) {
             row.taken(&rt, taken)
         };
         assert_saved(&rt, row, (told, left), script);
-    }
-}
-
-/// The call that fails, whether a failed task is tried again, what is told, and what stands.
-const CALLS: [(u64, bool, &str, &[u8]); 15] = [
-    (1, true, "device: out\n", b""),
-    (2, true, "device: out/_temporary\n", b"out/ "),
-    (3, true, "", THREE_SAVED),
-    (4, true, "", THREE_SAVED),
-    (5, true, "", THREE_SAVED),
-    (6, true, "", THREE_SAVED),
-    (7, true, "", THREE_SAVED),
-    (8, true, "", THREE_SAVED),
-    (
-        9,
-        true,
-        "device: out/part-00000\n",
-        b"out/ out/_temporary/ out/_temporary/c-0-0-0-0=1\n out/_temporary/c-0-0-1-0=2\n3\n \
-          out/_temporary/c-0-0-2-0=4\n5\n ",
-    ),
-    (
-        10,
-        true,
-        "device: out/part-00001\n",
-        b"out/ out/_temporary/ out/_temporary/c-0-0-1-0=2\n3\n \
-          out/_temporary/c-0-0-2-0=4\n5\n out/part-00000=1\n ",
-    ),
-    (
-        11,
-        true,
-        "device: out/part-00002\n",
-        b"out/ out/_temporary/ out/_temporary/c-0-0-2-0=4\n5\n out/part-00000=1\n \
-          out/part-00001=2\n3\n ",
-    ),
-    (
-        12,
-        true,
-        "device: out/_temporary\n",
-        b"out/ out/_temporary/ out/part-00000=1\n out/part-00001=2\n3\n out/part-00002=4\n5\n ",
-    ),
-    (
-        13,
-        true,
-        "device: out/_SUCCESS\n",
-        b"out/ out/part-00000=1\n out/part-00001=2\n3\n out/part-00002=4\n5\n ",
-    ),
-    (
-        3,
-        false,
-        "task limit: stage 0 attempt 0 partition 0\n",
-        b"out/ ",
-    ),
-    (
-        8,
-        false,
-        "task limit: stage 0 attempt 0 partition 2\n",
-        b"out/ ",
-    ),
-];
-
-#[test]
-fn a_failing_call_leaves_what_the_table_says(rt: HostRuntime) {
-    for (call, again, told, left) in CALLS {
-        let row = Row::of(&rt, THREE).failing_call(&rt, call);
-        let words: &[&str] = if again {
-            &["--executors", "1"]
-        } else {
-            &["--executors", "1", "--task-failures", "1"]
-        };
-        let label = format!(in rt.alloc(); "call {call}").expect(&rt, "memory");
-        assert_saved(&rt, row.words(&rt, words), (told, left), label.as_str());
-    }
-}
-
-/// Plans over a save of two parts, and what stands in the end of all of them.
-const PLANS: [&str; 7] = [
-    "fail 0 0 0\nfail 0 1 0\n",
-    "late 0 0 0 1\n",
-    "twice 0 0 0\ntwice 0 1 0\n",
-    // The holder's report is late, and an executor is told lost before it, which may be the
-    // holder's own; in `alone` it is.
-    "late 0 0 0 9\nlose 0 1 1\n",
-    "fail 0 0 0\ntwice 0 0 1\nlate 0 1 0 3\nlose 0 1 2\n",
-    "lose 1 0 0\n",
-    "drop 0 1\ndrop 1 1\n",
-];
-
-/// Four numbers in two parts.
-const TWO: &str = r#"
-l = parallelize 2 1 2 3 4
-save l "out"
-"#;
-
-/// What stands of these.
-const TWO_SAVED: &[u8] = b"out/ out/part-00000=1\n2\n out/part-00001=3\n4\n out/_SUCCESS= ";
-
-/// Sees that so many executors leave the same under a plan.
-fn assert_planned<R: Abort + AllocGlobal + Threads + Wait + time::Clock + Sync>(
-    rt: &R,
-    plan: &str,
-    executors: &str,
-) {
-    let row = Row::planned(rt, TWO, plan.as_bytes()).words(rt, &["--executors", executors]);
-    assert_saved(rt, row, ("", TWO_SAVED), plan);
-}
-
-#[test]
-fn saves_are_the_same_under_plans(rt: HostRuntime) {
-    for plan in PLANS {
-        for executors in ["2", "4", "64"] {
-            assert_planned(&rt, plan, executors);
-        }
     }
 }

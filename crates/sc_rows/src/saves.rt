@@ -120,8 +120,8 @@ const SAVED: &[u8] = b"out/ out/part-00000=0
 
 /// The number of the call that fails, or none for 0, what is answered, and what stands. Two calls
 /// make directories, six write and move parts, three put them in place, then comes the removal of
-/// the staging area, and then the last write.
-const FAILING: [(u64, &str, &[u8]); 14] = [
+/// the staging area, and then the last write: there is no call 14.
+const FAILING: [(u64, &str, &[u8]); 15] = [
     (0, "done", SAVED),
     (1, "out", b""),
     (2, "out/_temporary", b"out/ "),
@@ -136,6 +136,7 @@ const FAILING: [(u64, &str, &[u8]); 14] = [
     (11, "out/part-00002", TWO_PARTS),
     (12, "out/_temporary", THREE_PARTS),
     (13, "out/_SUCCESS", CLEARED),
+    (14, "done", SAVED),
 ];
 
 #[test]
@@ -175,14 +176,15 @@ fn want_of_memory_leaves_the_calls_before_it(rt: HostRuntime) {
 }
 
 /// The number of the call that fails, or none for 0, of which the last is the removal of an abort,
-/// what is answered, and what stands.
-const ABORTS: [(u64, &str, &[u8]); 2] = [
+/// what is answered, and what stands. There is no call 6.
+const ABORTS: [(u64, &str, &[u8]); 3] = [
     (0, "done", b"out/ "),
     (
         5,
         "out/_temporary",
         b"out/ out/_temporary/ out/_temporary/c-0-0-0-0=0\n ",
     ),
+    (6, "done", b"out/ "),
 ];
 
 #[test]
@@ -236,15 +238,9 @@ fn names_are_those_of_the_format(rt: HostRuntime) {
     };
     is_within_types(attempt);
     let staged = staged_name(rt.alloc(), &dir, attempt).expect(&rt, "memory");
-    assert!(rt;
-        staged.as_str() == "out/_temporary/s-1-23-45-678",
-        "{staged:?}"
-    );
+    assert_eq!(rt; staged.as_str(), "out/_temporary/s-1-23-45-678");
     let committed = committed_name(rt.alloc(), &dir, attempt).expect(&rt, "memory");
-    assert!(rt;
-        committed.as_str() == "out/_temporary/c-1-23-45-678",
-        "{committed:?}"
-    );
+    assert_eq!(rt; committed.as_str(), "out/_temporary/c-1-23-45-678");
     let success = success_name(rt.alloc(), &dir).expect(&rt, "memory");
     assert!(rt; success.as_str() == "out/_SUCCESS", "{success:?}");
 }

@@ -10,7 +10,7 @@
 ghost use Rattle.std.specs.Prelude.{◌≡◌};
 ghost use Rattle.sc_rows.specs.Jobs.{room_of};
 
-use crate::jobs::{counting_under, results, saving_under};
+use crate::jobs::{counting_saved, counting_under, results, saving_under};
 use crate::works::halves;
 use sc_base::OrMemory;
 use sc_core::{Event, FileOutcome, Journal, NotEnabled, Outcome, SideEvent};
@@ -35,6 +35,8 @@ fn assert_job<R: Abort + AllocGlobal>(rt: &R, case: &str) {
     let limits = limits_of(rt, head);
     let mut journal = if head.starts_with("counts") {
         counting_under(rt, limits, plan)
+    } else if head.starts_with("saved counts") {
+        counting_saved(rt, limits, plan)
     } else if head.starts_with("one saved result") {
         saving_under(rt, limits, 1, plan)
     } else if head.starts_with("four saved results") {

@@ -12,6 +12,7 @@ use sc_desk::{Desk, Passed, Taken};
 use sc_files::MemFiles;
 use sc_ids::Mark;
 use sc_lineage::Work;
+use sc_staging::{Output, Renewed};
 use sc_work::Naming;
 use std::marker::Brand;
 use std::process::Abort;
@@ -142,15 +143,32 @@ fn worlds_of_saves_go_as_their_steps_say(rt: HostRuntime) {
 const STAGED: &str = "take 0: driver take: task 0.0.0.0, epoch 0\ncompute 0: done\n\
     stage 0: driver stage 0.0.0.0: staged\n";
 
-/// What stands behind that: nothing of it is committed. And with what the job begins again.
-const AGAIN: &str = "2 entries, then 0\n\
-    out/ out/_temporary/ out/_temporary/s-0-0-0-0=1\n task 0.0.0.0 of 1 entry\n";
+/// Which call on the files fails, or none for 0: the third writes that part, then the staging area
+/// is removed, and made anew. And what is told of the job that begins again: what its journal had
+/// and has, at which path a call failed, if one did, what stands then, and the first task.
+const AGAIN: [(u64, &str); 3] = [
+    (
+        0,
+        "2 entries, then 0\nout/ out/_temporary/ task 0.0.0.0 of 1 entry\n",
+    ),
+    (
+        4,
+        "2 entries, then 0\ndevice: out/_temporary\n\
+         out/ out/_temporary/ out/_temporary/s-0-0-0-0=1\n ",
+    ),
+    (5, "2 entries, then 0\ndevice: out/_temporary\nout/ "),
+];
 
-/// The desk of a job behind these steps, given up, at which the job begins again; and what stands.
-fn again<W: Naming, R: Abort + AllocGlobal>(rt: &R, work: Work, told: &mut String) -> Desk<W>
+/// The desk of a job behind these steps, given up, at which the job begins again, and its files.
+fn again<W: Naming, R: Abort + AllocGlobal>(
+    rt: &R,
+    work: Work,
+    files: MemFiles,
+    told: &mut String,
+) -> (Desk<W>, Output<MemFiles>)
     requires { work ≡ W.work }
 {
-    let mut going = world_of::<W, MemFiles, R>(rt, work, MemFiles::new(rt.alloc()));
+    let mut going = world_of::<W, MemFiles, R>(rt, work, files);
     let seen = replayed(rt, &mut going, STAGED);
     assert_eq!(rt; seen.as_str(), STAGED);
     let (desk, output) = going.into_parts();
@@ -162,30 +180,53 @@ fn again<W: Naming, R: Abort + AllocGlobal>(rt: &R, work: Work, told: &mut Strin
     let desk = again.begun.ok().expect(rt, "memory");
     let (before, now) = (again.history.entries.len(), desk.entries().len());
     writeln!(told, "{before} entries, then {now}").expect(rt, "memory");
-    let stands = String::from_utf8(standing(rt, &output.close())).ok();
-    told.push_str(stands.expect(rt, "a text").as_str())
-        .expect(rt, "memory");
-    desk
+    (desk, output)
 }
 
-/// What the first executor gets at the desk of a job that begins again.
-fn told_again<W: Naming, R: Abort + AllocGlobal>(rt: &R, work: Work) -> String
+/// Makes the staging area of a save anew, and tells what stands then. Whether no call failed.
+fn renew<R: Abort + AllocGlobal>(rt: &R, output: Output<MemFiles>, told: &mut String) -> bool {
+    let Output::Save(staging) = output else {
+        panic!(rt; "no save")
+    };
+    let (files, failed) = match staging.again() {
+        Renewed::Staging(staging) => (staging.close(), None),
+        Renewed::Device { path, files } => (files, Some(path)),
+        Renewed::NoMemory { .. } => panic!(rt; "memory"),
+    };
+    if let Some(path) = &failed {
+        let path = path.as_str();
+        writeln!(told, "device: {path}").expect(rt, "memory");
+    }
+    let stands = String::from_utf8(standing(rt, &files)).ok();
+    told.push_str(stands.expect(rt, "a text").as_str())
+        .expect(rt, "memory");
+    failed.is_none()
+}
+
+/// What is told of a job that begins again, where a call on its files fails.
+fn told_again<W: Naming, R: Abort + AllocGlobal>(rt: &R, work: Work, failing: u64) -> String
     requires { work ≡ W.work }
 {
     let mut told = String::new(rt.alloc());
-    let mut desk = again::<W, R>(rt, work, &mut told);
-    let Taken::Task(task) = desk.take(Mark::Driver, 0).expect(rt, "memory") else {
-        panic!(rt; "no task")
-    };
-    let (attempt, now) = (task.attempt(), desk.entries().len());
-    writeln!(told, "task {attempt} of {now} entry").expect(rt, "memory");
+    let mut files = MemFiles::new(rt.alloc());
+    files.fail_at(failing).expect(rt, "memory");
+    let (mut desk, output) = again::<W, R>(rt, work, files, &mut told);
+    if renew(rt, output, &mut told) {
+        let Taken::Task(task) = desk.take(Mark::Driver, 0).expect(rt, "memory") else {
+            panic!(rt; "no task")
+        };
+        let (attempt, now) = (task.attempt(), desk.entries().len());
+        writeln!(told, "task {attempt} of {now} entry").expect(rt, "memory");
+    }
     told
 }
 
 #[test]
-fn what_was_staged_is_left_where_a_job_begins_again(rt: HostRuntime) {
+fn a_job_begins_again_with_nothing_staged(rt: HostRuntime) {
     let script = "l = parallelize 3 1 2 3 4 5\nsave l \"out\"\n";
-    let work = work_of(&rt, script, "", "", "");
-    let told = told_again::<Brand, HostRuntime>(&rt, work);
-    assert_eq!(&rt; told.as_str(), AGAIN);
+    for (failing, want) in AGAIN {
+        let work = work_of(&rt, script, "", "", "");
+        let told = told_again::<Brand, HostRuntime>(&rt, work, failing);
+        assert_eq!(&rt; told.as_str(), want);
+    }
 }

@@ -153,6 +153,14 @@ impl JobPlaces {
         }
     }
 
+    /// The node whose partitions a stage computes, where the jobs of a run are those of the script.
+    pub(crate) fn node_in(&self, history: &[JobHistory], stage: StageId) -> Option<NodeId> {
+        match self.last_of(history) {
+            Some(_) => self.numbering.node_of(stage),
+            None => None,
+        }
+    }
+
     /// The last job of a run, where all of them are those of the script.
     pub(crate) fn last_of(&self, history: &[JobHistory]) -> Option<JobPlace> {
         let mut last = None;

@@ -1,6 +1,7 @@
 //! Lines of a fault plan that never came due, or can't.
 #![tactic(auto)]
 
+use crate::again::write_count;
 use crate::jobs::JobPlaces;
 use crate::listed::Lined;
 use crate::tracks::{Track, place_key};
@@ -84,10 +85,9 @@ fn write_waiting(
         return Ok(());
     }
     write_lined(out, lined, at)?;
-    write!(
-        out,
-        "never came due: it waits for {wanted} reports, and {told} were told\n"
-    )
+    out.push_str("never came due: it waits for ")?;
+    write_count(out, u64::from(wanted), "report")?;
+    writeln!(out, ", and the run had {told}")
 }
 
 /// Writes a line for each line of a plan that can't come due, since no job of the script has its
@@ -123,7 +123,7 @@ fn write_no_place(
             }
             _ => Ok(()),
         },
-        None => write_no_stage(out, lined, at, place.stage, jobs.numbering.next()),
+        None => write_no_stage(out, lined, at, jobs.numbering.next()),
     }
 }
 
@@ -132,14 +132,15 @@ fn write_no_stage(
     out: &mut String,
     lined: &[Lined],
     at: usize,
-    stage: StageId,
     stages: StageId,
 ) -> Result<(), AllocError> {
     write_lined(out, lined, at)?;
-    writeln!(
-        out,
-        "can't come due: the jobs have {stages} stages, and none {stage}"
-    )
+    if stages == 0 {
+        return out.push_str("can't come due: the script has no action\n");
+    }
+    out.push_str("can't come due: the jobs have ")?;
+    write_count(out, u64::from(stages), "stage")?;
+    out.push_str(", numbered from 0\n")
 }
 
 /// A line whose partition its stage doesn't have, which has so many.
@@ -151,10 +152,8 @@ fn write_no_partition(
     tasks: u32,
 ) -> Result<(), AllocError> {
     let stage = place.stage;
-    let partition = place.partition;
     write_lined(out, lined, at)?;
-    writeln!(
-        out,
-        "can't come due: stage {stage} has {tasks} tasks, and none {partition}"
-    )
+    write!(out, "can't come due: stage {stage} has ")?;
+    write_count(out, u64::from(tasks), "task")?;
+    out.push_str(", numbered from 0\n")
 }

@@ -2,7 +2,7 @@
 #![tactic(auto)]
 
 use sc_base::OrMemory;
-use sc_lineage::{Node, NodeId, Script};
+use sc_lineage::{Action, Node, NodeId, Script};
 use sc_pieces::{Known, known_lines, write_excerpt};
 use sc_script::parse;
 use sc_value::{Octets, Texts, lines};
@@ -74,6 +74,28 @@ impl ScriptText {
         }
     }
 
+    /// Writes the line of the action that saves to a path.
+    pub fn write_save(&self, out: &mut String, path: &str) -> Result<(), AllocError> {
+        match self.saver_of(path) {
+            Some(action) => self.write_action(out, action),
+            None => Ok(()),
+        }
+    }
+
+    /// The number of the action in whose directory a path is, of several the innermost.
+    fn saver_of(&self, path: &str) -> Option<usize> {
+        let mut found = None;
+        let mut longest = 0;
+        for (at, action) in self.script.actions().iter().enumerate() {
+            let dir = directory_of(action);
+            if dir.len() > longest && is_within(path, dir) {
+                longest = dir.len();
+                found = Some(at);
+            }
+        }
+        found
+    }
+
     /// Writes the first line that reads an input of a name.
     pub fn write_input(&self, out: &mut String, name: &str) -> Result<(), AllocError> {
         match self.reader_of(name) {
@@ -124,6 +146,22 @@ impl ScriptText {
         } else {
             ""
         }
+    }
+}
+
+/// The directory that an action saves to, or nothing.
+fn directory_of(action: &Action) -> &str {
+    match action.saves_to() {
+        Some(dir) => dir.as_str(),
+        None => "",
+    }
+}
+
+/// Whether a path is a directory or in it.
+fn is_within(path: &str, dir: &str) -> bool {
+    match path.strip_prefix(dir) {
+        Some(rest) => rest.is_empty() || rest.starts_with('/'),
+        None => false,
     }
 }
 

@@ -12,4 +12,11 @@ pub mod RoomLemmas
 pub mod TableLemmas
 pub mod FlagLemmas
 pub mod MarkLemmas
+pub mod LookLemmas
+pub mod PlaceLemmas
+pub mod OnLemmas
+pub mod LossLemmas
+pub mod LeaveLemmas
+pub mod FewerLemmas
+pub mod FreedLemmas
 pub mod LawLemmas

@@ -1,30 +1,22 @@
 -- Which rows of a set are marked.
-use Rattle.std.proofs.Common.{◌≡◌, ℕ, ◌+◌, ◌*◌, ◌<◌, ◌≤◌, ◌⊎◌, inl, inr, zero, suc, Bool, true, false, not, ◌&&◌, ◌||◌, List, [], ◌∷◌, ◌++◌, length, get_or, set, map, Option, Some, None, refl, ap, sym, ◌∙◌, arith, rules}
+use Rattle.std.proofs.Common.{◌≡◌, ℕ, ◌+◌, ◌<◌, ◌≤◌, ◌⊎◌, inl, inr, zero, suc, Bool, true, false, not, ◌&&◌, List, [], ◌∷◌, ◌++◌, length, get_or, set, map, Some, None, refl, ap, sym, ◌∙◌, arith, rules}
 use Rattle.std.proofs.lemmas.Bool.{cases_eq, cases_lt}
-use Rattle.std.proofs.lemmas.Bool.Decides.{nat_tests}
 use Rattle.std.specs.List.{find, list_any, position_or_len}
 use Rattle.sc_base.specs.Lists.{at_or}
 use Rattle.sc_taskset.specs.declared.marks.Marks.{Marks}
 use Rattle.sc_taskset.specs.declared.rows.Row.{Row}
 use Rattle.sc_taskset.specs.declared.tasks.RunningCopy.{RunningCopy}
-use Rattle.sc_taskset.specs.TaskSetData.{fresh_task}
 use Rattle.sc_taskset.specs.Accounting.{is_single}
 use Rattle.sc_taskset.specs.Flags.{HaveRoom, HoldFlags, IsPut, is_set}
 use Rattle.sc_taskset.specs.Lookups.{is_finish, is_one_elsewhere}
 use Rattle.sc_taskset.specs.Marks.{AreMarked, IsMarked, MarksFit, is_pending_row, is_single_row}
-use Rattle.sc_taskset.specs.Offers.{is_pending_task}
-use Rattle.sc_taskset.specs.Rows.{copies_of, task_of}
+use Rattle.sc_taskset.specs.Rows.{copies_of}
 use Rattle.sc_taskset.specs.Tables.{NonePendingBelow, is_copyable_row}
 use Rattle.sc_taskset.proofs.TableLemmas.{first_is, get_same}
 
 -- ---- items by their places, or others past the end
 
 module _ {A : Type 0} (test : A → Bool) where
-  at_past : (xs : List A) (k : ℕ) → length xs ≤ k → at_or (map test xs) k false ≡ false
-  at_past [] k le = refl
-  at_past (x ∷ xs) zero le = absurd (omega (arith, le))
-  at_past (x ∷ xs) (suc k) le = at_past xs k (omega (arith, le))
-
   -- an item that is there
   pub at_here : (xs : List A) (k : ℕ) (d : A) → k < length xs
       → at_or (map test xs) k false ≡ test (get_or xs k d)
@@ -85,40 +77,6 @@ module _ {A : Type 0} (test : A → Bool) where
           ap (is_set now) e ∙ put.here ∙ sym (at_push_same xs y)
           ∙ ap (λ i. at_or (map test (xs ++ y ∷ [])) i false) (sym e)
       by (inr ne) = put.others k ne ∙ held k ∙ sym (at_push_other xs k y ne)
-
-  -- flags of items one by one, and none past them
-  abbrev pub AreHeldBelow : List A → List ℕ → ℕ → Type 0
-  AreHeldBelow xs words n =
-      ((k : ℕ) → k < n → is_set words k ≡ at_or (map test xs) k false)
-      × ((k : ℕ) → length xs ≤ k → is_set words k ≡ false)
-
-  pub held_more : (xs : List A) (place : ℕ) (d : A) (old now : List ℕ) → place < length xs
-      → AreHeldBelow xs old place → IsPut old now place (test (get_or xs place d))
-      → AreHeldBelow xs now (place + 1)
-  held_more xs place d old now l held put = (
-    λ k m. by k (cases_eq k place) m,
-    λ k le. put.others k (λ e. absurd (omega (arith, le, l, e))) ∙ held.1 k le,
-  )
-    where
-      by : (k : ℕ) → (k ≡ place) ⊎ (k ≡ place → ⊥) → k < place + 1
-          → is_set now k ≡ at_or (map test xs) k false
-      by k (inl e) m =
-          ap (is_set now) e ∙ put.here ∙ sym (at_here xs place d l)
-          ∙ ap (λ i. at_or (map test xs) i false) (sym e)
-      by k (inr ne) m = put.others k ne ∙ held.0 k (omega (arith, m, ne))
-
-  pub held_all : (xs : List A) (words : List ℕ) (n : ℕ) → length xs ≤ n
-      → AreHeldBelow xs words n → HoldFlags words (map test xs)
-  held_all xs words n le held k = by (cases_lt k (length xs))
-    where
-      by : (k < length xs) ⊎ (length xs ≤ k) → is_set words k ≡ at_or (map test xs) k false
-      by (inl l) = held.0 k (omega (arith, l, le))
-      by (inr past) = held.1 k past ∙ sym (at_past xs k past)
-
-  -- past the items no flag is set
-  pub none_past : (xs : List A) (words : List ℕ) → HoldFlags words (map test xs)
-      → (k : ℕ) → length xs ≤ k → is_set words k ≡ false
-  none_past xs words held k le = held k ∙ at_past xs k le
 
 -- ---- marks
 
@@ -199,16 +157,15 @@ copyable_single slow exec r not_single =
 
 -- the first row that is to be handed out
 pub next_is : (rows : List Row) (words : List ℕ) (from place : ℕ)
-    → HoldFlags words (map is_pending_row rows) → HaveRoom words (length rows)
-    → NonePendingBelow rows from
+    → HoldFlags words (map is_pending_row rows) → NonePendingBelow rows from
     → ((k : ℕ) → from ≤ k → k < place → is_set words k ≡ false)
-    → (place < 64 * length words → is_set words place ≡ true)
+    → (place < length rows → is_set words place ≡ true)
     → place < length rows → place ≡ position_or_len is_pending_row rows
-next_is rows words from place held have below none some l =
+next_is rows words from place held below none some l =
     first_is is_pending_row rows place (omega (arith, l))
     (λ k d m. before k d m (cases_lt k from))
     (λ d m. sym (at_here is_pending_row rows place d l) ∙ sym (held place)
-    ∙ some (omega (arith, l, have.room)))
+    ∙ some l)
   where
     before : (k : ℕ) (d : Row) → k < place → (k < from) ⊎ (from ≤ k)
         → is_pending_row (get_or rows k d) ≡ false

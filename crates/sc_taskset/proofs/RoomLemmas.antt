@@ -1,5 +1,5 @@
 -- Sets of which nothing was handed out.
-use Rattle.std.proofs.Common.{◌≡◌, ℕ, ◌<◌, Bool, List, [], ◌∷◌, ◌++◌, length, get_or, map, take, refl, ap, sym, subst, ◌∙◌, arith}
+use Rattle.std.proofs.Common.{◌≡◌, ℕ, zero, suc, ◌<◌, Bool, false, rules, true≢false, List, [], ◌∷◌, ◌++◌, length, get_or, map, take, refl, ap, sym, subst, ◌∙◌, arith}
 use Rattle.std.specs.List.{All}
 use Rattle.std.proofs.lemmas.List.{map-append, length-take, get_or-take}
 use Rattle.std.proofs.lemmas.List.Elements.{All-nil, All-map, All-from_get_or}
@@ -7,8 +7,12 @@ use Rattle.std.proofs.lemmas.List.Quantifiers.{all_pairs_push}
 use Rattle.sc_ids.specs.declared.limits.Limits.{Limits}
 use Rattle.sc_taskset.specs.declared.rows.Row.{Row}
 use Rattle.sc_taskset.specs.TaskSetData.{fresh_set, fresh_task}
+use Rattle.sc_base.specs.Lists.{at_or}
+use Rattle.sc_taskset.specs.declared.lists.Lists.{Lists}
+use Rattle.sc_taskset.specs.Lists.{AreListed, is_row_on, list_of}
+use Rattle.sc_taskset.specs.Looks.{is_task_on}
 use Rattle.sc_taskset.specs.Sound.{AreRising, IsPast, IsSoundTask}
-use Rattle.sc_taskset.specs.Rows.{IsHeld, running_count, task_of}
+use Rattle.sc_taskset.specs.Rows.{IsHeld, running_count, task_of, tasks_of}
 use Rattle.sc_taskset.specs.Rooms.{AreFresh, row_partitions}
 
 -- one more row, above the others
@@ -82,3 +86,25 @@ before_below partitions i rising l =
     All-from_get_or (λ q. q < get_or partitions i 0) (take i partitions) 0
     (λ k m. (let h : k < i = omega (arith, m, length-take i partitions) in
     rw (get_or-take i partitions k 0 h) (rising k i 0 h l)))
+
+-- no row is on an executor
+pub fresh_listed : (lists : Lists) (rows : List Row) → lists.places.items ≡ [] → AreFresh rows
+    → AreListed lists rows
+fresh_listed lists rows none fresh exec =
+    let list : list_of lists exec ≡ [] =
+    ap (λ vs. at_or (map (λ v. v.items) vs) exec []) none in
+    rw list (record {
+      all = λ k on. absurd (true≢false (sym on ∙ off rows k fresh.fresh));
+      few = omega arith;
+      within = λ k has. absurd (true≢false (sym has));
+    })
+  where
+    off : (xs : List Row) (k : ℕ) → tasks_of [] xs ≡ map fresh_task (row_partitions xs)
+        → at_or (map (is_row_on exec) xs) k false ≡ false
+    off [] k is = refl
+    off (x ∷ xs) zero is =
+        let here : task_of [] x ≡ fresh_task x.partition = search (rules, is) in
+        ap (is_task_on exec) here
+    off (x ∷ xs) (suc k) is =
+        let rest : tasks_of [] xs ≡ map fresh_task (row_partitions xs) = search (rules, is) in
+        off xs k rest

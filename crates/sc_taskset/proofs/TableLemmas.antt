@@ -161,6 +161,12 @@ get_same [] i d e l = absurd (omega (arith, l))
 get_same (x ∷ xs) zero d e l = refl
 get_same (x ∷ xs) (suc i) d e l = get_same xs i d e (omega (arith, l))
 
+-- one that was read as an item of a list that is the same
+pub read_same : {A : Type 0} (xs ys : List A) (i : ℕ) (d e : A) → ys ≡ xs → i < length xs
+    → get_or xs i e ≡ get_or ys i d
+read_same xs ys i d e same l =
+    get_same xs i e d l ∙ ap (λ zs. get_or zs i d) (sym same)
+
 -- the first place that passes, where items are read
 pub first_is : {A : Type 0} (q : A → Bool) (xs : List A) (place : ℕ) → place ≤ length xs
     → ((k : ℕ) (d : A) → k < place → q (get_or xs k d) ≡ false)
@@ -332,22 +338,6 @@ pub open_kept : (rows : List Row) (place before after : ℕ) (row : Row)
     → after ≡ count_by is_open_row (set rows place row)
 open_kept rows place before after row l counted anew =
     omega (arith, sum_by-set (λ r. cond (is_open_row r) 1 0) rows place row row l, counted, anew)
-
--- tasks of the same partitions have rows of the same partitions
-pub partitions_seen : (f : TaskData → TaskData) (rows others : List Row)
-    → ((t : TaskData) → (f t).partition ≡ t.partition)
-    → tasks_of [] rows ≡ map f (tasks_of [] others)
-    → row_partitions rows ≡ row_partitions others
-partitions_seen f rows others keeps is =
-    seen rows ∙ ap (map (λ t. t.partition)) is ∙ kept (tasks_of [] others) ∙ sym (seen others)
-  where
-    seen : (xs : List Row) → row_partitions xs ≡ map (λ t. t.partition) (tasks_of [] xs)
-    seen [] = refl
-    seen (x ∷ xs) = ap (λ ps. x.partition ∷ ps) (seen xs)
-
-    kept : (ts : List TaskData) → map (λ t. t.partition) (map f ts) ≡ map (λ t. t.partition) ts
-    kept [] = refl
-    kept (t ∷ ts) = rw (keeps t) (ap (λ ps. t.partition ∷ ps) (kept ts))
 
 -- fresh rows are all open, and the first one is to be handed out
 pub fresh_indexed : (rows : List Row) (marks : Marks) → AreFresh rows → AreMarked marks rows

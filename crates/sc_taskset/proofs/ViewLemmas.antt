@@ -1,13 +1,10 @@
 -- Lists of which each element is seen as something else.
-use Rattle.std.proofs.Common.{◌≡◌, ℕ, ◌+◌, ◌<◌, Bool, true, false, cond, not, List, [], ◌∷◌, ◌++◌, length, get_or, set, take, drop, map, Some, None, zero, suc, refl, ap, sym, ◌∙◌, arith, rules, nat_lt}
+use Rattle.std.proofs.Common.{◌≡◌, ℕ, ◌<◌, Bool, true, false, cond, not, List, [], ◌∷◌, length, get_or, set, map, Some, None, zero, suc, refl, ap, sym, ◌∙◌, arith, rules, nat_lt}
 use Rattle.std.proofs.lemmas.Bool.Decides.{nat_tests}
 use Rattle.std.specs.Option.{option_map}
 use Rattle.std.specs.List.{find, list_all, position, position_or_len}
 use Rattle.std.proofs.lemmas.List.Quantifiers.{position-Some}
 use Rattle.std.proofs.lemmas.List.Sums.{prefix_len_passes}
-use Rattle.std.proofs.lemmas.List.{map-set, length-map}
-use Rattle.std.proofs.Math.ListN.{get_or-map}
-use Rattle.sc_ids.proofs.ChangeLemmas.{map_loop}
 use Rattle.sc_taskset.specs.Lookups.{change_first}
 
 -- the first one that passes, seen, is the first of those seen that passes
@@ -102,14 +99,3 @@ pub no_place_changed :
     {A B : Type 0} (v : A → B) (w : B → Bool) (f : B → B) (xs : List A)
     → None ≡ position (λ r. w (v r)) xs → map v xs ≡ change_first w f (map v xs)
 no_place_changed v w f xs none = none_changed v w f xs (none_passes (λ r. w (v r)) xs none)
-
--- one step of a loop that writes each element in place, seen
-pub seen_step :
-    {A B : Type 0} (v : A → B) (g : B → B) (xs ys : List A) (i : ℕ) (d y : A)
-    → i < length xs → map v ys ≡ map g (take i (map v xs)) ++ drop i (map v xs)
-    → v y ≡ g (v (get_or ys i d))
-    → map v (set ys i y) ≡ map g (take (i + 1) (map v xs)) ++ drop (i + 1) (map v xs)
-seen_step v g xs ys i d y h so is =
-    map-set v ys i y
-    ∙ map_loop g (map v xs) (map v ys) i (v y) (v d) (rw length-map h) so
-    (is ∙ ap g (sym (get_or-map v ys i d)))

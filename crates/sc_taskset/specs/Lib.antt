@@ -11,3 +11,5 @@ pub mod Rooms
 pub mod Flags
 pub mod Marks
 pub mod Tables
+pub mod Looks
+pub mod Lists

@@ -1,21 +1,27 @@
 //! Changes of the rows of a set.
 #![tactic(auto)]
 
-ghost use Rattle.std.specs.Prelude.{◌≡◌, ◌<◌, IfSome, OnOk, OnErr, List, length, map};
+ghost use Rattle.std.specs.Prelude.{◌≡◌, ◌<◌, IfSome, OnOk, OnErr, List, length};
 ghost use Rattle.std.specs.List.{find};
 ghost use Rattle.sc_taskset.specs.declared.rows.Failure.{Failure};
+ghost use Rattle.sc_taskset.specs.Lists.{IsOnFewer, IsOnOneMore};
 ghost use Rattle.sc_taskset.specs.Lookups.{change_first, with_task};
 ghost use Rattle.sc_taskset.specs.Offers.{handed_task};
-ghost use Rattle.sc_taskset.specs.Reports.{ended_task, held_task, lost_task, succeeded_task};
+ghost use Rattle.sc_taskset.specs.Reports.{ended_task, held_task, succeeded_task};
 ghost use Rattle.sc_taskset.specs.Rows.{copies_of, is_row_of, tasks_of};
 
+use crate::listed::ListedRows;
 use crate::rows::Row;
-use crate::tables::Table;
 use sc_ids::ExecId;
 use std::alloc::AllocError;
 
 /// Hands a partition out once more, unless the number of its attempts is at its type's end.
-pub fn hand_in(rows: &mut Table, partition: u32, exec: ExecId, now: u64) -> Result<(), AllocError>
+pub fn hand_in(
+    rows: &mut ListedRows,
+    partition: u32,
+    exec: ExecId,
+    now: u64,
+) -> Result<(), AllocError>
     requires { IfSome (find (is_row_of partition) rows.old)
         (λ r. length (copies_of r) < 2) }
     ensures ok { (failures : List Failure)
@@ -25,10 +31,7 @@ pub fn hand_in(rows: &mut Table, partition: u32, exec: ExecId, now: u64) -> Resu
 {
     match rows.row_of(partition) {
         Some(row) => match row.given.checked_add(1) {
-            Some(given) => {
-                replace(rows, row.handed(exec, now, given));
-                Ok(())
-            }
+            Some(given) => hand_over(rows, row.handed(exec, now, given), exec),
             None => Err(AllocError),
         },
         None => Ok(()),
@@ -36,7 +39,7 @@ pub fn hand_in(rows: &mut Table, partition: u32, exec: ExecId, now: u64) -> Resu
 }
 
 /// Ends an attempt of a partition.
-pub fn end_in(rows: &mut Table, partition: u32, nth: u32)
+pub fn end_in(rows: &mut ListedRows, partition: u32, nth: u32)
     ensures { (failures : List Failure) → tasks_of failures rows.new
         ≡ with_task partition (ended_task nth) (tasks_of failures rows.old) }
 {
@@ -47,7 +50,7 @@ pub fn end_in(rows: &mut Table, partition: u32, nth: u32)
 }
 
 /// Notes a success of a partition.
-pub fn succeed_in(rows: &mut Table, partition: u32, nth: Option<u32>)
+pub fn succeed_in(rows: &mut ListedRows, partition: u32, nth: Option<u32>)
     ensures { (failures : List Failure) → tasks_of failures rows.new
         ≡ with_task partition (succeeded_task nth) (tasks_of failures rows.old) }
 {
@@ -58,7 +61,7 @@ pub fn succeed_in(rows: &mut Table, partition: u32, nth: Option<u32>)
 }
 
 /// Notes whether a held grant has denied an attempt of a partition.
-pub fn hold_in(rows: &mut Table, partition: u32, denied: bool)
+pub fn hold_in(rows: &mut ListedRows, partition: u32, denied: bool)
     ensures { (failures : List Failure) → tasks_of failures rows.new
         ≡ with_task partition (held_task denied) (tasks_of failures rows.old) }
 {
@@ -68,8 +71,9 @@ pub fn hold_in(rows: &mut Table, partition: u32, denied: bool)
     }
 }
 
-/// Puts a row in the place of the one of its partition.
-fn replace(rows: &mut Table, row: Row)
+/// Puts a row in the place of the one of its partition, where it is on no more executors.
+fn replace(rows: &mut ListedRows, row: Row)
+    requires { IfSome (find (is_row_of row.partition) rows.old) (λ before. IsOnFewer before row) }
     ensures { rows.new ≡ change_first (is_row_of row.partition) (λ _. row) rows.old }
 {
     let place = rows.place_of(row.partition);
@@ -78,12 +82,17 @@ fn replace(rows: &mut Table, row: Row)
     }
 }
 
-/// Takes an executor's attempts, and what was finished there where that is to be done again.
-pub fn lose_all(rows: &mut [Row], exec: ExecId, redoes: bool)
-    ensures { (failures : List Failure) → tasks_of failures rows.new
-        ≡ map (lost_task exec redoes) (tasks_of failures rows.old) }
+/// Puts a row in the place of the one of its partition, where it is on one executor more.
+fn hand_over(rows: &mut ListedRows, row: Row, exec: ExecId) -> Result<(), AllocError>
+    requires { IfSome (find (is_row_of row.partition) rows.old)
+        (λ before. IsOnOneMore exec before row) }
+    ensures ok { OnOk result
+        (rows.new ≡ change_first (is_row_of row.partition) (λ _. row) rows.old) }
+    ensures err { OnErr result (rows.new ≡ rows.old) }
 {
-    for row in rows.iter_mut() {
-        *row = row.lost(exec, redoes);
+    let place = rows.place_of(row.partition);
+    if place < rows.as_slice().len() {
+        rows.hand(place, row, exec)?;
     }
+    Ok(())
 }

@@ -2,8 +2,10 @@
 #![tactic(auto)]
 
 ghost use Rattle.std.specs.Prelude.{◌≡◌, ◌++◌};
-ghost use Rattle.std.specs.Option.{option_to_list};
+ghost use Rattle.std.specs.List.{list_any};
+ghost use Rattle.std.specs.Option.{option_map, option_to_list};
 ghost use Rattle.sc_taskset.specs.Accounting.{is_single};
+ghost use Rattle.sc_taskset.specs.Looks.{is_copy_on};
 ghost use Rattle.sc_taskset.specs.Lookups.{copy_at, is_one_elsewhere, without_copy, without_exec};
 
 use crate::tasks::RunningCopy;
@@ -28,6 +30,23 @@ pub fn unless_on(copy: Option<RunningCopy>, exec: ExecId) -> Option<RunningCopy>
     ensures { option_to_list result ≡ without_exec exec (option_to_list copy) }
 {
     copy.filter(|c| c.exec != exec)
+}
+
+/// Where an attempt runs.
+pub fn exec_of(copy: Option<RunningCopy>) -> Option<ExecId>
+    ensures { result ≡ option_map (λ c. c.exec) copy }
+{
+    copy.map(|c| c.exec)
+}
+
+/// Whether an attempt runs on an executor.
+pub fn is_on(copy: Option<RunningCopy>, exec: ExecId) -> bool
+    ensures { result ≡ list_any (is_copy_on exec) (option_to_list copy) }
+{
+    match copy {
+        None => false,
+        Some(c) => c.exec == exec,
+    }
 }
 
 /// Whether exactly one attempt runs.

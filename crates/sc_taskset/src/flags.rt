@@ -1,10 +1,13 @@
 //! Flags of numbers, in words of 64.
 #![tactic(auto)]
 
-ghost use Rattle.std.specs.Prelude.{◌≡◌, ◌<◌, ◌≤◌, ◌*◌, ◌^◌, ℕ, [], IfOk, false, length, true};
+ghost use Rattle.std.specs.Prelude.{◌≡◌, ◌<◌, ◌≤◌, ◌+◌, ◌*◌, ◌^◌, ℕ, [], IfOk, false, length, min, true};
 ghost use Rattle.sc_taskset.specs.Flags.{HaveRoom, HoldFlags, IsLowest, IsPut, is_set};
+ghost use Rattle.sc_taskset.specs.Looks.{words_for};
 
+use sc_base::Steps;
 use std::alloc::{AllocError, Global};
+use std::sync::ledger::{Blank, Ledger};
 
 /// How many flags a word has.
 const BITS: usize = 64;
@@ -30,26 +33,49 @@ pub fn put_flag(words: &mut Vec<u64>, place: usize, flag: bool)
     }
 }
 
-/// The first flag that is set from a place on, or a place past all of them.
-pub fn next_flag(words: &[u64], from: usize) -> usize
-    requires { 64 * length words.now < 2 ^ 64 }
+/// The first flag that is set from a place on, or a place past the so many first ones. A step is a
+/// word that is come to: one that was left at a flag, and is gone on with, was a step before.
+pub fn next_flag<L: Ledger>(words: &[u64], from: usize, many: usize, steps: &mut Steps<L>) -> usize
+    requires room { many ≤ 64 * length words.now }
+    requires small { 64 * length words.now < 2 ^ 64 }
     ensures from { from ≤ result }
     ensures none { (k : ℕ) → from ≤ k → k < result → is_set words.now k ≡ false }
-    ensures set { result < 64 * length words.now → is_set words.now result ≡ true }
+    ensures set { result < many → is_set words.now result ≡ true }
+    ensures looked { steps.new + words_for (min from many)
+        ≡ steps.old + words_for (min (result + 1) many) }
 {
-    let mut at = from / BITS;
-    if words.len() <= at {
+    if many <= from {
         return from;
+    }
+    let mut at = from / BITS;
+    if from % BITS == 0 {
+        steps.tick();
     }
     let mut word = words[at] & (u64::MAX << (from % BITS));
     while word == 0 {
         at += 1;
-        if words.len() <= at {
+        if many <= at * BITS {
             return at * BITS;
         }
+        steps.tick();
         word = words[at];
     }
     at * BITS + lowest(word)
+}
+
+/// The same where nobody counts the steps.
+pub fn next_flag_in<L: Ledger>(words: &[u64], from: usize, many: usize, blank: Blank) -> usize
+    requires room { many ≤ 64 * length words.now }
+    requires small { 64 * length words.now < 2 ^ 64 }
+    requires name { blank.name ≡ L.name }
+    requires parts { blank.parts ≡ L.parts }
+    requires some { 0 < blank.parts }
+    ensures from { from ≤ result }
+    ensures none { (k : ℕ) → from ≤ k → k < result → is_set words.now k ≡ false }
+    ensures set { result < many → is_set words.now result ≡ true }
+{
+    let mut steps = Steps::<L>::new(blank);
+    next_flag(words, from, many, &mut steps)
 }
 
 /// The lowest flag that is set in a word.

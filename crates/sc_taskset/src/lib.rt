@@ -13,7 +13,8 @@
 //! each of its tasks; each call is a function on that record in `specs/Offers.antt` or
 //! `specs/Reports.antt`, and `specs/Sound.antt` has what every set keeps. A call about a partition
 //! that the set doesn't have, or an attempt that doesn't run, changes nothing. Only what hands out
-//! and what begins may want memory.
+//! and what begins may want memory. An offer and a loss count what they look at, in the words of
+//! `specs/Looks.antt`: a loss looks at no task of another executor.
 //!
 //! It stands on `sc_ids` and on `sc_spec`, which says when an attempt is slow. It knows nothing of
 //! outputs, grants and other sets of its stage.
@@ -23,6 +24,9 @@ mod changes;
 mod copies;
 mod flags;
 mod laws;
+mod listed;
+mod lists;
+mod losses;
 mod marks;
 mod notes;
 mod paces;

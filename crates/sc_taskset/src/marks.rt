@@ -1,8 +1,7 @@
 //! Which rows of a set may be handed out.
 #![tactic(auto)]
 
-ghost use Rattle.std.specs.Prelude.{◌≡◌, ◌<◌, ◌≤◌, ◌+◌, ◌^◌, ℕ, [], IfOk, false, length};
-ghost use Rattle.sc_taskset.specs.Flags.{is_set};
+ghost use Rattle.std.specs.Prelude.{◌<◌, ◌+◌, ◌^◌, [], IfOk};
 ghost use Rattle.sc_taskset.specs.Marks.{AreMarked, IsMarked, MarksFit};
 
 use crate::flags::{flags_for, put_flag};
@@ -36,18 +35,5 @@ impl Marks {
     {
         put_flag(&mut self.pending, place, row.is_pending());
         put_flag(&mut self.single, place, row.is_single());
-    }
-
-    /// Marks all rows anew.
-    pub fn put_all(&mut self, rows: &[Row])
-        requires fit { MarksFit self.old (length rows.now) }
-        requires none { (k : ℕ) → length rows.now ≤ k
-            → (is_set self.old.pending.items k ≡ false) × (is_set self.old.single.items k ≡ false) }
-        ensures marked { AreMarked self.new rows.now }
-        ensures fit { MarksFit self.new (length rows.now) }
-    {
-        for place in 0..rows.len() {
-            self.put(place, rows[place]);
-        }
     }
 }

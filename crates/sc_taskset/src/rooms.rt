@@ -7,6 +7,8 @@ ghost use Rattle.sc_taskset.specs.Rooms.{room_of};
 ghost use Rattle.sc_taskset.specs.Sound.{AreRising};
 ghost use Rattle.sc_taskset.specs.TaskSetData.{fresh_set};
 
+use crate::listed::ListedRows;
+use crate::lists::Lists;
 use crate::marks::Marks;
 use crate::rows::{Failure, Row};
 use crate::tables::Table;
@@ -21,6 +23,7 @@ use std::marker::Model;
 pub struct SetRoom {
     rows: Vec<Row>,
     marks: Marks,
+    lists: Lists,
     failures: Vec<Failure>,
     durations: Vec<u64>,
 }
@@ -36,7 +39,7 @@ impl Model for SetRoom {
         (vec_capacity r.rows - vec_len r.rows) };
 
     ghost invariant = { λ r. AreFresh r.rows.items × (r.failures.items ≡ [])
-        × (r.durations.items ≡ []) × AreMarked r.marks r.rows.items
+        × (r.durations.items ≡ []) × (r.lists.places.items ≡ []) × AreMarked r.marks r.rows.items
         × MarksFit r.marks (vec_capacity r.rows) };
 }
 
@@ -50,6 +53,7 @@ impl SetRoom {
         Ok(SetRoom {
             rows,
             marks,
+            lists: Lists::new(alloc),
             failures: Vec::new(alloc),
             durations: Vec::new(alloc),
         })
@@ -74,7 +78,7 @@ impl SetRoom {
         ensures { result ≡ fresh_set self.partitions is_map limits born }
     {
         TaskSet {
-            rows: Table::new(self.rows, self.marks),
+            rows: ListedRows::new(Table::new(self.rows, self.marks), self.lists),
             failures: self.failures,
             durations: self.durations,
             is_map,

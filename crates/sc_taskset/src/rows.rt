@@ -1,10 +1,11 @@
 //! Rows of fixed size, of which a set holds one for each task.
 #![tactic(auto)]
 
-ghost use Rattle.std.specs.Prelude.{◌≡◌, ◌<◌, ◌+◌, ◌++◌, ◌&&◌, [], List, length, if◌then◌else◌};
+ghost use Rattle.std.specs.Prelude.{◌≡◌, ◌↔◌, ◌<◌, ◌+◌, ◌++◌, ◌&&◌, ℕ, [], List, Some, length, true, if◌then◌else◌};
 ghost use Rattle.std.specs.Option.{option_to_list};
 ghost use Rattle.sc_taskset.specs.declared.rows.Failure.{Failure};
 ghost use Rattle.sc_taskset.specs.Lookups.{copy_at, is_finish, is_finish_on, is_one_elsewhere, is_running, without_copy, without_exec};
+ghost use Rattle.sc_taskset.specs.Lists.{is_row_on};
 ghost use Rattle.sc_taskset.specs.Marks.{is_single_row};
 ghost use Rattle.sc_taskset.specs.Offers.{handed_task, is_copyable_task, is_pending_task};
 ghost use Rattle.sc_taskset.specs.Paces.{slow_at};
@@ -12,7 +13,7 @@ ghost use Rattle.sc_taskset.specs.Reports.{ended_task, held_task, is_first_succe
 ghost use Rattle.sc_taskset.specs.Rows.{copies_of, task_of};
 ghost use Rattle.sc_taskset.specs.TaskSetData.{fresh_task};
 
-use crate::copies::{is_one, is_one_elsewhere, nth_of, unless_nth, unless_on};
+use crate::copies::{is_on, is_one, is_one_elsewhere, nth_of, unless_nth, unless_on};
 use crate::paces::Pace;
 use crate::tasks::{Finish, RunningCopy};
 use sc_ids::ExecId;
@@ -59,6 +60,35 @@ impl Row {
             Finish::Unfinished => false,
             Finish::OnExecutor(_) => true,
             Finish::InOlderSet => true,
+        }
+    }
+
+    /// Who finished it.
+    pub fn finisher(self) -> Option<ExecId>
+        ensures { (e : ℕ) → (is_finish_on e self.finish ≡ true) ↔ (result ≡ Some e) }
+    {
+        match self.finish {
+            Finish::Unfinished => None,
+            Finish::OnExecutor(exec) => Some(exec),
+            Finish::InOlderSet => None,
+        }
+    }
+
+    /// Whether it was finished on an executor, or an attempt of it runs there.
+    pub fn is_on(self, exec: ExecId) -> bool
+        ensures { result ≡ is_row_on exec self }
+    {
+        self.is_finished_on(exec) || is_on(self.first, exec) || is_on(self.second, exec)
+    }
+
+    /// Whether it was finished on an executor.
+    fn is_finished_on(self, exec: ExecId) -> bool
+        ensures { result ≡ is_finish_on exec self.finish }
+    {
+        match self.finish {
+            Finish::Unfinished => false,
+            Finish::OnExecutor(by) => by == exec,
+            Finish::InOlderSet => false,
         }
     }
 

@@ -1,24 +1,28 @@
 //! Searches through the rows of a set, and through its failures.
 #![tactic(auto)]
 
-ghost use Rattle.std.specs.Prelude.{◌≡◌, ◌&&◌, ◌||◌, not, List, length};
+ghost use Rattle.std.specs.Prelude.{◌≡◌, ◌≤◌, ◌+◌, ◌&&◌, ◌||◌, not, List, None, count_by, length};
 ghost use Rattle.std.specs.Option.{option_map};
 ghost use Rattle.std.specs.List.{filter, find};
 ghost use Rattle.sc_ids.specs.Failures.{is_counted};
 ghost use Rattle.sc_taskset.specs.declared.rows.Failure.{Failure};
 ghost use Rattle.sc_taskset.specs.Lookups.{are_finished, is_there_and, task_at};
+ghost use Rattle.sc_taskset.specs.Looks.{words_for};
+ghost use Rattle.sc_taskset.specs.Marks.{is_single_row};
 ghost use Rattle.sc_taskset.specs.Offers.{is_copyable_task, is_pending_task};
 ghost use Rattle.sc_taskset.specs.Paces.{slow_at};
 ghost use Rattle.sc_taskset.specs.Reports.{duration_in, is_failure, is_first_success};
 ghost use Rattle.sc_taskset.specs.Rows.{is_failure_of, is_row_of, offered_task, task_of, tasks_of};
 
+use crate::listed::ListedRows;
 use crate::paces::Pace;
 use crate::rows::{Failure, Row};
-use crate::tables::Table;
+use sc_base::Steps;
 use sc_ids::{ExecId, FailureCause};
+use std::sync::ledger::Ledger;
 
 /// The row of a partition.
-pub fn row_at(rows: &Table, partition: u32) -> Option<Row>
+pub fn row_at(rows: &ListedRows, partition: u32) -> Option<Row>
     ensures { (failures : List Failure)
         → option_map (task_of failures) result ≡ task_at partition (tasks_of failures rows.now) }
 {
@@ -26,7 +30,7 @@ pub fn row_at(rows: &Table, partition: u32) -> Option<Row>
 }
 
 /// The first row that is to be handed out.
-fn first_pending(rows: &Table) -> Option<Row>
+fn first_pending(rows: &ListedRows) -> Option<Row>
     ensures { (failures : List Failure)
         → option_map (task_of failures) result ≡ find is_pending_task (tasks_of failures rows.now) }
 {
@@ -34,16 +38,23 @@ fn first_pending(rows: &Table) -> Option<Row>
 }
 
 /// The first row of which a second attempt may run on an executor, at a pace of the set.
-fn first_copyable(rows: &Table, exec: ExecId, pace: Pace<'_>) -> Option<Row>
-    ensures { (failures : List Failure)
+fn first_copyable<L: Ledger>(
+    rows: &ListedRows,
+    exec: ExecId,
+    pace: Pace<'_>,
+    steps: &mut Steps<L>,
+) -> Option<Row>
+    ensures first { (failures : List Failure)
         → option_map (task_of failures) result
         ≡ find (is_copyable_task (slow_at pace.entry) exec) (tasks_of failures rows.now) }
+    ensures looked { steps.new
+        ≤ steps.old + words_for (length rows.now) + count_by is_single_row rows.now }
 {
-    rows.first_copyable(exec, pace)
+    rows.first_copyable(exec, pace, steps)
 }
 
 /// Whether all of them are finished.
-pub fn are_finished(rows: &Table) -> bool
+pub fn are_finished(rows: &ListedRows) -> bool
     ensures { (failures : List Failure)
         → result ≡ are_finished (tasks_of failures rows.now) }
 {
@@ -60,17 +71,24 @@ pub fn failure_count(failures: &[Failure], partition: u32) -> usize
         .count()
 }
 
-/// The first row that is there for an executor, at a pace of the set.
-pub fn offered(
-    rows: &Table,
+/// The first row that is there for an executor, at a pace of the set. A step is a word of marks or
+/// a row. Where one is to be handed out, none is taken.
+pub fn offered<L: Ledger>(
+    rows: &ListedRows,
     is_zombie: bool,
     speculation: bool,
     exec: ExecId,
     pace: Pace<'_>,
+    steps: &mut Steps<L>,
 ) -> Option<Row>
-    ensures { (failures : List Failure) → option_map (task_of failures) result
+    ensures row { (failures : List Failure) → option_map (task_of failures) result
         ≡ offered_task is_zombie speculation (slow_at pace.entry) exec
         (tasks_of failures rows.now) }
+    ensures looked { steps.new
+        ≤ steps.old + words_for (length rows.now) + count_by is_single_row rows.now }
+    ensures pending { (failures : List Failure)
+        → (find is_pending_task (tasks_of failures rows.now) ≡ None → ⊥)
+        → steps.new ≡ steps.old }
 {
     if is_zombie {
         return None;
@@ -78,7 +96,7 @@ pub fn offered(
     match first_pending(rows) {
         Some(row) => Some(row),
         None => if speculation {
-            first_copyable(rows, exec, pace)
+            first_copyable(rows, exec, pace, steps)
         } else {
             None
         },
@@ -88,7 +106,7 @@ pub fn offered(
 /// Whether a failure of an attempt counts: its cause does, the set is no zombie, and the attempt
 /// runs.
 pub fn fails_in(
-    rows: &Table,
+    rows: &ListedRows,
     is_zombie: bool,
     partition: u32,
     nth: u32,
@@ -105,7 +123,7 @@ pub fn fails_in(
 }
 
 /// Whether a success is the first of its partition.
-pub fn is_first_in(rows: &Table, partition: u32, nth: Option<u32>) -> bool
+pub fn is_first_in(rows: &ListedRows, partition: u32, nth: Option<u32>) -> bool
     ensures { (failures : List Failure) → result
         ≡ is_there_and (is_first_success nth) (task_at partition (tasks_of failures rows.now)) }
 {
@@ -116,7 +134,7 @@ pub fn is_first_in(rows: &Table, partition: u32, nth: Option<u32>) -> bool
 }
 
 /// How long a partition took, by its first success of an attempt of its set.
-pub fn duration_in(rows: &Table, partition: u32, nth: Option<u32>, now: u64) -> Option<u64>
+pub fn duration_in(rows: &ListedRows, partition: u32, nth: Option<u32>, now: u64) -> Option<u64>
     ensures { (failures : List Failure) → result
         ≡ duration_in nth now (task_at partition (tasks_of failures rows.now)) }
 {
@@ -127,7 +145,7 @@ pub fn duration_in(rows: &Table, partition: u32, nth: Option<u32>, now: u64) -> 
 }
 
 /// Whether a set hands out nothing more: it was so before, or all its tasks are finished.
-pub fn ends(is_zombie: bool, rows: &Table) -> bool
+pub fn ends(is_zombie: bool, rows: &ListedRows) -> bool
     ensures { (failures : List Failure)
         → result ≡ (is_zombie || are_finished (tasks_of failures rows.now)) }
 {

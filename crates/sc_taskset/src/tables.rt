@@ -1,25 +1,25 @@
 //! All rows of a set, with what is known of them without a search.
 #![tactic(auto)]
 
-ghost use Rattle.std.specs.Prelude.{◌≡◌, ◌≤◌, ◌<◌, ◌+◌, ◌^◌, List, count_by, get_or, false, if◌then◌else◌, length, map, set, slice_get, true};
+ghost use Rattle.std.specs.Prelude.{◌≡◌, ◌≤◌, ◌<◌, ◌+◌, ◌^◌, ◌⊎◌, List, count_by, get_or, false, if◌then◌else◌, length, map, set, slice_get, true};
 ghost use Rattle.std.specs.List.{find, list_all, position_or_len};
-ghost use Rattle.sc_taskset.specs.declared.rows.Failure.{Failure};
 ghost use Rattle.sc_taskset.specs.Lookups.{is_finish};
-ghost use Rattle.sc_taskset.specs.Reports.{lost_task};
 ghost use Rattle.sc_taskset.specs.Rooms.{AreFresh, row_partitions};
-ghost use Rattle.sc_taskset.specs.Rows.{is_row_of, tasks_of};
+ghost use Rattle.sc_taskset.specs.Rows.{is_row_of};
 ghost use Rattle.sc_taskset.specs.Sound.{AreRising};
-ghost use Rattle.sc_taskset.specs.Marks.{AreMarked, MarksFit, is_pending_row};
+ghost use Rattle.sc_taskset.specs.Looks.{words_for};
+ghost use Rattle.sc_taskset.specs.Marks.{AreMarked, MarksFit, is_pending_row, is_single_row};
 ghost use Rattle.sc_taskset.specs.Paces.{slow_at};
 ghost use Rattle.sc_taskset.specs.Tables.{NonePendingBelow, is_copyable_row, is_open_row};
 
-use crate::changes::lose_all;
-use crate::flags::next_flag;
+use crate::flags::{next_flag, next_flag_in};
 use crate::marks::Marks;
 use crate::paces::Pace;
 use crate::rows::Row;
+use sc_base::Steps;
 use sc_ids::ExecId;
-use std::marker::Model;
+use std::marker::{Brand, Model};
+use std::sync::ledger::{Blank, Ledger};
 
 /// The rows of a set, by rising partitions.
 #[derive(Drop)]
@@ -91,11 +91,18 @@ impl Table {
     }
 
     /// The first row of which a second attempt may run on an executor, at a pace of the set. Only
-    /// those are looked at of which one attempt runs alone.
-    pub fn first_copyable(&self, exec: ExecId, pace: Pace<'_>) -> Option<Row>
-        ensures { result ≡ find (is_copyable_row (slow_at pace.entry) exec) self.now }
+    /// those are looked at of which one attempt runs alone. A step is a word of marks or a row.
+    pub fn first_copyable<L: Ledger>(
+        &self,
+        exec: ExecId,
+        pace: Pace<'_>,
+        steps: &mut Steps<L>,
+    ) -> Option<Row>
+        ensures first { result ≡ find (is_copyable_row (slow_at pace.entry) exec) self.now }
+        ensures looked { steps.new
+            ≤ steps.old + words_for (length self.now) + count_by is_single_row self.now }
     {
-        copyable_in(&self.rows, &self.marks, exec, pace)
+        copyable_in(&self.rows, &self.marks, exec, pace, steps)
     }
 
     /// Whether all rows are finished.
@@ -119,15 +126,19 @@ impl Table {
         self.pending = next_pending(&self.rows, &self.marks, from);
     }
 
-    /// Takes an executor's attempts, and what was finished there where that is to be done again.
-    pub fn lose(&mut self, exec: ExecId, redoes: bool)
-        ensures { (failures : List Failure) → tasks_of failures self.new
-            ≡ map (lost_task exec redoes) (tasks_of failures self.old) }
+    /// The same where it is to be handed out if the other one was. No mark is looked at.
+    pub fn put_freed(&mut self, place: usize, row: Row)
+        requires there { place < length self.old }
+        requires same { row.partition ≡ (get_or self.old place row).partition }
+        requires freed { is_pending_row (get_or self.old place row) ≡ true
+            → is_pending_row row ≡ true }
+        ensures { self.new ≡ set self.old place row }
     {
-        lose_all(self.rows.as_mut_slice(), exec, redoes);
-        self.unfinished = count_open(&self.rows);
-        self.marks.put_all(&self.rows);
-        self.pending = next_pending(&self.rows, &self.marks, 0);
+        let old = self.rows[place];
+        self.rows[place] = row;
+        self.unfinished = recounted(self.unfinished, old, row);
+        self.marks.put(place, row);
+        self.pending = lowered(self.pending, place, row.is_pending());
     }
 }
 
@@ -169,6 +180,7 @@ fn sought_in(rows: &[Row], partition: u32) -> usize
 fn lowered(pending: usize, place: usize, is_pending: bool) -> usize
     ensures below { result ≤ pending }
     ensures at { is_pending ≡ true → result ≤ place }
+    ensures one { (result ≡ pending) ⊎ ((result ≡ place) × (is_pending ≡ true)) }
 {
     if is_pending && place < pending {
         place
@@ -196,13 +208,6 @@ fn recounted(unfinished: usize, old: Row, new: Row) -> usize
     }
 }
 
-/// How many rows aren't finished.
-fn count_open(rows: &[Row]) -> usize
-    ensures { result ≡ count_by is_open_row rows.now }
-{
-    rows.iter().filter(|row| !row.is_finished()).count()
-}
-
 /// Where the first row stands that is to be handed out, where none is below a place. It is found by
 /// the marks, 64 rows at a time.
 fn next_pending(rows: &[Row], marks: &Marks, from: usize) -> usize
@@ -212,7 +217,7 @@ fn next_pending(rows: &[Row], marks: &Marks, from: usize) -> usize
     requires none { NonePendingBelow rows.now from }
     ensures { result ≡ position_or_len is_pending_row rows.now }
 {
-    let place = next_flag(&marks.pending, from);
+    let place = next_flag_in::<Brand>(&marks.pending, from, rows.len(), Blank::new(1));
     if place < rows.len() {
         place
     } else {
@@ -222,17 +227,26 @@ fn next_pending(rows: &[Row], marks: &Marks, from: usize) -> usize
 
 /// The first row of which a second attempt may run on an executor, among those that are marked as
 /// such of which one attempt runs alone.
-fn copyable_in(rows: &[Row], marks: &Marks, exec: ExecId, pace: Pace<'_>) -> Option<Row>
+fn copyable_in<L: Ledger>(
+    rows: &[Row],
+    marks: &Marks,
+    exec: ExecId,
+    pace: Pace<'_>,
+    steps: &mut Steps<L>,
+) -> Option<Row>
     requires marked { AreMarked marks.now rows.now }
     requires fit { MarksFit marks.now (length rows.now) }
-    ensures { result ≡ find (is_copyable_row (slow_at pace.entry) exec) rows.now }
+    ensures first { result ≡ find (is_copyable_row (slow_at pace.entry) exec) rows.now }
+    ensures looked { steps.new
+        ≤ steps.old + words_for (length rows.now) + count_by is_single_row rows.now }
 {
-    let mut place = next_flag(&marks.single, 0);
+    let mut place = next_flag(&marks.single, 0, rows.len(), steps);
     while place < rows.len() {
+        steps.tick();
         if rows[place].is_copyable(exec, pace) {
             return Some(rows[place]);
         }
-        place = next_flag(&marks.single, place + 1);
+        place = next_flag(&marks.single, place + 1, rows.len(), steps);
     }
     None
 }

@@ -1,27 +1,30 @@
 //! A task set, and what it is told.
 #![tactic(auto)]
 
-ghost use Rattle.std.specs.Prelude.{◌≡◌, ◌↔◌, ◌&&◌, not, OnOk, OnErr, IfOk, true};
+ghost use Rattle.std.specs.Prelude.{◌≡◌, ◌↔◌, ◌≤◌, ◌+◌, ◌&&◌, ℕ, not, OnOk, OnErr, IfOk, true};
 ghost use Rattle.sc_taskset.specs.Lookups.{are_finished, has_task_and, is_finished};
-ghost use Rattle.sc_taskset.specs.Offers.{Offers, given_of, handed, may_be_given};
+ghost use Rattle.sc_taskset.specs.Looks.{count_on, single_count, word_count};
+ghost use Rattle.sc_taskset.specs.Offers.{Offers, given_of, handed, is_pending, may_be_given};
 ghost use Rattle.sc_taskset.specs.Reports.{after_end, after_failure, after_held, after_loss, after_success, as_zombie, is_first, reaches_limit};
 ghost use Rattle.sc_taskset.specs.Sound.{IsSoundSet};
 
 use crate::changes::{end_in, hand_in, hold_in, succeed_in};
+use crate::listed::ListedRows;
 use crate::notes::{note_duration, note_failure, reserve_for, verdict};
 use crate::paces::Pace;
 use crate::rows::Failure;
 use crate::scans::{are_finished, duration_in, ends, fails_in, is_first_in, offered, row_at};
-use crate::tables::Table;
 use crate::tasks::{GivenTask, Verdict};
+use sc_base::Steps;
 use sc_ids::{Epoch, ExecId, FailureCause, Limits};
 use std::alloc::AllocError;
 use std::marker::Model;
+use std::sync::ledger::Ledger;
 
 /// The tasks of one attempt of a stage: which are finished, which run, and which comes next.
 #[derive(Drop)]
 pub struct TaskSet {
-    pub(crate) rows: Table,
+    pub(crate) rows: ListedRows,
     pub(crate) failures: Vec<Failure>,
     /// How long its first successes took, rising.
     pub(crate) durations: Vec<u64>,
@@ -118,18 +121,26 @@ impl TaskSet {
     }
 
     /// Notes that an executor was lost: its attempts run no more, and in a set of map tasks that
-    /// is no zombie what was finished there is to be done again.
-    pub fn executor_lost(&mut self, exec: ExecId)
-        ensures { self.new ≡ after_loss self.old exec }
+    /// is no zombie what was finished there is to be done again. It takes no memory. A step is a
+    /// task that is looked at: at most one for each that was finished there, or of which an attempt
+    /// ran there.
+    pub fn executor_lost<L: Ledger>(&mut self, exec: ExecId, steps: &mut Steps<L>)
+        ensures state { self.new ≡ after_loss self.old exec }
+        ensures looked { steps.new ≤ steps.old + count_on self.old exec }
     {
         let redoes = redoes_lost(self.is_map, self.is_zombie);
-        self.rows.lose(exec, redoes);
+        self.rows.lose(exec, redoes, steps);
     }
 
     /// What it has for an executor at this time: the smallest pending partition or, where nothing
-    /// is pending, the smallest one that may be copied there.
-    pub fn peek(&self, exec: ExecId, now: u64) -> Option<GivenTask>
-        ensures { Offers self.now exec now result }
+    /// is pending, the smallest one that may be copied there. A step is a word of marks or a
+    /// running partition that is looked at: none where something is pending, else at most one for
+    /// each word and for each partition of which one attempt runs alone.
+    pub fn peek<L: Ledger>(&self, exec: ExecId, now: u64, steps: &mut Steps<L>) -> Option<GivenTask>
+        ensures offers { Offers self.now exec now result }
+        ensures looked { steps.new ≤ steps.old + word_count self.now + single_count self.now }
+        ensures pending { (partition : ℕ) → is_pending self.now partition ≡ true
+            → steps.new ≡ steps.old }
     {
         let pace = Pace {
             durations: &self.durations,
@@ -142,6 +153,7 @@ impl TaskSet {
             self.limits.speculation,
             exec,
             pace,
+            steps,
         )?;
         Some(GivenTask {
             partition: row.partition,

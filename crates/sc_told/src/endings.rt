@@ -10,7 +10,7 @@ use std::alloc::AllocError;
 
 /// How a run ended, as far as more is told of it.
 #[derive(Drop)]
-pub enum Ending<'a> {
+pub enum HowEnded<'a> {
     /// All is said by what the run did.
     Plain,
     /// The script has a fault.
@@ -28,9 +28,9 @@ pub enum Ending<'a> {
     /// The results of the action of a number have no value together.
     Driver(u32, DriverFault),
     /// An action saves to a directory that is there.
-    Exists,
-    /// A call on the files failed.
-    Device,
+    Exists(&'a str),
+    /// A call on the files failed, for this path.
+    Device(&'a str),
     /// The standard output took no more.
     Unwritten,
     /// Memory ran out.
@@ -40,14 +40,15 @@ pub enum Ending<'a> {
 /// Writes what a run's ending means and what may be done, where that isn't said elsewhere.
 pub(crate) fn write_ending(
     out: &mut String,
-    ending: &Ending<'_>,
+    ending: &HowEnded<'_>,
     text: Option<&ScriptText>,
 ) -> Result<(), AllocError> {
     match ending {
-        Ending::Missing(name) | Ending::Unreadable(name) | Ending::NotText(name) => {
+        HowEnded::Missing(name) | HowEnded::Unreadable(name) | HowEnded::NotText(name) => {
             write_input(out, name, text)?;
         }
-        Ending::Driver(action, _) => write_action(out, *action, text)?,
+        HowEnded::Driver(action, _) => write_action(out, *action, text)?,
+        HowEnded::Exists(path) | HowEnded::Device(path) => write_save(out, path, text)?,
         _ => {}
     }
     out.push_str(advice(ending))
@@ -73,33 +74,41 @@ fn write_action(
     }
 }
 
+/// Writes the line of the action that saves to a path.
+fn write_save(out: &mut String, path: &str, text: Option<&ScriptText>) -> Result<(), AllocError> {
+    match text {
+        Some(text) => text.write_save(out, path),
+        None => Ok(()),
+    }
+}
+
 /// What may be done.
-fn advice(ending: &Ending<'_>) -> &'static str {
+pub(crate) fn advice(ending: &HowEnded<'_>) -> &'static str {
     match ending {
-        Ending::Plain | Ending::Script(_) | Ending::Plan(_) | Ending::Aborted(_) => "",
-        Ending::Missing(_) => {
+        HowEnded::Plain | HowEnded::Script(_) | HowEnded::Plan(_) | HowEnded::Aborted(_) => "",
+        HowEnded::Missing(_) => {
             "  names are looked up from the folder in which the program runs\n"
         }
-        Ending::Unreadable(_) => {
+        HowEnded::Unreadable(_) => {
             "  it is there and can't be read: is it a folder, or for others?\n"
         }
-        Ending::NotText(_) => {
+        HowEnded::NotText(_) => {
             "  an input is lines of UTF-8: is it packed, or of another encoding?\n"
         }
-        Ending::Driver(_, DriverFault::EmptyCollection) => {
+        HowEnded::Driver(_, DriverFault::EmptyCollection) => {
             "  there is no row to reduce: count the rows, or add one of your own\n"
         }
-        Ending::Driver(_, DriverFault::Raised(_)) => {
+        HowEnded::Driver(_, DriverFault::Raised(_)) => {
             "  its expression raises where the partitions' results are put together\n"
         }
-        Ending::Exists => {
+        HowEnded::Exists(_) => {
             "  a directory that is there is never written to: remove it, or save to another\n"
         }
-        Ending::Device => "  is the directory writable, and is there room on the disk?\n",
-        Ending::Unwritten => {
+        HowEnded::Device(_) => "  is the directory writable, and is there room on the disk?\n",
+        HowEnded::Unwritten => {
             "  the standard output took no more: is it closed, or its disk full?\n"
         }
-        Ending::OutOfMemory => {
+        HowEnded::OutOfMemory => {
             "  each input is held whole: give the run more memory, or less to read\n"
         }
     }

@@ -1,7 +1,9 @@
 //! The files of a check.
 #![tactic(auto)]
 
-use crate::checks::{Checked, Finding, check_bytes};
+use crate::checks::{CheckFinding, Checked, Checking};
+use crate::endings::{HowEnded, advice};
+use crate::sizes::sizes_of;
 use sc_base::OrMemory;
 use sc_misuse::explain_words;
 use sc_value::{Name, Octets};
@@ -11,7 +13,8 @@ use std::rt::Runtime;
 use std::{fs, io};
 
 /// Reads the script that words name, and its plan, and tells their faults, the definitions that no
-/// action reads, and the lines of the plan that can't come due.
+/// action reads, those that make many partitions of few rows, and the lines of the plan that can't
+/// come due.
 pub fn check<R: Runtime + AllocGlobal>(rt: &R, words: &[String]) -> io::Result<Checked> {
     let alloc = rt.alloc();
     let as_run = run_words(alloc, words)?;
@@ -39,15 +42,15 @@ fn run_words(alloc: Global, words: &[String]) -> Result<Vec<String>, AllocError>
 /// What is found of words that are no command.
 fn refuse(alloc: Global, words: &[String]) -> Result<Checked, AllocError> {
     let text = explain_words(alloc, words)?;
-    let finding = Finding::Usage;
+    let finding = CheckFinding::Usage;
     Ok(Checked::Read { finding, text })
 }
 
 /// What is found of a command.
 fn check_command<R: Runtime + AllocGlobal>(rt: &R, command: &Command) -> io::Result<Checked> {
-    match file_of(rt, &command.script)? {
-        Some(script) => check_script(rt, command, &script),
-        None => Ok(Checked::Unread(command.script.copy(rt.alloc())?)),
+    match file_of(rt, &command.script) {
+        Ok(script) => check_script(rt, command, &script),
+        Err(error) => unread(rt.alloc(), &command.script, error.kind()),
     }
 }
 
@@ -57,19 +60,37 @@ fn check_script<R: Runtime + AllocGlobal>(
     command: &Command,
     script: &Octets,
 ) -> io::Result<Checked> {
-    let Some(name) = &command.plan else {
-        return Ok(check_bytes(rt.alloc(), command, script, None)?);
+    let sizes = sizes_of(rt, script)?;
+    let checking = Checking {
+        command,
+        script,
+        sizes: sizes.as_slice(),
     };
-    match file_of(rt, name)? {
-        Some(plan) => Ok(check_bytes(rt.alloc(), command, script, Some(&plan))?),
-        None => Ok(Checked::Unread(name.copy(rt.alloc())?)),
+    let Some(name) = &command.plan else {
+        return Ok(checking.finish(rt.alloc(), None)?);
+    };
+    match file_of(rt, name) {
+        Ok(plan) => Ok(checking.finish(rt.alloc(), Some(&plan))?),
+        Err(error) => unread(rt.alloc(), name, error.kind()),
     }
 }
 
-/// The bytes of a file, where it can be read.
-fn file_of<R: Runtime + AllocGlobal>(rt: &R, name: &Name) -> io::Result<Option<Octets>> {
-    match fs::read(rt, name.as_str()) {
-        Ok(bytes) => Ok(Some(Octets::new(rt.alloc(), bytes)?)),
-        Err(_) => Ok(None),
-    }
+/// The bytes of a file.
+pub(crate) fn file_of<R: Runtime + AllocGlobal>(rt: &R, name: &Name) -> io::Result<Octets> {
+    let bytes = fs::read(rt, name.as_str())?;
+    Ok(Octets::new(rt.alloc(), bytes)?)
+}
+
+/// What is found where a file can't be read, for an error of this kind.
+fn unread(alloc: Global, name: &Name, kind: io::ErrorKind) -> io::Result<Checked> {
+    let (missing, ending) = match kind {
+        io::ErrorKind::OutOfMemory => return Err(io::Error::from(AllocError)),
+        io::ErrorKind::NotFound => (true, HowEnded::Missing("")),
+        _ => (false, HowEnded::Unreadable("")),
+    };
+    Ok(Checked::Unread {
+        name: name.copy(alloc)?,
+        missing,
+        advice: advice(&ending),
+    })
 }

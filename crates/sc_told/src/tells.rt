@@ -1,7 +1,7 @@
 //! What is told of a run.
 #![tactic(auto)]
 
-use crate::endings::{Ending, write_ending};
+use crate::endings::{HowEnded, write_ending};
 use crate::known::Known;
 use crate::reads::{plan_bytes, script_bytes, text_of};
 use crate::words::Asked;
@@ -10,11 +10,12 @@ use sc_core::JobHistory;
 use sc_ids::Limits;
 use sc_mistakes::explain_script;
 use sc_misuse::{explain_plan, explain_words};
-use sc_plan::{Plan, PlanFault};
+use sc_plan::PlanFault;
 use sc_read::Read;
 use sc_script::ScriptFault;
 use sc_story::{
-    Track, lined_plan, write_abort, write_history, write_summary, write_undue, write_unread,
+    Aborted, Lined, lined_plan, write_abort, write_history, write_summary, write_undue,
+    write_unread,
 };
 use sc_words::{Command, read_words};
 use std::alloc::{AllocError, Global};
@@ -23,7 +24,7 @@ use std::alloc::{AllocError, Global};
 #[derive(Drop)]
 pub struct Told<'a> {
     /// How it ended.
-    pub ending: Ending<'a>,
+    pub ending: HowEnded<'a>,
     /// What it read.
     pub read: &'a [Read],
     /// How its jobs went.
@@ -56,8 +57,8 @@ pub fn leaves(alloc: Global, told: &Told<'_>) -> Result<String, AllocError> {
 /// What helps behind a command.
 fn tell_command(alloc: Global, command: &Command, told: &Told<'_>) -> Result<String, AllocError> {
     match &told.ending {
-        Ending::Script(fault) => tell_script(alloc, command, told.read, *fault),
-        Ending::Plan(fault) => tell_plan(alloc, command, told.read, *fault),
+        HowEnded::Script(fault) => tell_script(alloc, command, told.read, *fault),
+        HowEnded::Plan(fault) => tell_plan(alloc, command, told.read, *fault),
         _ => tell_run(alloc, command.limits, told),
     }
 }
@@ -128,31 +129,35 @@ fn write_known(
 ) -> Result<(), AllocError> {
     let text = known.text.as_ref();
     let track = &known.track;
-    if let Ending::Aborted(abort) = &told.ending {
-        write_abort(alloc, out, *abort, told.history, track, text, limits)?;
+    let plan = &known.plan;
+    let lined = lines_of_plan(alloc, told.read)?;
+    let lined = lined.as_slice();
+    if let HowEnded::Aborted(abort) = &told.ending {
+        let aborted = Aborted {
+            abort: *abort,
+            history: told.history,
+            track,
+            text,
+            limits,
+            plan,
+            lined,
+            read: told.read,
+        };
+        write_abort(alloc, out, aborted)?;
     }
     write_ending(out, &told.ending, text)?;
     write_summary(out, track, told.given_up)?;
-    write_waiting(alloc, out, told.read, &known.plan, track)?;
+    write_undue(out, plan, lined, track)?;
     match text {
         Some(text) => write_unread(alloc, out, text),
         None => Ok(()),
     }
 }
 
-/// Writes which lines of the plan never came due.
-fn write_waiting(
-    alloc: Global,
-    out: &mut String,
-    read: &[Read],
-    plan: &Plan,
-    track: &Track,
-) -> Result<(), AllocError> {
+/// The lines of the plan of a run; none where none was read.
+fn lines_of_plan(alloc: Global, read: &[Read]) -> Result<Vec<Lined>, AllocError> {
     match plan_bytes(read) {
-        Some(bytes) => {
-            let lines = lined_plan(alloc, bytes)?;
-            write_undue(out, plan, lines.as_slice(), track)
-        }
-        None => Ok(()),
+        Some(bytes) => lined_plan(alloc, bytes),
+        None => Ok(Vec::new(alloc)),
     }
 }

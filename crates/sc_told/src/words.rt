@@ -14,7 +14,7 @@ pub struct Asked {
     pub history: Option<String>,
     /// Where the page goes.
     pub page: Option<String>,
-    /// Whether tasks are shown as they begin.
+    /// Whether it is shown how far the run is.
     pub progress: bool,
 }
 
@@ -37,8 +37,18 @@ struct Given<'a> {
 
 /// Whether words ask for a check, and for no run.
 pub fn asks_check(words: &[String]) -> bool {
+    begin_with(words, "check")
+}
+
+/// Whether words ask for a run of the generator's script.
+pub fn asks_generated(words: &[String]) -> bool {
+    begin_with(words, "gen")
+}
+
+/// Whether a word is the first of all.
+fn begin_with(words: &[String], first: &str) -> bool {
     match words.first() {
-        Some(word) => word.as_str() == "check",
+        Some(word) => word.as_str() == first,
         None => false,
     }
 }

@@ -1,6 +1,7 @@
 -- Items that are kept.
-use Rattle.std.proofs.Common.{◌≡◌, ◌∙◌, ℕ, zero, suc, ◌+◌, ◌<◌, ◌≤◌, min, Bool, true, false, List, [], ◌∷◌, ◌++◌, length, map, drop, get_or, refl, ap, sym, arith, add-one}
-use Rattle.std.proofs.lemmas.List.{drop_more, append_assoc, append-nil, length-drop}
+use Rattle.std.proofs.Common.{◌≡◌, ◌∙◌, ℕ, zero, suc, ◌+◌, ◌<◌, ◌≤◌, min, Bool, true, false, List, [], ◌∷◌, ◌++◌, length, map, take, drop, get_or, slice_set, refl, ap, sym, arith, add-one}
+use Rattle.std.proofs.lemmas.List.{drop_more, append_assoc, append-nil, length-drop, take-set, take_more_set}
+use Rattle.std.specs.Int.{from_bool}
 use Rattle.std.specs.List.{All}
 use Rattle.std.proofs.lemmas.List.Elements.{All-head, All-tail, All-cons, All-nil}
 use Rattle.sc_value.specs.Kept.{kept}
@@ -65,3 +66,22 @@ kept_all bs xs out all i past before =
     let none = kept_past (drop i bs) (drop i xs)
     (omega (arith, length-drop i bs, length-drop i xs)) in
     sym (append-nil out) ∙ ap (λ k. out ++ k) (sym none) ∙ before
+
+-- one place more, whose item is written and stays where the place is marked
+pub kept_next : {X : Type 0} (bs : List Bool) (xs out all : List X) (n m i : ℕ) (b : Bool) (x : X)
+    → i < length bs → i < length xs → n < length out
+    → get_or bs i false ≡ b → m ≡ from_bool b → x ≡ get_or xs i x
+    → take n out ++ kept (drop i bs) (drop i xs) ≡ all
+    → take (n + m) (slice_set out n x) ++ kept (drop (i + 1) bs) (drop (i + 1) xs) ≡ all
+kept_next bs xs out all n m i true x p q r mark step at before =
+    kept_yes bs xs (take n out) _ all i x p q mark at
+    (ap (λ k. take (n + k) (slice_set out n x)) step ∙ take_more_set out n x r) before
+kept_next bs xs out all n m i false x p q r mark step at before =
+    let stays : n + m ≡ n = omega (arith, step) in
+    kept_no bs xs (take n out) _ all i p q mark
+    (ap (λ k. take k (slice_set out n x)) stays ∙ take-set out n x) before
+
+-- a mark counts for one at most
+pub step_below : (b : Bool) (m : ℕ) → m ≡ from_bool b → m ≤ 1
+step_below true m step = omega (arith, step)
+step_below false m step = omega (arith, step)

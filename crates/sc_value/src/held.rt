@@ -80,17 +80,19 @@ impl<T: Drop> Held<T> {
     }
 }
 
-/// The items whose place is marked.
+/// The items whose place is marked. Each item is written where the next kept one belongs, and stays
+/// there if its place is marked: so marks in no order cost no more than others.
 pub fn kept_items<T: Copy>(alloc: Global, items: &[T], marks: &[bool]) -> Result<Vec<T>, AllocError>
     ensures { IfOk result (λ v. v.items ≡ kept marks.now items.now) }
 {
     let end = items.len().min(marks.len());
-    let mut out = Vec::with_capacity(alloc, end)?;
+    let mut out = Vec::from_slice(alloc, &items[..end])?;
+    let mut n = 0;
     for i in 0..end {
-        if marks[i] {
-            out.push(items[i])?;
-        }
+        out[n] = items[i];
+        n += usize::from(marks[i]);
     }
+    out.truncate(n);
     Ok(out)
 }
 

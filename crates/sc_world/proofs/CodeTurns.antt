@@ -46,6 +46,7 @@ use Rattle.sc_desk.specs.DeskData.{DeskData, core_of}
 use Rattle.sc_desk.specs.Dues.{IsDueReport, IsOrderedIf, is_any_out}
 use Rattle.sc_desk.specs.Entries.{Enters}
 use Rattle.sc_desk.specs.Orders.{ComesNext, IsDueOrder, after_order, orders_left}
+use Rattle.sc_desk.specs.Sound.{IsSoundDesk}
 use Rattle.sc_desk.proofs.OrderLemmas.{next_orders_are_due}
 use Rattle.sc_world.specs.Runs.{IsWorld}
 use Rattle.sc_world.specs.declared.steps.Kept.{Kept}
@@ -198,20 +199,22 @@ no_more work w after is runs = (
 -- ---- turns of the driver
 
 pub losses_turn : (work : WorkData) (w after : WorldData) (exec : ℕ) (answer : Answer)
-    → IsSoundCore (core_in w) → IsResting w → LosesOne w exec answer after → Turns work w after
-losses_turn work w after exec answer sound rests r =
+    → IsSoundCore (core_in w) → IsResting w → LosesOne w exec answer after
+    → IsSoundDesk work after.desk → Turns work w after
+losses_turn work w after exec answer sound rests r desk =
     record {
-      on = loses_on work w after exec answer r;
+      on = loses_on work w after exec answer r desk;
       rests = λ e. ap (λ (x : WorldData). held_at x e) r.is ∙ rests e;
       less = spent work w after _ _ r.receipt.answer r.desk sound r.tells.enters
           (ap (λ (x : WorldData). x.desk) r.is) refl;
     }
 
 pub releases_turn : (work : WorkData) (w after : WorldData) (key : ℕ) (answer : Answer)
-    → IsSoundCore (core_in w) → IsResting w → ReleasesOne w key answer after → Turns work w after
-releases_turn work w after key answer sound rests r =
+    → IsSoundCore (core_in w) → IsResting w → ReleasesOne w key answer after
+    → IsSoundDesk work after.desk → Turns work w after
+releases_turn work w after key answer sound rests r desk =
     record {
-      on = releases_on work w after key answer r;
+      on = releases_on work w after key answer r desk;
       rests = λ e. ap (λ (x : WorldData). held_at x e) r.is ∙ rests e;
       less = spent work w after _ _ r.receipt.answer r.desk sound r.releases.enters
           (ap (λ (x : WorldData). x.desk) r.is) refl;
@@ -222,10 +225,10 @@ releases_turn work w after key answer sound rests r =
 pub asks_in : (work : WorkData) (w after : WorldData) (exec : ℕ) (answer : Answer)
     → IsSoundCore (core_in w) → IsSoundWorld work w → job_runs (core_in w) ≡ true → IsResting w
     → IsDueReport (core_in w) exec None → IsLive w exec → Takes w exec answer after
-    → Asks work exec w after
-asks_in work w after exec answer core sound runs rests due live r =
+    → IsSoundDesk work after.desk → Asks work exec w after
+asks_in work w after exec answer core sound runs rests due live r desk =
     record {
-      on = takes_on work w after exec answer live.there r;
+      on = takes_on work w after exec answer live.there r desk;
       alone = λ other differs.
           ap (λ (x : WorldData). held_at x other) r.is ∙ by answer other differs;
       less = spent work w after _ _ answer r.desk core r.enters
@@ -311,10 +314,10 @@ fewer_in : (w after : WorldData) (exec : ℕ) (before : AttemptData) (o : Option
 fewer_in w after exec before o was is lt = rw (was, is) lt
 
 pub reads_advance : (work : WorkData) (w after : WorldData) (exec : ℕ) → IsAlone exec w
-    → Reads w exec after → Advances work exec w after
-reads_advance work w after exec alone r =
+    → Reads w exec after → IsSoundDesk work w.desk → Advances work exec w after
+reads_advance work w after exec alone r desk =
     record {
-      on = reads_on work w after exec r;
+      on = reads_on work w after exec r desk;
       alone = λ other differs. ap (λ (x : WorldData). held_at x other) r.is
           ∙ alone_still w exec r.held alone other differs;
       fewer = fewer_in w after exec (assigned r.reads.task r.reads.got) (Some r.reads.next)
@@ -326,10 +329,11 @@ reads_advance work w after exec alone r =
     }
 
 pub computes_advance : (work : WorkData) (w after : WorldData) (exec : ℕ) (kept : Kept)
-    → IsAlone exec w → Computes work w exec kept after → Advances work exec w after
-computes_advance work w after exec kept alone r =
+    → IsAlone exec w → Computes work w exec kept after → IsSoundDesk work w.desk
+    → Advances work exec w after
+computes_advance work w after exec kept alone r desk =
     record {
-      on = computes_on work w after exec kept r;
+      on = computes_on work w after exec kept r desk;
       alone = λ other differs. ap (λ (x : WorldData). held_at x other) r.is
           ∙ alone_still w exec (Some r.next) alone other differs;
       fewer = fewer_in w after exec (assigned r.task r.got) (Some r.next) r.held
@@ -340,10 +344,11 @@ computes_advance work w after exec kept alone r =
     }
 
 pub puts_advance : (work : WorkData) (w after : WorldData) (exec : ℕ) (loc : Loc)
-    → IsAlone exec w → Puts work w exec loc after → Advances work exec w after
-puts_advance work w after exec loc alone r =
+    → IsAlone exec w → Puts work w exec loc after → IsSoundDesk work w.desk
+    → Advances work exec w after
+puts_advance work w after exec loc alone r desk =
     record {
-      on = puts_on work w after exec loc r;
+      on = puts_on work w after exec loc r desk;
       alone = λ other differs. ap (λ (x : WorldData). held_at x other) r.is
           ∙ alone_still w exec next alone other differs;
       fewer = fewer_in w after exec (computed r.task) next r.held
@@ -378,10 +383,10 @@ told_no_more c after a outcome answer sound outs step runs = by (job_runs c) ref
 
 pub posts_advance : (work : WorkData) (w after : WorldData) (exec : ℕ) (answer : Answer)
     → IsSoundCore (core_in w) → IsSoundWorld work w → IsAlone exec w
-    → Posts work w exec answer after → Advances work exec w after
-posts_advance work w after exec answer core sound alone r =
+    → Posts work w exec answer after → IsSoundDesk work after.desk → Advances work exec w after
+posts_advance work w after exec answer core sound alone r desk =
     record {
-      on = posts_on work w after exec answer r;
+      on = posts_on work w after exec answer r desk;
       alone = λ other differs. ap (λ (x : WorldData). held_at x other) r.is
           ∙ alone_still (with_desk w r.desk) exec None alone other differs;
       fewer = fewer_in w after exec (reported r.task r.finding) None r.held
@@ -477,11 +482,11 @@ handed_none work w after r = (handed_so work w after None r).1
 
 -- an order that is handed out and carried out is the driver's turn
 pub orders_turn : (work : WorkData) (w mid after : WorldData) (order : Order) → IsResting w
-    → HandsOrder work w (Some order) mid → GoesOn work mid after → after.desk ≡ mid.desk
-    → after.held ≡ mid.held → Turns work w after
-orders_turn work w mid after order rests r on desk held =
+    → HandsOrder work w (Some order) mid → IsSoundDesk work mid.desk → GoesOn work mid after
+    → after.desk ≡ mid.desk → after.held ≡ mid.held → Turns work w after
+orders_turn work w mid after order rests r sound on desk held =
     record {
-      on = goes_then work w mid after (orders_on work w mid (Some order) r) on;
+      on = goes_then work w mid after (orders_on work w mid (Some order) r sound) on;
       rests = λ e. ap (λ h. at_or h e None) (held ∙ ap (λ (x : WorldData). x.held) is) ∙ rests e;
       less = λ runs. subst (λ (d : DeskData). left_to_do (core_of d)
           + orders_left work.plan d.ordered < left_in work w)

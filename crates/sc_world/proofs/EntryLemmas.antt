@@ -117,7 +117,7 @@ goes_enter work w after step applied.Done r = does_enter work w after step appli
 runs_enter : (work : WorkData) (w after : WorldData) (xs : List Step) (answers : List Applied)
     → Runs work w xs answers after → DriverEnters w.desk after.desk
 runs_enter work w after [] [] is = same w after (desk_is after w is)
-runs_enter work w after (x ∷ xs) (a ∷ answers) (mid, goes, rest) =
+runs_enter work w after (x ∷ xs) (a ∷ answers) (mid, goes, sound, rest) =
     both w.desk mid.desk after.desk (goes_enter work w mid x a goes)
     (runs_enter work mid after xs answers rest)
 runs_enter work w after [] (a ∷ answers) bad = absurd bad

@@ -14,6 +14,7 @@ use Rattle.sc_net.specs.Tasks.{TaskData}
 use Rattle.sc_task.specs.Attempts.{AttemptData, computed, granted, staged}
 use Rattle.sc_desk.specs.DeskData.{DeskData, core_of}
 use Rattle.sc_desk.specs.Orders.{orders_left}
+use Rattle.sc_desk.specs.Sound.{IsSoundDesk}
 use Rattle.sc_world.specs.Runs.{Reaches}
 use Rattle.sc_world.specs.Serial.{Advances, IsAlone, IsNoMore, IsSameJob, left_in, steps_left}
 use Rattle.sc_world.specs.Steps.{AsksOne, GoesAside, Moves, Stages, after_ask, after_move, after_side, after_stage}
@@ -125,26 +126,26 @@ aside_advances work w exec before event answer after g alone reaches fewer =
 -- it writes its part
 pub stages_advances : (work : WorkData) (w : WorldData) (exec : ℕ) (answer : SideAnswer)
     (after : WorldData) → IsAlone exec w → Stages w exec answer after
-    → Advances work exec w after
-stages_advances work w exec answer after alone p =
+    → IsSoundDesk work after.desk → Advances work exec w after
+stages_advances work w exec answer after alone p desk =
     aside_advances work w exec (computed p.task) _ answer after p.goes alone
-    (reached_by work w after (steps.Stage exec) (applied.Noted answer) p)
+    (reached_by work w after (steps.Stage exec) (applied.Noted answer) p desk)
     (stage_fewer p.task answer)
 
 -- it asks
 pub asks_advances : (work : WorkData) (w : WorldData) (exec : ℕ) (answer : SideAnswer)
     (after : WorldData) → IsAlone exec w → AsksOne w exec answer after
-    → Advances work exec w after
-asks_advances work w exec answer after alone p =
+    → IsSoundDesk work after.desk → Advances work exec w after
+asks_advances work w exec answer after alone p desk =
     aside_advances work w exec (staged p.task) _ answer after p.goes alone
-    (reached_by work w after (steps.Ask exec) (applied.Noted answer) p)
+    (reached_by work w after (steps.Ask exec) (applied.Noted answer) p desk)
     (ask_fewer p.task answer)
 
 -- it moves its part
 pub moves_advances : (work : WorkData) (w : WorldData) (exec : ℕ) (answer : SideAnswer)
     (after : WorldData) → IsAlone exec w → Moves w exec answer after
-    → Advances work exec w after
-moves_advances work w exec answer after alone p =
+    → IsSoundDesk work after.desk → Advances work exec w after
+moves_advances work w exec answer after alone p desk =
     aside_advances work w exec (granted p.task) _ answer after p.goes alone
-    (reached_by work w after (steps.Move exec) (applied.Noted answer) p)
+    (reached_by work w after (steps.Move exec) (applied.Noted answer) p desk)
     (move_fewer p.task answer)

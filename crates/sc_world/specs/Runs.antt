@@ -19,11 +19,13 @@ use Rattle.sc_world.specs.WorldData.{WorldData, core_in, held_at, world_data}
 use Rattle.sc_world.specs.declared.steps.Applied.{Applied}
 use Rattle.sc_world.specs.declared.steps.Step.{Step}
 
--- what some steps answer and leave, one after the other
+-- what some steps answer and leave, one after the other, each of which leaves a desk that is right
+-- by its type
 abbrev pub Runs : WorkData → WorldData → List Step → List Applied → WorldData → Type 0
 Runs work w [] [] after = after ≡ w
 Runs work w (step ∷ rest) (answer ∷ answers) after =
-    (mid : WorldData) × Goes work w step answer mid × Runs work mid rest answers after
+    (mid : WorldData) × Goes work w step answer mid × IsSoundDesk work mid.desk
+    × Runs work mid rest answers after
 Runs work w steps answers after = ⊥
 
 -- some steps lead from a world to another

@@ -75,7 +75,9 @@ impl<W: Naming> World<W> {
     {
         let mut answers = Vec::with_capacity(alloc, steps.len())?;
         for step in steps {
-            answers.push(self.apply(alloc, output, *step)?)?;
+            let answer = self.apply(alloc, output, *step)?;
+            self.has_sound_desk();
+            answers.push(answer)?;
         }
         Ok(answers)
     }

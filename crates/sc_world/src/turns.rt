@@ -36,6 +36,7 @@ impl<W: Naming> World<W> {
         match self.desk.due_loss() {
             Some(lost) => {
                 self.tell_lost(lost)?;
+                self.has_sound_desk();
                 Ok(true)
             }
             None => self.tell_next(exec),
@@ -55,6 +56,7 @@ impl<W: Naming> World<W> {
         match self.desk.due_report(exec) {
             Some(key) => {
                 self.release(key)?;
+                self.has_sound_desk();
                 Ok(true)
             }
             None => Ok(self.order_next(exec)),
@@ -73,6 +75,7 @@ impl<W: Naming> World<W> {
         self.is_world();
         match self.next_order() {
             Some(order) => {
+                self.has_sound_desk();
                 self.carry_out(order);
                 true
             }
@@ -90,6 +93,7 @@ impl<W: Naming> World<W> {
         ensures held { self.new.held ≡ self.old.held }
         ensures obeys { CarriesOut W.work order self.old self.new }
     {
+        self.has_sound_desk();
         match order.kind {
             OrderKind::Drop | OrderKind::Lose => {
                 let _ = self.wipe(order);
@@ -133,6 +137,7 @@ impl<W: Naming> World<W> {
     {
         self.is_world();
         let _ = self.take(alloc, exec)?;
+        self.has_sound_desk();
         Ok(())
     }
 
@@ -204,6 +209,7 @@ impl<W: Naming> World<W> {
             }
             AttemptState::Reports => {
                 let _ = self.post(exec)?;
+                self.has_sound_desk();
                 Ok(())
             }
             AttemptState::Idle => unreachable!(),
@@ -229,13 +235,24 @@ impl<W: Naming> World<W> {
             output.old output.new }
     {
         self.is_world();
-        let _ = match self.phase(exec) {
-            AttemptState::Stages => self.stage(alloc, output, exec)?,
-            AttemptState::Asks => self.ask(exec)?,
-            AttemptState::Moves => self.move_part(alloc, output, exec)?,
+        match self.phase(exec) {
+            AttemptState::Stages => {
+                let _ = self.stage(alloc, output, exec)?;
+                self.has_sound_desk();
+                Ok(())
+            }
+            AttemptState::Asks => {
+                let _ = self.ask(exec)?;
+                self.has_sound_desk();
+                Ok(())
+            }
+            AttemptState::Moves => {
+                let _ = self.move_part(alloc, output, exec)?;
+                self.has_sound_desk();
+                Ok(())
+            }
             _ => unreachable!(),
-        };
-        Ok(())
+        }
     }
 
     /// Whether an executor has an attempt out.

@@ -7,7 +7,7 @@ ghost use Rattle.sc_core.specs.Journals.{Replays};
 ghost use Rattle.sc_core.specs.declared.answers.JobState.TheVariants.{Done};
 ghost use Rattle.sc_desk.specs.Begins.{FitsLast, IsPassedFor};
 ghost use Rattle.sc_desk.specs.DeskData.{core_of};
-ghost use Rattle.sc_desk.specs.Sound.{AreAllResults, AreEvident};
+ghost use Rattle.sc_desk.specs.Sound.{AreAllResults, AreEvident, IsSoundDesk};
 ghost use Rattle.sc_world.specs.Runs.{AreReady, HasBegun, IsWorld, idle_world};
 ghost use Rattle.sc_world.specs.Sound.{IsSoundWorld};
 ghost use Rattle.sc_world.specs.Steps.{phase_of};
@@ -118,6 +118,13 @@ impl<W: Naming> World<W> {
         ensures { IsWorld W.work self.now }
     {
         let _ = &self.held;
+    }
+
+    /// What every desk keeps, of its own.
+    pub(crate) fn has_sound_desk(&self)
+        ensures { IsSoundDesk W.work self.now.desk }
+    {
+        self.is_world();
     }
 
     /// The desk and the stores as they are. What executors have out is let go.

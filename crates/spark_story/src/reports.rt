@@ -81,16 +81,28 @@ fn leave<R: Runtime + AllocGlobal>(
 /// Prints what a check of what words name finds, and gives the exit status.
 pub(crate) fn report_check<R: Runtime + AllocGlobal>(rt: &R, words: &[String]) -> u8 {
     match check(rt, words) {
-        Ok(Checked::Read { finding, text }) => {
+        Ok(checked) => report_checked(rt, checked),
+        Err(error) => report_start(rt, error.kind()),
+    }
+}
+
+/// Prints what a check came to, and gives the exit status.
+fn report_checked<R: Eprint + AllocGlobal>(rt: &R, checked: Checked) -> u8 {
+    match checked {
+        Checked::Read { finding, text } => {
             let number = report(rt, &status_of(finding));
             let _ = rt.eprint(text);
             number
         }
-        Ok(Checked::Unread(name)) => {
-            let missing = true;
-            report(rt, &Status::Input { name, missing })
+        Checked::Unread {
+            name,
+            missing,
+            advice,
+        } => {
+            let number = report(rt, &Status::Input { name, missing });
+            let _ = rt.eprint(advice);
+            number
         }
-        Err(error) => report_start(rt, error.kind()),
     }
 }
 
@@ -102,6 +114,9 @@ pub(crate) fn report_start<R: Eprint + AllocGlobal>(rt: &R, kind: io::ErrorKind)
         _ => Status::Usage,
     };
     let number = report(rt, &status);
+    if let Status::Usage = status {
+        let _ = rt.eprint("  a word isn't UTF-8\n");
+    }
     let _ = rt.eprint(synopsis());
     number
 }

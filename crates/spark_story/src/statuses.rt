@@ -2,38 +2,38 @@
 #![tactic(auto)]
 
 use sc_app::Status;
-use sc_told::{Ending, Finding};
+use sc_told::{CheckFinding, HowEnded};
 
 /// How a run of a status ended, as far as more is told of it.
-pub(crate) fn ending_of(status: &Status) -> Ending<'_> {
+pub(crate) fn ending_of(status: &Status) -> HowEnded<'_> {
     match status {
-        Status::Done | Status::Usage => Ending::Plain,
-        Status::Script(fault) => Ending::Script(*fault),
-        Status::Plan(fault) => Ending::Plan(*fault),
+        Status::Done | Status::Usage => HowEnded::Plain,
+        Status::Script(fault) => HowEnded::Script(*fault),
+        Status::Plan(fault) => HowEnded::Plan(*fault),
         Status::Input { name, missing } => {
             let name = name.as_str();
             if *missing {
-                Ending::Missing(name)
+                HowEnded::Missing(name)
             } else {
-                Ending::Unreadable(name)
+                HowEnded::Unreadable(name)
             }
         }
-        Status::Aborted(abort) => Ending::Aborted(*abort),
-        Status::DriverFault { action, kind } => Ending::Driver(*action, *kind),
-        Status::OutputExists { .. } => Ending::Exists,
-        Status::Device { .. } => Ending::Device,
-        Status::WriteFault => Ending::Unwritten,
-        Status::OutOfMemory => Ending::OutOfMemory,
-        Status::NotText { name } => Ending::NotText(name.as_str()),
+        Status::Aborted(abort) => HowEnded::Aborted(*abort),
+        Status::DriverFault { action, kind } => HowEnded::Driver(*action, *kind),
+        Status::OutputExists { dir } => HowEnded::Exists(dir.as_str()),
+        Status::Device { path } => HowEnded::Device(path.as_str()),
+        Status::WriteFault => HowEnded::Unwritten,
+        Status::OutOfMemory => HowEnded::OutOfMemory,
+        Status::NotText { name } => HowEnded::NotText(name.as_str()),
     }
 }
 
 /// The status of a run that would find the same.
-pub(crate) fn status_of(finding: Finding) -> Status {
+pub(crate) fn status_of(finding: CheckFinding) -> Status {
     match finding {
-        Finding::Whole => Status::Done,
-        Finding::Usage => Status::Usage,
-        Finding::Script(fault) => Status::Script(fault),
-        Finding::Plan(fault) => Status::Plan(fault),
+        CheckFinding::Whole => Status::Done,
+        CheckFinding::Usage => Status::Usage,
+        CheckFinding::Script(fault) => Status::Script(fault),
+        CheckFinding::Plan(fault) => Status::Plan(fault),
     }
 }

@@ -5,7 +5,9 @@ use Rattle.sc_app.proofs.WithoutTextLemmas.{tells_driver_fault, tells_never}
 use Rattle.sc_app.proofs.ExistsLemmas.{tells_exists}
 use Rattle.sc_app.proofs.GoodLemmas.{ends_well, zero_means_text}
 use Rattle.sc_app.proofs.JobLemmas.{zero_shows_jobs}
+use Rattle.sc_app.proofs.KeptLemmas.{given-kept, logged-kept}
 use Rattle.sc_app.proofs.SourceLemmas.{over_out, over_weaker}
+use Rattle.sc_app.proofs.SurvivalLemmas.{good_runs_survive}
 use Rattle.sc_app.proofs.command.run.Goals as goal
 
 pub returns-clause-reads : goal.returns-clause-reads
@@ -44,6 +46,11 @@ returns-clause-ends g c =
 pub returns-clause-good : goal.returns-clause-good
 returns-clause-good g c =
     over_weaker _ _ _ (λ before after is. ends_well c.meaning_is_lawful.ensures.saves
+    c.laws_of_names.ensures.within _ _ _ _ is.ends) _ _ c.run_words-status.ensures.run
+
+pub returns-clause-survives : goal.returns-clause-survives
+returns-clause-survives g c =
+    over_weaker _ _ _ (λ before after is. good_runs_survive c.meaning_is_lawful.ensures.saves
     c.laws_of_names.ensures.within _ _ _ _ is.ends) _ _ c.run_words-status.ensures.run
 
 pub returns-clause-usage : goal.returns-clause-usage
@@ -88,6 +95,14 @@ returns-clause-plan_exactly g c =
 
 pub returns-clause-no_failure : goal.returns-clause-no_failure
 returns-clause-no_failure g c =
-    over_out _ _ _
+    over_weaker _ _ _
     (λ before after is. tells_no_failure c.scripts_have_one_reading.ensures
     c.plans_have_one_reading.ensures _ _ _ _ is.ends) _ _ c.run_words-status.ensures.run
+
+pub returns-clause-logged : goal.returns-clause-logged
+returns-clause-logged g c = logged-kept _ _ _ c.run_words-status.ensures.kept
+
+pub returns-clause-given_up : goal.returns-clause-given_up
+returns-clause-given_up g c =
+    given-kept c.scripts_have_one_reading.ensures c.plans_have_one_reading.ensures _ _ _
+    c.run_words-status.ensures.kept

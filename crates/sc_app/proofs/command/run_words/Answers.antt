@@ -1,4 +1,4 @@
-use Rattle.std.proofs.Common.{map}
+use Rattle.std.proofs.Common.{inl, map}
 use Rattle.std.specs.String.{string_bytes}
 use Rattle.sc_base.specs.Outside.{outside_of}
 use Rattle.sc_context.specs.Records.{histories_of}
@@ -23,3 +23,13 @@ returns-in-OutOfMemory-clause-run g c =
     given_up statuses.OutOfMemory) (g.S.Source.state c.args.source.now)
     (λ source. no-memory-yet words reads histories given_up source sink files c.requires.empty
     c.requires.none_ran)
+
+pub returns-in-Ok-clause-kept : goal.returns-in-Ok-clause-kept
+returns-in-Ok-clause-kept g c =
+    c.run_command.ensures.kept (map string_bytes c.args.words.now) c.in-Ok.ensures.command.1
+
+pub returns-in-Fault-clause-kept : goal.returns-in-Fault-clause-kept
+returns-in-Fault-clause-kept g c = inl c.requires.kept
+
+pub returns-in-OutOfMemory-clause-kept : goal.returns-in-OutOfMemory-clause-kept
+returns-in-OutOfMemory-clause-kept g c = inl c.requires.kept

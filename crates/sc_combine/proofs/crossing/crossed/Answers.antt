@@ -55,8 +55,8 @@ picked-requires-3 c =
     subst (ArePlaces c.right.inside.values) (sym c.deref-3.ensures.value)
     c.loop-j.invariant.right_places
 
-pub returns : goal.returns
-returns c =
+pub returns-clause-are : goal.returns-clause-are
+returns-clause-are c =
     let keys = c.args.keys.now in
     let a = c.left.inside in
     let b = c.right.inside in

@@ -21,8 +21,8 @@ of_buckets-requires-clause-below c =
     (All-weaker (λ r. r ≤ length c.args.bounds.now) (λ r. r < c.len-2.result + 1)
     (λ r within. omega arith) c.in_ok-ranges.ranges.items c.in_ok-ranges.ensures.below)
 
-pub returns : goal.returns
-returns c =
+pub returns-clause-dealt : goal.returns-clause-dealt
+returns-clause-dealt c =
     let rows = c.args.rows.now in
     let bounds = c.args.bounds.now in
     λ m. c.in_ok-dealt.ensures (by_range bounds) m

@@ -14,8 +14,8 @@ of_buckets-requires-clause-level c =
     ∙ ap (λ k. map (turn_of m n) (numbers_below k)) c.len-2.ensures ∙ turn_buckets n m 0 rows)
     ∙ length-buckets (in_turn n) m 0 rows
 
-pub returns : goal.returns
-returns c =
+pub returns-clause-dealt : goal.returns-clause-dealt
+returns-clause-dealt c =
     let rows = c.args.rows.now in
     let n = c.args.n in
     let m = c.args.m in

@@ -20,8 +20,8 @@ loop-i-preserved c =
           (omega (arith, w.if-numbers-i.false, c.len.ensures)) c.loop-i.invariant)
     ]
 
-pub returns : goal.returns
-returns c =
+pub returns-clause-are : goal.returns-clause-are
+returns-clause-are c =
     let out = c.loop-i.places.items in
     sym (append-nil out)
     ∙ ap (λ ns. out ++ firsts_from (length out) c.loop-i.i ns)

@@ -19,7 +19,7 @@ picked-requires c =
     ap length (c.deref.ensures.value ∙ c.in_ok-groups.ensures.are)
     ∙ length-map keys (place_in is_same_key (distinct is_same_key keys))
     ∙ ap length c.in_ok-column.ensures ∙ length-map firsts key_in in
-    subst (ArePlaces firsts) (sym (c.deref-2.ensures.value ∙ c.in_ok-places.ensures))
+    subst (ArePlaces firsts) (sym (c.deref-2.ensures.value ∙ c.in_ok-places.ensures.are))
     (subst (λ n. All (λ p. p < n) (firsts_from 0 0 numbers)) level (firsts_inside numbers))
 
 pub returns : goal.returns
@@ -37,7 +37,7 @@ returns c =
           ∙ ap (λ ks. length (distinct is_same_key ks)) c.in_ok-column.ensures);
       keys = keys_are rows firsts column c.in_ok-keys.keys numbers c.deref-2.result.now
           c.in_ok-keys.ensures
-          (c.deref-2.ensures.value ∙ c.in_ok-places.ensures
+          (c.deref-2.ensures.value ∙ c.in_ok-places.ensures.are
           ∙ ap (firsts_from 0 0) c.deref.ensures.value)
           are;
     }

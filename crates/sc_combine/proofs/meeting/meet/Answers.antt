@@ -14,6 +14,6 @@ crossed-requires c = record {
 
 pub returns-in_ok-rows-in-Join : goal.returns-in_ok-rows-in-Join
 returns-in_ok-rows-in-Join c =
-    c.in_ok-rows-in-Join.ensures
+    c.in_ok-rows-in-Join.ensures.are
     ∙ crossed_is c.args.left.now c.args.right.now c.in_ok-sides.sides c.in_ok-sides.ensures
     ∙ ap (λ kind. met kind c.args.left.now c.args.right.now) (sym c.in-Join.is)

@@ -22,4 +22,4 @@ returns-in-Range c =
     (sym c.partitioner.ensures ∙ ap partitioner_data_of c.in-Range.is) in
     IfOk-weaker c.dealt_by_range.result _ _
     (λ d deals. subst (λ (dealing : Dealing). IsDealt dealing c.args.m c.args.rows.now d) (sym is)
-    (deals c.args.m)) c.dealt_by_range.ensures
+    (deals c.args.m)) c.dealt_by_range.ensures.dealt

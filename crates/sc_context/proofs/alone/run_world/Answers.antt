@@ -1,4 +1,3 @@
-use Rattle.std.proofs.Common.{ap, sym}
 use Rattle.sc_staging.specs.Outputs.{output_files}
 use Rattle.sc_context.proofs.SerialLemmas.{comes_alone, counted_alone, entered_alone, stands_left}
 use Rattle.sc_context.proofs.alone.run_world.Goals as goal

@@ -1,11 +1,10 @@
 use Rattle.std.proofs.Common.{◌≡◌, ◌∙◌, inl, inr, List, [], ◌∷◌, ◌++◌, Some, ap, subst, sym}
 use Rattle.std.specs.Option.{option_to_list}
-use Rattle.sc_context.specs.Endings.{given_by}
-use Rattle.sc_context.specs.Goings.{HasRun, IsLeftOver, RunsFrom}
+use Rattle.sc_context.specs.Endings.{CanBeKept, given_by}
+use Rattle.sc_context.specs.Goings.{HasRun, RunsFrom}
 use Rattle.sc_context.specs.Records.{tried_in}
 use Rattle.sc_core.specs.declared.journals.JobHistory.{JobHistory}
 use Rattle.sc_context.specs.declared.records.GaveUp.{GaveUp}
-use Rattle.sc_context.specs.declared.records.Records.{Records}
 use Rattle.sc_context.proofs.EndingLemmas.{histories_more}
 use Rattle.sc_context.proofs.endings.end_job.Goals as goal
 
@@ -60,20 +59,13 @@ returns-in-Refused-clause-over g c passed last to dir opened runs =
     let state = g.F.Files.state in
     let gave_up = c.in-Refused.gave_up in
     let from = subst (RunsFrom work state passed last to dir opened) c.in-Refused.is runs in
-    let left = c.without_memory in
-    let records = left.ensures.records in
     inr (
-      left.ensures.why,
-      ◌∙◌ {A = List JobHistory} (ap (λ (r : Records). r.histories.items) records)
-          c.give_up.ensures.histories,
+      c.give_up.ensures.histories,
       (
         gave_up.history,
         histories_more c.args.records.gave_up.items (Some gave_up)
-            left.result.records.gave_up.items
-            (◌∙◌ {A = List GaveUp} (ap (λ (r : Records). r.gave_up.items) records)
-            c.give_up.ensures.given),
-        subst (IsLeftOver work passed last to dir opened gave_up.history)
-            (sym left.ensures.files) from.1,
+            c.give_up.new.self.gave_up.items c.give_up.ensures.given,
+        from.1,
       ),
     )
 
@@ -93,10 +85,26 @@ returns-in-Err-clause-given_over g c =
 
 pub returns-in-Refused-clause-given_over : goal.returns-in-Refused-clause-given_over
 returns-in-Refused-clause-given_over g c =
-    let left = c.without_memory in
-    subst
-    (λ run. left.result.records.gave_up.items
+    subst (λ run. c.give_up.new.self.gave_up.items
     ≡ c.args.records.gave_up.items ++ option_to_list (given_by run))
-    (sym c.in-Refused.is)
-    (◌∙◌ {A = List GaveUp} (ap (λ (r : Records). r.gave_up.items) left.ensures.records)
-    c.give_up.ensures.given)
+    (sym c.in-Refused.is) c.give_up.ensures.given
+
+pub returns-in-Ok-clause-recorded : goal.returns-in-Ok-clause-recorded
+returns-in-Ok-clause-recorded g c =
+    let work = g.W.Naming.work in
+    c.keep.ensures.kept work
+    (c.keep_given_up.ensures.kept work c.requires.before
+    (subst (CanBeKept work) c.in-Went.is c.requires.run).1)
+
+pub returns-in-Err-clause-kept : goal.returns-in-Err-clause-kept
+returns-in-Err-clause-kept g c =
+    let work = g.W.Naming.work in
+    c.keep.ensures.kept work
+    (c.keep_given_up.ensures.kept work c.requires.before
+    (subst (CanBeKept work) c.in-Went.is c.requires.run).1)
+
+pub returns-in-Refused-clause-kept : goal.returns-in-Refused-clause-kept
+returns-in-Refused-clause-kept g c =
+    let work = g.W.Naming.work in
+    c.give_up.ensures.kept work c.requires.before
+    (subst (CanBeKept work) c.in-Refused.is c.requires.run)

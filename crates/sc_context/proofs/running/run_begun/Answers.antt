@@ -8,6 +8,7 @@ use Rattle.sc_exec.specs.Workers.{AreInPlace, HasCause, lefts_of, logs_of}
 use Rattle.sc_exec.specs.Working.{IsFresh}
 use Rattle.sc_exec.specs.declared.workers.Worker.{Worker}
 use Rattle.sc_context.proofs.RunningLemmas.{as_many, came_from, given_by, given_up_so, has_run, has_run_again, logged_by, logged_so}
+use Rattle.sc_context.proofs.StoppedLemmas.{have_stopped}
 use Rattle.sc_context.proofs.running.run_begun.Goals as goal
 
 pub work_job-desk-requires-clause-begun : goal.work_job-desk-requires-clause-begun
@@ -87,6 +88,16 @@ run_again-requires-clause-fits g c = c.requires.fits
 
 pub run_again-requires-clause-live : goal.run_again-requires-clause-live
 run_again-requires-clause-live g c = c.requires.live
+
+pub run_again-requires-clause-stopped : goal.run_again-requires-clause-stopped
+run_again-requires-clause-stopped g c =
+    let workers = c.work_job-desk.new.workers in
+    let same = with_items_is c.args.crew.workers workers
+    (c.work_job-desk.auto.workers ∙ c.deref_mut.ensures.len) in
+    have_stopped g.W.Naming.work workers c.into_logs-logs.result.0.items
+    c.into_logs-logs.result.1.items (c.into_logs-logs.ensures.logs ∙ ap logs_of same)
+    (c.into_logs-logs.ensures.lefts ∙ ap lefts_of same) c.work_job-desk.ensures.places
+    c.work_job-desk.ensures.worked
 
 pub run_again-requires-clause-cause : goal.run_again-requires-clause-cause
 run_again-requires-clause-cause g c =

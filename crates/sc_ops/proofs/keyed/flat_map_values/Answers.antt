@@ -16,7 +16,7 @@ picked-requires c =
     places_within batch firsts lists.rows c.deref-2.result.now c.in_ok-both.ensures.first
     (few_values f second_of batch c.in_ok-both.both.second c.args.end lists
     c.in_ok-both.ensures.second c.in_ok-lists.ensures)
-    (c.deref-2.ensures.value ∙ c.in_ok-places.ensures
+    (c.deref-2.ensures.value ∙ c.in_ok-places.ensures.are
     ∙ ap (numbers_times 0) (c.deref.ensures.value ∙ c.in_ok-counts.ensures))
 
 pub returns : goal.returns
@@ -34,6 +34,6 @@ returns c =
     (keyed_items batch firsts lists.rows c.in_ok-keys.keys c.in_ok-items.items c.in_ok-pairs.field-0
     c.deref-2.result.now
     c.in_ok-both.ensures.first few
-    (c.deref-2.ensures.value ∙ c.in_ok-places.ensures
+    (c.deref-2.ensures.value ∙ c.in_ok-places.ensures.are
     ∙ ap (numbers_times 0) (c.deref.ensures.value ∙ c.in_ok-counts.ensures))
     c.in_ok-keys.ensures c.in_ok-items.ensures c.in_ok-pairs.ensures)

@@ -9,3 +9,6 @@ returns-in-Err-clause-prints g c =
     (g.F.Files.state c.in-Err.failed.value) c.in-Err.ensures.back
     c.new.result.histories.items (histories_of c.new.result.gave_up.items) c.new.ensures.none
     (ap histories_of c.new.ensures.none_given)
+
+pub returns-in-Err-clause-kept : goal.returns-in-Err-clause-kept
+returns-in-Err-clause-kept g c = c.new.ensures.kept g.W.Naming.work

@@ -18,7 +18,8 @@ returns-clause-first g c =
     (IfOk-at_ok _ c.in-Ok.is c.again-begun.ensures.begun)
 
 pub returns-clause-stand : goal.returns-clause-stand
-returns-clause-stand g c = λ dir files stand.
-    again_stands g.W.Naming.work c.args.desk c.in-Ok.desk _ _ dir files
+returns-clause-stand g c = λ dir files begun stand renewed.
+    again_stands c.laws_of_files.ensures g.W.Naming.work c.args.desk c.in-Ok.desk _ _ dir files
+    begun
     (IfOk-at_ok _ c.in-Ok.is c.again-begun.ensures.begun)
-    stand
+    stand renewed

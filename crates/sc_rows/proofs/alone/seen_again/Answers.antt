@@ -1,4 +1,5 @@
 use Rattle.std.proofs.Common.{All, List, subst, sym}
+use Rattle.sc_desk.specs.Files.{FilesStand}
 use Rattle.sc_staging.specs.Outputs.{output_dir, output_files}
 use Rattle.sc_exec.specs.Workers.{AreInPlace, HasCause}
 use Rattle.sc_exec.specs.declared.workers.Worker.{Worker}
@@ -16,5 +17,9 @@ judge-went-requires-clause-places g c =
 
 pub run_alone-requires-clause-stand : goal.run_alone-requires-clause-stand
 run_alone-requires-clause-stand g c =
-    c.begun_again-desk.ensures.stand (output_dir c.worked_over-desk.result.1)
-    (output_files g.F.Files.state c.worked_over-desk.result.1) c.worked_over-desk.ensures.stand
+    subst (λ dir. FilesStand g.W.Naming.work c.begun_again-desk.result dir
+    (output_files g.F.Files.state c.renewed-output.result)) (sym c.renewed-output.ensures.dir)
+    (c.begun_again-desk.ensures.stand (output_dir c.worked_over-desk.result.1)
+    (output_files g.F.Files.state c.worked_over-desk.result.1)
+    (output_files g.F.Files.state c.renewed-output.result) c.worked_over-desk.ensures.stand
+    c.renewed-output.ensures.renewed)

@@ -1,4 +1,7 @@
 use Rattle.std.proofs.Common.{refl, ap, sym, ◌∙◌}
+use Rattle.std.proofs.lemmas.Result.{on_ok_weaker}
+use Rattle.sc_taskset.specs.Lists.{IsOnOneMore}
+use Rattle.sc_taskset.proofs.FewerLemmas.{found_changed, more_by}
 use Rattle.sc_taskset.proofs.TableLemmas.{none_replaced, task_replaced}
 use Rattle.sc_taskset.specs.Lookups.{is_task_of}
 use Rattle.sc_taskset.specs.Offers.{handed_task}
@@ -16,7 +19,17 @@ handed-requires-clause-room c = rw (sym c.row_of.ensures ∙ c.in-Some.is) at c.
 
 pub returns-in-Some-checked_add-clause-ok : goal.returns-in-Some-checked_add-clause-ok
 returns-in-Some-checked_add-clause-ok c = λ failures.
-    ap (tasks_of failures) c.replace.ensures
+    on_ok_weaker c.hand_over.result
+    (λ same. ap (tasks_of failures) same
     ∙ task_replaced failures c.args.rows.now c.args.partition c.in-Some.row c.handed.result
     (handed_task c.args.exec c.args.now) (λ t. refl) (sym c.in-Some.is ∙ c.row_of.ensures)
-    c.handed.ensures
+    c.handed.ensures)
+    c.hand_over.ensures.ok
+
+pub hand_over-requires : goal.hand_over-requires
+hand_over-requires c =
+    found_changed c.args.rows.now c.args.partition c.in-Some.row c.handed.result
+    (handed_task c.args.exec c.args.now)
+    (λ before. IsOnOneMore c.args.exec before c.handed.result) (λ t. refl)
+    (sym c.in-Some.is ∙ c.row_of.ensures) c.handed.ensures
+    (more_by c.in-Some.row c.handed.result c.args.exec c.args.now c.handed.ensures)

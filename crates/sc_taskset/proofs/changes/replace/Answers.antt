@@ -1,4 +1,5 @@
 use Rattle.std.proofs.Common.{ap, ◌∙◌, arith, length, set}
+use Rattle.sc_taskset.proofs.FewerLemmas.{found_there}
 use Rattle.sc_taskset.proofs.TableLemmas.{found_at, found_past, place_passes}
 use Rattle.sc_taskset.specs.Rows.{is_row_of}
 use Rattle.sc_taskset.proofs.changes.replace.Goals as goal
@@ -31,3 +32,9 @@ returns-else-place-as_slice c =
       ap length c.as_slice.ensures,
       c.place_of-place.ensures,
     ))
+
+pub put-requires-clause-fewer : goal.put-requires-clause-fewer
+put-requires-clause-fewer c =
+    rw (found_there (is_row_of c.args.row.partition) c.args.rows.now c.place_of-place.result
+    c.args.row c.place_of-place.ensures
+    (omega (arith, c.if-place-as_slice.true, ap length c.as_slice.ensures))) at c.requires

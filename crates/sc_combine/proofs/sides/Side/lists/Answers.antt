@@ -11,5 +11,5 @@ returns c =
     c.in_ok-lists.ensures
     ∙ lists_are c.range_law.ensures values c.in_ok-items.items places c.self.invariant
     (c.in_ok-items.ensures ∙ ap (picked values) c.order.ensures)
-    c.in_ok-spans.spans.items c.in_ok-spans.ensures
+    c.in_ok-spans.spans.items c.in_ok-spans.ensures.are
     ∙ ap (map list_value) c.self.view_is

@@ -17,5 +17,5 @@ invariant_of-result g c =
           (subst (λ (hs : List JobHistory). IsContext work passed
           (context_data 0 passed.carried hs [] files)) (sym c.new.ensures.none)
           (first_context work passed files c.in-Ok.ensures.carried c.in-Ok.ensures.ready)),
-      c.new.ensures.kept,
+      c.new.ensures.kept work,
     )

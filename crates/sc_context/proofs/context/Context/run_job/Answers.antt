@@ -137,7 +137,7 @@ returns-in_default-begin-clause-stops g c =
 
 pub returns-in_default-begin-clause-kept : goal.returns-in_default-begin-clause-kept
 returns-in_default-begin-clause-kept g c =
-    subst AreKept (sym c.without_memory-in_default-begin.ensures.records)
+    subst (AreKept g.W.Naming.work) (sym c.without_memory-in_default-begin.ensures.records)
     c.make_room.ensures.kept
 
 pub returns-clause-ended : goal.returns-clause-ended
@@ -216,10 +216,9 @@ returns-clause-stops g c =
     (record {
       raises = c.laws_of_ends.ensures.raises;
       losses = c.laws_of_ends.ensures.losses;
-      empty = c.laws_of_ends.ensures.empty;
-      missing = c.laws_of_ends.ensures.missing;
+      stages = c.laws_of_ends.ensures.stages;
     }) sound c.is_sound.ensures.come c.requires.within c.is_sound.ensures.serves
-    c.is_sound.ensures.fits s.records.histories.items (histories_of s.records.gave_up.items) s.why
+    s.records.histories.items (histories_of s.records.gave_up.items) s.why
     (state s.files)
     (over_at work passed last self.progress.last to dir (dir_of_job work to) opened before
     self.histories given self.given_up s.records.histories.items

@@ -5,11 +5,11 @@ use Rattle.sc_context.specs.Records.{IsGivenUp}
 use Rattle.sc_context.proofs.records.Records.give_up.Goals as goal
 
 pub returns-clause-kept : goal.returns-clause-kept
-returns-clause-kept c =
+returns-clause-kept c = λ work kept given.
     record {
-      logged = c.requires.kept.logged;
-      given_up = subst (All IsGivenUp) (sym c.push_reserved.ensures.items)
-          (All-append IsGivenUp c.args.self.now.gave_up.items (c.args.gave_up ∷ [])
-          c.requires.kept.given_up
-          (All-cons IsGivenUp c.args.gave_up [] c.requires.cause (All-nil IsGivenUp)));
+      logged = kept.logged;
+      given_up = subst (All (IsGivenUp work)) (sym c.push_reserved.ensures.items)
+          (All-append (IsGivenUp work) c.args.self.now.gave_up.items (c.args.gave_up ∷ [])
+          kept.given_up
+          (All-cons (IsGivenUp work) c.args.gave_up [] given (All-nil (IsGivenUp work))));
     }

@@ -10,11 +10,13 @@ pub returns-in_ok-stage-in-Stages-clause-advances :
 returns-in_ok-stage-in-Stages-clause-advances g c =
     stages_advances g.W.Naming.work c.args.self.now c.args.exec c.in_ok-stage-in-Stages.field-0
     c.stage.new.self c.requires.alone c.in_ok-stage-in-Stages.ensures.stages
+    c.has_sound_desk.ensures
 
 pub returns-in_ok-ask-in-Asks-clause-advances : goal.returns-in_ok-ask-in-Asks-clause-advances
 returns-in_ok-ask-in-Asks-clause-advances g c =
     asks_advances g.W.Naming.work c.args.self.now c.args.exec c.in_ok-ask-in-Asks.field-0
     c.ask.new.self c.requires.alone c.in_ok-ask-in-Asks.ensures.asks
+    c.has_sound_desk-in-Asks.ensures
 
 pub returns-in_ok-ask-in-Asks-clause-files : goal.returns-in_ok-ask-in-Asks-clause-files
 returns-in_ok-ask-in-Asks-clause-files g c =
@@ -27,4 +29,4 @@ pub returns-in_ok-move_part-in-Moves-clause-advances :
 returns-in_ok-move_part-in-Moves-clause-advances g c =
     moves_advances g.W.Naming.work c.args.self.now c.args.exec
     c.in_ok-move_part-in-Moves.field-0 c.move_part.new.self c.requires.alone
-    c.in_ok-move_part-in-Moves.ensures.moves
+    c.in_ok-move_part-in-Moves.ensures.moves c.has_sound_desk-in-Moves.ensures

@@ -15,8 +15,8 @@ carry_out-requires-clause-there g c =
 pub returns-in-Some-clause-drives : goal.returns-in-Some-clause-drives
 returns-in-Some-clause-drives g c =
     orders_turn g.W.Naming.work c.args.self.now c.next_order.new.self c.carry_out.new.self
-    c.in-Some.order c.requires.rests c.in-Some.ensures c.carry_out.ensures.on
-    c.carry_out.ensures.desk c.carry_out.ensures.held
+    c.in-Some.order c.requires.rests c.in-Some.ensures c.has_sound_desk.ensures
+    c.carry_out.ensures.on c.carry_out.ensures.desk c.carry_out.ensures.held
 
 pub returns-in-Some-clause-due : goal.returns-in-Some-clause-due
 returns-in-Some-clause-due g c =

@@ -18,4 +18,4 @@ pub returns-in_ok-release-in-Some-clause-drives : goal.returns-in_ok-release-in-
 returns-in_ok-release-in-Some-clause-drives g c =
     releases_turn g.W.Naming.work c.args.self.now c.release.new.self c.in-Some.key
     c.in_ok-release-in-Some.field-0 c.is_world.ensures.core c.requires.rests
-    c.in_ok-release-in-Some.ensures.releases
+    c.in_ok-release-in-Some.ensures.releases c.has_sound_desk.ensures
