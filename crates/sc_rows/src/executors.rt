@@ -119,8 +119,8 @@ pub fn worked_over<
     let desk = desk_of(rt, work);
     let output = output_of(rt, work, files);
     let stores = stores_of(rt, work, lying);
-    let mut workers = crew(rt, executors);
-    let (desk, output) = work_job(
+    let workers = crew(rt, executors);
+    work_job(
         rt,
         rt.alloc(),
         desk,
@@ -128,9 +128,8 @@ pub fn worked_over<
         &stores,
         &Keeper::new(rt.alloc(), Kept::First, 2),
         &Mutex::new(STILL),
-        &mut workers,
-    );
-    (desk, output, workers)
+        workers,
+    )
 }
 
 /// How the first job of a work goes over stores that lie so.
