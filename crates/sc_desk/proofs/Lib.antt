@@ -9,6 +9,7 @@ pub mod TrackLemmas
 pub mod PassLemmas
 pub mod AnswerLemmas
 pub mod TaskLemmas
+pub mod WaitLemmas
 pub mod EvidenceLemmas
 pub mod KeepLemmas
 pub mod KeyLemmas

@@ -1,6 +1,10 @@
 -- What an executor that asks for a task gets.
-use Rattle.std.specs.Prelude.{ℕ, ◌≡◌}
+use Rattle.std.specs.Prelude.{ℕ, ◌≡◌, None}
 use Rattle.sc_ids.specs.declared.attempts.Mark.{Mark}
+use Rattle.sc_core.specs.CoreData.{under_way}
+use Rattle.sc_core.specs.Takes.{IsAsking}
+use Rattle.sc_core.specs.Waits.{IsForOthers}
+use Rattle.sc_core.specs.declared.answers.Abort.TheVariants.{Budget}
 use Rattle.sc_core.specs.declared.answers.Answer.{Answer}
 use Rattle.sc_core.specs.declared.answers.Answer.TheVariants as says
 use Rattle.sc_core.specs.declared.events.Event.TheVariants.{Take}
@@ -32,6 +36,24 @@ TakesLogged d by exec taken answer after =
 -- the same for one who keeps no log of answers
 abbrev pub Takes : {W : _} → DeskData → Mark → ℕ → Taken W → DeskData → Type 0
 Takes d by exec taken after = (answer : Answer) × TakesLogged d by exec taken answer after
+
+-- an executor that is to wait does so for others: the attempt is out on another executor, which
+-- isn't lost, or its report is to be told later
+abbrev pub WaitsForOthers : {W : _} → DeskData → ℕ → Taken W → Type 0
+WaitsForOthers d exec (takes.Wait out) = IsForOthers (core_of d) exec out
+WaitsForOthers d exec taken = Unit {0}
+
+-- an executor gets a task, or the job ends by its budget
+abbrev pub GetsOrEnds : {W : _} → Taken W → Type 0
+GetsOrEnds (takes.Task t) = Unit {0}
+GetsOrEnds (takes.Aborted Budget) = Unit {0}
+GetsOrEnds taken = ⊥
+
+-- Nobody is stuck: where the job runs, nobody left early and nothing is under way, an executor that
+-- isn't lost and asks gets a task, or the job ends by its budget.
+abbrev pub IsNeverStuck : {W : _} → DeskData → ℕ → Taken W → Type 0
+IsNeverStuck d exec taken =
+    IsAsking (core_of d) exec → under_way (core_of d) ≡ None → GetsOrEnds taken
 
 -- an answer is one to an executor that asks, where a task is one of the job
 abbrev pub IsGivable : JobData → Answer → Type 0

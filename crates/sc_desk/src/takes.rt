@@ -2,7 +2,7 @@
 #![tactic(auto)]
 
 ghost use Rattle.std.specs.Prelude.{◌≡◌, IfOk, OnErr};
-ghost use Rattle.sc_desk.specs.Takes.{IsGivable, IsTaken, Takes, TakesLogged};
+ghost use Rattle.sc_desk.specs.Takes.{IsGivable, IsNeverStuck, IsTaken, Takes, TakesLogged, WaitsForOthers};
 
 use crate::desks::Desk;
 use crate::shelves::clear_after_end;
@@ -56,6 +56,8 @@ impl<W: Naming> Desk<W> {
     /// changes nothing.
     pub fn take(&mut self, by: Mark, exec: ExecId) -> Result<Taken<W>, AllocError>
         ensures taken { IfOk result (λ t. Takes self.old by exec t self.new) }
+        ensures waits { IfOk result (λ t. WaitsForOthers self.old exec t) }
+        ensures never_stuck { IfOk result (λ t. IsNeverStuck self.old exec t) }
         ensures refused { OnErr result (self.new ≡ self.old) }
     {
         let Logged { taken, .. } = self.take_logged(by, exec)?;
@@ -66,6 +68,8 @@ impl<W: Naming> Desk<W> {
     pub fn take_logged(&mut self, by: Mark, exec: ExecId) -> Result<Logged<W>, AllocError>
         ensures taken { IfOk result
             (λ l. TakesLogged self.old by exec l.taken l.answer self.new) }
+        ensures waits { IfOk result (λ l. WaitsForOthers self.old exec l.taken) }
+        ensures never_stuck { IfOk result (λ l. IsNeverStuck self.old exec l.taken) }
         ensures refused { OnErr result (self.new ≡ self.old) }
     {
         let work = self.work.share()?;

@@ -2,10 +2,12 @@ use Rattle.std.proofs.Common.{◌≡◌, refl, subst}
 use Rattle.sc_core.proofs.LawLemmas.{steps_keep_sound}
 use Rattle.sc_core.specs.Sound.{IsSoundCore}
 use Rattle.sc_core.specs.declared.events.Event.TheVariants.{Take}
-use Rattle.sc_desk.specs.DeskData.{desk_data}
+use Rattle.sc_desk.specs.DeskData.{DeskData, desk_data}
 use Rattle.sc_desk.specs.Shelves.{shelf_in}
+use Rattle.sc_desk.specs.Takes.{WaitsForOthers}
 use Rattle.sc_desk.proofs.ReleaseLemmas.{taken_keeps}
 use Rattle.sc_desk.proofs.TaskLemmas.{givable}
+use Rattle.sc_desk.proofs.WaitLemmas.{waits_for_others}
 use Rattle.sc_desk.proofs.desks.Desk.take_logged.Goals as goal
 
 pub told-requires : goal.told-requires
@@ -19,6 +21,15 @@ told-requires g c =
     c.self.invariant.stages
     (steps_keep_sound before after (Take c.args.exec) c.in-Ok.entered.answer sound
     c.in-Ok.ensures.step) c.in-Ok.ensures.step)
+
+pub returns-in-Ok-clause-waits : goal.returns-in-Ok-clause-waits
+returns-in-Ok-clause-waits g c =
+    let d = desk_data c.self.inside.job c.self.inside.carried c.self.inside.journal.0
+    c.self.inside.results.items c.self.inside.shelf.items c.self.inside.ordered in
+    subst (λ (x : DeskData). WaitsForOthers x c.args.exec c.told.result) c.self.view_is
+    (waits_for_others c.in_ok-job.job d c.enter_logged.new.self.0.core c.args.exec c.told.result
+    c.in-Ok.entered.answer (subst IsSoundCore c.core.ensures c.is_sound.ensures)
+    c.in-Ok.ensures.step c.told.ensures)
 
 pub invariant_of-self : goal.invariant_of-self
 invariant_of-self g c =
