@@ -70,7 +70,7 @@ done
 
 echo "$(date +%F), $(nproc) processors, load $(cut -d' ' -f1 /proc/loadavg)"
 echo
-echo "| shuffles | ms | us for each | to the row above | instructions, millions | to the row above |"
+echo "| shuffles | ms | us for each | to the row above | million instructions | to the row above |"
 echo "|---|---|---|---|---|---|"
 for length in "$@"; do
   echo "$length $(sort -n "$scratch/$length.ms" | head -1) $(millions "$length")"

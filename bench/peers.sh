@@ -6,13 +6,13 @@
 #
 # Before a peer is measured its output is compared with that of the program: of a sort the keys, of
 # a save the lines in any order, of a sum the first 15 digits, since mawk has floats. What was
-# compared once isn't again; with --compare that is all. Then both run three times in turn, but a peer
-# whose first run took more than two seconds only once, and none longer than 30, or PEER_LIMIT where
-# that is set. Times are the medians of the clock's, or with --cpu the least user and system seconds
-# of all processes. A peer that isn't there is skipped, and named.
+# compared once isn't again; with --compare that is all. Then both run three times in turn, but a
+# peer whose first run took more than two seconds only once, and none longer than 30, or PEER_LIMIT
+# where that is set. Times are the medians of the clock's, or with --cpu the least user and system
+# seconds of all processes. A peer that isn't there is skipped, and named.
 #
-# It needs what bench/threads.sh needs, and from Debian the packages mawk, miller, datamash, sqlite3,
-# python3-dask and python3-pandas. Ends with 1 where outputs differed.
+# It needs what bench/threads.sh needs, and from Debian the packages mawk, miller, datamash,
+# sqlite3, python3-dask and python3-pandas. Ends with 1 where outputs differed.
 set -eu
 
 here=$(cd "$(dirname "$0")" && pwd)

@@ -1,6 +1,6 @@
 #!/usr/bin/env bash
-# Measures the built program by one, two and four executors beside Rust that is written for speed, on
-# one thread and on four.
+# Measures the built program by one, two and four executors beside Rust that is written for speed,
+# on one thread and on four.
 #
 #   bench/threads.sh [--cpu] [--compare] [JOB..]     all jobs of the list below, where none is named
 #

@@ -6,8 +6,8 @@ what they print with what the pages say.
 
 In each part of the page, from one heading to the next, a block ```text NAME is a file, and in a
 block ```console each line '$ COMMAND' is run by bash in a folder that has these files, with
-spark_run and spark_story on its path; the lines below it are its output and its errors. A line '$ cat NAME' of a
-file that isn't there makes it of the lines below.
+spark_run and spark_story on its path; the lines below it are its output and its errors. A line
+'$ cat NAME' of a file that isn't there makes it of the lines below.
 
 A row of a table | expression | x | prints | is a script of its own: the expression over one row.
 Its last cell is the printed text, 'raises' and the raise, or 'refused' and the kind of the fault. A

@@ -2,9 +2,9 @@
  *
  * Its main is called TIMES times, with the same words. Behind each run a line is added to the file
  * SEEN: the status, how many threads there are, how many files are open, how many allocations stand
- * and how many kibibytes of memory the process has. A thread that was joined may be seen for a moment
- * more, so that is waited for. The process ends with the last status. tools/check_hostile.py makes a
- * library of it.
+ * and how many kibibytes of memory the process has. A thread that was joined may be seen for a
+ * moment more, so that is waited for. The process ends with the last status.
+ * tools/check_hostile.py makes a library of it.
  */
 #define _GNU_SOURCE
 #include <dirent.h>

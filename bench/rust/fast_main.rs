@@ -1,10 +1,10 @@
-//! The jobs in Rust that is written for speed, with std alone: `fast THREADS JOB FILE..` prints what
-//! the script of that job prints, from its one file or its two.
+//! The jobs in Rust that is written for speed, with std alone: `fast THREADS JOB FILE..` prints
+//! what the script of that job prints, from its one file or its two.
 //!
-//! A thread makes one pass over its slice of the lines. Text keys of up to 15 bytes lie in the slots
-//! of a table, rows are sorted by a number that is made of the first bytes of the key, and rows by
-//! number are grouped in parts that fit a cache. The files have lines as `bench/make_*.py` writes
-//! them: words between single blanks, numbers that aren't below 0, and an end to each line.
+//! A thread makes one pass over its slice of the lines. Text keys of up to 15 bytes lie in the
+//! slots of a table, rows are sorted by a number that is made of the first bytes of the key, and
+//! rows by number are grouped in parts that fit a cache. The files have lines as `bench/make_*.py`
+//! writes them: words between single blanks, numbers that aren't below 0, and an end to each line.
 
 mod fast_counts;
 mod fast_groups;

@@ -80,6 +80,7 @@ def a_hundred_thousand_jobs_leave_no_thread_and_no_memory_behind(place: Place) -
         yield f"{len(noted)} runs are noted, not {runs}"
     for number, (status, threads, files, standing, memory) in enumerate(noted, 1):
         if (status, threads, files, standing) != (0, 1, *noted[0][2:4]):
-            yield f"run {number}: status {status}, {threads} threads, {files} files, {standing} stand"
+            counts = f"{threads} threads, {files} files, {standing} stand"
+            yield f"run {number}: status {status}, {counts}"
         if memory > noted[0][4] + MORE:
             yield f"run {number}: {memory} kibibytes, and {noted[0][4]} behind the first"
