@@ -12,6 +12,8 @@ lines at the end of a case belong to nothing. Lines with '#' above parts and in 
     -- status N             how the program ends; left out: 0
     -- words WORD..         left out: run job.spark, and --plan plan.txt where there is that file
     -- more words WORD..    words behind these
+    -- left                 what is in folders behind the run, in the order of the paths: a line
+                            NAME/ for a folder, NAME = LITERALS for a file; left out: anything
     -- rows NAME | NAME..   a table: each line below is a row, which makes a case
 
 '-- NAME = LITERALS' gives the exact bytes of a file or an output. A literal, as words and names may
@@ -26,10 +28,11 @@ its column is called NAME.. it has lines: each ' | ' in it ends one, an empty ce
 {NAME} stands alone on its line. A cell '= LITERALS' is what these say. A cell may have the names of
 other cells in it. Several tables make a case for each choice of their rows.
 
-A case runs in a folder of its own, for a minute at most; it has to want an output, an error or a
-status. Prints what differs and the counts, and ends with 1 where a case differs or a file hasn't
-this form. With -k only cases run whose place and claim have TEXT. The program is that of
-crates/spark_run/out, or the file SPARK_RUN; where there is none this says so and ends with 0.
+A case runs in a folder of its own, for a minute at most; it has to want an output, an error, a
+status or what is left. Its files may be in folders, as '-- out/old' is. Prints what differs and the
+counts, and ends with 1 where a case differs or a file hasn't this form. With -k only cases run whose
+place and claim have TEXT. The program is that of crates/spark_run/out, or the file SPARK_RUN; where
+there is none this says so and ends with 0.
 """
 import argparse
 import concurrent.futures
@@ -51,11 +54,12 @@ ESCAPE = re.compile(rb"\\(x([0-9a-fA-F]{2})|u\{([0-9a-fA-F]+)\}|\((\d+),(\d+)\)|
 NUMBERED = re.compile(rb"\\[#+(]")
 ESCAPED = {b"n": b"\n", b"r": b"\r", b"t": b"\t", b"0": b"\0", b'"': b'"', b"\\": b"\\"}
 CLAIM = re.compile(rb"== (\w+)")
-SETTING = re.compile(rb"-- (status|words|more words|rows)(?: (.*))?")
+SETTING = re.compile(rb"-- (status|words|more words|rows|left)(?: (.*))?")
 CONTENT = re.compile(rb'-- (?:(out|err)|([^"= ]\S*|"(?:[^"\\]|\\.)*"))(?: = (.*))?')
 WORD = re.compile(rb'"(?:[^"\\]|\\.)*"(?:\*\d+)?|\S+')
 COLUMNS = re.compile(rb"\w+( \| \w+)*(\.\.)?")
 OUTPUTS = (b"out", b"err")
+LINED = (b"rows", b"left")
 LIMIT, SHOWN = 60, 24
 
 
@@ -74,7 +78,7 @@ class Part:
 
     def content(self) -> bytes:
         """The content of a file or an output."""
-        if self.behind is None:
+        if self.behind is None or self.head == b"left":
             return b"".join(it + b"\n" for it in self.lines)
         return meant(self.behind)
 
@@ -88,6 +92,7 @@ class Case:
     files: dict[bytes, bytes]
     status: int
     wanted: dict[bytes, bytes]
+    left: bytes | None = None
 
 
 def meant(literals: bytes) -> bytes:
@@ -148,7 +153,7 @@ def blocks(text: bytes) -> list[tuple[str, int, list[Part]]]:
             found.append((claim.group(1).decode(), number, []))
         elif line.startswith(b"-- ") and found:
             parts.append(part_of(number, line))
-        elif parts and (parts[-1].head == b"rows" or parts[-1].behind is None):
+        elif parts and (parts[-1].head in LINED or parts[-1].behind is None):
             parts[-1].lines.append(line)
         elif line and not line.startswith(b"#"):
             raise Malformed(f"{number}: stands in no part")
@@ -190,7 +195,9 @@ def case_of(name: str, parts: list[Part], cells: dict[bytes, bytes], tables: int
     words = settings.get(b"words", b"run job.spark" + plan), settings.get(b"more words", b"")
     found = [word_of(it) for it in WORD.findall(b" ".join(words))]
     wanted = {it: contents.get(it, b"") for it in OUTPUTS}
-    return Case(name, found, files, int(settings.get(b"status", b"0")), wanted)
+    left = [filled(it.content()) for it in parts if it.head == b"left"]
+    status = int(settings.get(b"status", b"0"))
+    return Case(name, found, files, status, wanted, left[0] if left else None)
 
 
 def cases_of(path: pathlib.Path, folder: str = "cases") -> Iterator[Case]:
@@ -205,7 +212,7 @@ def cases_of(path: pathlib.Path, folder: str = "cases") -> Iterator[Case]:
         heads = [it.head for it in parts if it.head != b"rows"]
         if len(heads) != len(set(heads)) or not all(tables):
             raise Malformed(f"{line}: {claim} has a part twice, or a table without rows")
-        if not {*OUTPUTS, b"status"} & set(heads):
+        if not {*OUTPUTS, b"status", b"left"} & set(heads):
             raise Malformed(f"{line}: {claim} has no expectation")
         for choice in itertools.product(*tables):
             cells = {mark: cell for _, row in choice for mark, cell in row.items()}
@@ -213,22 +220,44 @@ def cases_of(path: pathlib.Path, folder: str = "cases") -> Iterator[Case]:
             yield case_of(f"{file}:{place}: {claim}", parts, cells, len(tables))
 
 
+def fill(folder: pathlib.Path, files: dict[bytes, bytes]) -> None:
+    """Writes files into a folder, and makes those that they are in."""
+    for name, content in files.items():
+        path = folder / os.fsdecode(name)
+        path.parent.mkdir(parents=True, exist_ok=True)
+        path.write_bytes(content)
+
+
+def left_in(folder: pathlib.Path) -> bytes:
+    """What is in the folders of a folder, line by line."""
+    lines = []
+    for path in sorted(folder.rglob("*")):
+        name = os.fsencode(path.relative_to(folder))
+        if path.is_dir():
+            lines.append(name + b"/\n")
+        elif path.parent != folder:
+            text = path.read_bytes().replace(b"\\", b"\\\\").replace(b'"', b'\\"')
+            lines.append(b'%b = "%b"\n' % (name, text.replace(b"\n", b"\\n")))
+    return b"".join(lines)
+
+
 def differences(program: pathlib.Path, case: Case) -> list[str]:
     """Runs a case: what differs, in lines; where all is as expected, none."""
     with tempfile.TemporaryDirectory() as scratch:
         folder = pathlib.Path(scratch, "here")
         folder.mkdir()
-        for name, content in case.files.items():
-            (folder / os.fsdecode(name)).write_bytes(content)
+        fill(folder, case.files)
         words = [bytes(program.resolve()), *case.words]
         try:
             ran = subprocess.run(words, cwd=folder, input=b"", capture_output=True, timeout=LIMIT)
         except subprocess.TimeoutExpired:
             return [f"  has no end in {LIMIT} seconds"]
+        left = left_in(folder) if case.left is not None else b""
     told = [f"  status {ran.returncode}, not {case.status}"] * (ran.returncode != case.status)
-    for name, came in zip(OUTPUTS, (ran.stdout, ran.stderr)):
-        if came != case.wanted[name]:
-            texts = [it.decode(errors="backslashreplace") for it in (case.wanted[name], came)]
+    wanted = {**case.wanted, b"left": case.left or b""}
+    for name, came in zip(wanted, (ran.stdout, ran.stderr, left)):
+        if came != wanted[name]:
+            texts = [it.decode(errors="backslashreplace") for it in (wanted[name], came)]
             lines = difflib.unified_diff(*(it.split("\n") for it in texts), lineterm="", n=1)
             told.append(f"  {name.decode()}: - what was wanted, + what came")
             told += [f"  {it[:120]}" for it in itertools.islice(lines, 2, SHOWN)]

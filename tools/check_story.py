@@ -68,9 +68,8 @@ def run_cases() -> Iterator[check_cases.Case]:
 def filled(folder: pathlib.Path, case: check_cases.Case) -> pathlib.Path:
     """A new folder with the files that a case has before it is run."""
     folder.mkdir()
-    for name, content in case.files.items():
-        if name not in WANTED:
-            (folder / os.fsdecode(name)).write_bytes(content)
+    files = {name: content for name, content in case.files.items() if name not in WANTED}
+    check_cases.fill(folder, files)
     return folder
 
 
