@@ -1,5 +1,5 @@
 -- The jobs that tests begin are jobs, and fit what their trackers know.
-use Rattle.std.proofs.Common.{List, ◌≡◌, ◌⊎◌, inl, inr, ℕ, ◌<◌, All, true, false, [], ◌∷◌, length, Some, None, refl, ap, sym, subst, ◌∙◌, arith, true≢false}
+use Rattle.std.proofs.Common.{Bool, List, ◌≡◌, ◌⊎◌, inl, inr, ℕ, ◌<◌, All, true, false, [], ◌∷◌, length, Some, None, refl, ap, sym, subst, ◌∙◌, arith, true≢false}
 use Rattle.std.specs.List.{AllPairs}
 use Rattle.std.proofs.lemmas.List.Elements.{All-cons, All-nil}
 use Rattle.std.proofs.lemmas.List.Kept.{AllPairs-cons}
@@ -86,9 +86,9 @@ word_count_fits_behind c limits last room =
     word_count_fits_if (tracker_behind (Some c) limits) last (inr room)
 
 -- once it has begun there is room for both outputs
-pub word_count_room : (limits : Limits) (last : ℕ) (plan : List PlanLine) (c : CoreData)
-    → IsOpening (word_count last) limits false plan None c → room_of c ≡ 2
-word_count_room limits last plan c o =
+pub word_count_room : (limits : Limits) (last : ℕ) (saves : Bool) (plan : List PlanLine)
+    (c : CoreData) → IsOpening (word_count last) limits saves plan None c → room_of c ≡ 2
+word_count_room limits last saves plan c o =
     ap (λ t. length (outputs_of t words_shuffle)) (sent o.submits ∙ o.opens.tracker)
   where
     sent : IsSubmitted o.dag (this_stage (result_stage o.dag)) c.dag

@@ -1,10 +1,7 @@
 //! Jobs that one thread runs alone to their end, at first or where their executors gave them up.
 //!
 //! Want of memory is free in the contract of a serial run, so one that always gave up would meet
-//! it. A case has a line with more words, or several between `or`, a plan, and a script; behind
-//! each `----` how the job ended, with the results that are there and the files that stand; and
-//! what its history shows, as in `histories`. Executors take turns in the order of their numbers,
-//! so it is known what each does. Of a script the first action is run, and no save is committed.
+//! it. The cases of the tables are those of `lefts`.
 #![tactic(auto)]
 
 ghost use Rattle.std.specs.Prelude.{◌≡◌, Option};
@@ -15,30 +12,27 @@ ghost use Rattle.sc_desk.specs.Files.{FilesStand};
 ghost use Rattle.sc_rows.specs.Worlds.{IsFirstDesk, IsOfFirst};
 ghost use Rattle.sc_staging.specs.Outputs.{output_dir, output_files};
 
-use crate::executors::{Lying, worked_over};
-use crate::histories::{WORD_COUNT, assert_counts};
-use crate::works::{INPUT, halves, work_of};
-use crate::world_lines::{desk_of, new_stores, output_of, push_files, push_results};
+use crate::lefts::assert_case;
+use crate::world_lines::{new_stores, push_results};
 use sc_core::JobHistory;
-use sc_desk::{Again, Closed, Desk, Passed, files_go_on};
-use sc_exec::{Verdict, judge};
-use sc_files::{Files, MemFiles};
-use sc_lineage::Work;
+use sc_desk::{Again, Closed, Desk, Passed};
+use sc_files::Files;
 use sc_staging::{Output, Renewed, laws_of_files};
-use sc_work::{Naming, SharedWork};
+use sc_work::Naming;
 use sc_world::World;
-use std::marker::Brand;
 use std::process::Abort;
-use std::sync::Wait;
-use std::thread::Threads;
-use std::time;
 
 /// Word counts that are run alone, at first or where their executors gave them up, which have told
-/// no report then.
+/// no report then. One thread takes turns in the order of the executors, so it is known what each
+/// does.
 const COUNTS: &str = r#"==== a word count has four tasks, however many executors take turns
+alone or 1 thread
 --executors=2 or --executors=64
 ----
+1@0 0@0
+----
 collect c
+----
 ----
 Done
 (b,2)
@@ -49,10 +43,14 @@ Done
 2 | : registered
 2 | : finished
 ==== the store of the first executor is wiped behind its output, which is made again
+alone or 1 thread or 2 threads, 2 in pairs
 --executors=2
 drop 0 1
 ----
+1@0 0@0
+----
 collect c
+----
 ----
 Done
 (b,2)
@@ -64,12 +62,16 @@ Done
 3 | : registered
 2 | : finished
 ==== three wipes let the reading stage fail twice, and the results are those without a plan
+alone or 1 thread
 --executors=2 or --executors=4
 drop 0 1
 drop 0 3
 drop 1 2
 ----
+1@0 0@0
+----
 collect c
+----
 ----
 Done
 (b,2)
@@ -80,10 +82,14 @@ Done
 2 | failed
 2 | : finished
 ==== the first executor is lost behind its output, and has no turn any more
+alone or 1 thread or 2 threads, 2 in pairs
 --executors=2
 lose 0 1 1
 ----
+1@0 0@0
+----
 collect c
+----
 ----
 Done
 (b,2)
@@ -94,13 +100,17 @@ Done
 3 | : registered
 2 | : finished
 ==== reports that all come late are told where nothing else can happen
+alone or 1 thread
 --executors=2 or --executors=64
 late 0 0 0 9
 late 0 1 0 9
 late 1 0 0 9
 late 1 1 0 9
 ----
+1@0 0@0
+----
 collect c
+----
 ----
 Done
 (b,2)
@@ -112,9 +122,13 @@ Done
 2 | : registered
 2 | : finished
 ==== each part of a save is written, granted and moved
+alone or 1 thread or 2 threads, 2 in pairs
 --executors=2
 ----
+1@0 0@0
+----
 save c "out"
+----
 ----
 Done
 out/ out/_temporary/ out/_temporary/c-1-0-0-0=(b,2)
@@ -128,10 +142,13 @@ out/ out/_temporary/ out/_temporary/c-1-0-0-0=(b,2)
 
 /// Jobs that are run alone at first.
 const FIRST: &str = r#"==== each of 64 executors has its turn
+alone
 --executors=64
+----
 ----
 l = parallelize 64 1
 collect l
+----
 ----
 Done
 1
@@ -139,10 +156,13 @@ Done
 64 | take: task
 64 | : finished
 ==== the first executor is lost before it had a turn
+alone
 --executors=2
 lose 0 0 0
 ----
+----
 collect c
+----
 ----
 Done
 (b,2)
@@ -151,11 +171,14 @@ Done
 1 | lost 0: told
 4 | take: task
 ==== both executors are lost
+alone
 --executors=2
 lose 0 1 1
 lose 1 1 1
 ----
+----
 collect c
+----
 ----
 Aborted(NoExecutor)
 ----
@@ -163,25 +186,31 @@ Aborted(NoExecutor)
 1 | lost 0: told
 1 | lost 1: aborted: no executor
 ==== a partition fails once more than it may
+alone
 --executors=2
 fail 0 0 0
 fail 0 0 1
 fail 0 0 2
 fail 0 0 3
 ----
+----
 collect c
+----
 ----
 Aborted(TaskLimit { stage: 0, stage_attempt: 0, partition: 0 })
 ----
 3 | failed: planned: again
 1 | failed: planned: aborted: task limit of 0.0 partition 0
 ==== the holder of a commit is told lost, and the other executor commits in its place
+alone
 --executors=2
 late 0 0 0 9
 lose 0 1 1
 ----
+----
 l = parallelize 2 1 2 3 4
 save l "out"
+----
 ----
 Done
 out/ out/_temporary/ out/_temporary/c-0-0-0-0=1
@@ -209,8 +238,7 @@ driver move 0.0.0.1: moved
 driver post 0.0.0.1 result: finished
 "#;
 
-/// What is seen of a job: how it ended, with the results that are there, its
-/// history and its files.
+/// What is seen of a job: how it ended, with the results that are there, its history and its files.
 #[derive(Drop)]
 pub struct Seen<F: Files> {
     /// How it ended, with its results, line by line.
@@ -222,7 +250,7 @@ pub struct Seen<F: Files> {
 }
 
 /// Runs the job of a desk alone over new stores, which is the first of a run and has just begun.
-fn run_alone<W: Naming, F: Files, R: Abort + AllocGlobal>(
+pub fn run_alone<W: Naming, F: Files, R: Abort + AllocGlobal>(
     rt: &R,
     desk: Desk<W>,
     output: Output<F>,
@@ -238,11 +266,11 @@ fn run_alone<W: Naming, F: Files, R: Abort + AllocGlobal>(
     let mut output = output;
     world.serial(rt.alloc(), &mut output).expect(rt, "memory");
     let (desk, _) = world.into_parts();
-    seen_of(rt, desk, output)
+    end_of(rt, desk, output)
 }
 
 /// What is seen of a job.
-pub fn seen_of<W: Naming, F: Files, R: Abort + AllocGlobal>(
+pub fn end_of<W: Naming, F: Files, R: Abort + AllocGlobal>(
     rt: &R,
     desk: Desk<W>,
     output: Output<F>,
@@ -257,33 +285,6 @@ pub fn seen_of<W: Naming, F: Files, R: Abort + AllocGlobal>(
         history,
         files: output.close(),
     }
-}
-
-/// What is seen of the first job of a work that is run alone at first.
-fn seen_first<W: Naming, F: Files, R: Abort + AllocGlobal>(rt: &R, work: Work, files: F) -> Seen<F>
-    requires { work ≡ W.work }
-{
-    files_go_on();
-    let work = SharedWork::<W>::of(rt.alloc(), work).expect(rt, "memory");
-    let desk = desk_of(rt, &work);
-    let output = output_of(rt, &work, files);
-    run_alone(rt, desk, output)
-}
-
-/// What is seen of the first job of a work that its executors give up, over stores that lie
-/// backwards, where it is run again alone.
-fn seen_again<
-    W: Naming + Send + Sync,
-    F: Files + Send + Drop,
-    R: Abort + AllocGlobal + Threads + Wait + time::Clock + Sync,
->(rt: &R, work: Work, files: F) -> Seen<F>
-    requires { work ≡ W.work }
-{
-    let work = SharedWork::<W>::of(rt.alloc(), work).expect(rt, "memory");
-    let (desk, output, workers) = worked_over(rt, &work, files, Lying::Backwards);
-    let went = judge(&desk, workers.as_slice());
-    assert_eq!(rt; went, Verdict::GivenUp);
-    run_again(rt, desk, output)
 }
 
 /// Runs the first job of a work again alone that its executors gave up.
@@ -333,75 +334,20 @@ fn renewed<F: Files, R: Abort>(rt: &R, output: Output<F>) -> Output<F>
     }
 }
 
-/// Whether a job is run alone at first, or behind its executors.
-#[derive(Clone, Copy, Debug, PartialEq, Eq)]
-enum Run {
-    First,
-    Again,
-}
-
-/// Sees that each case of a table holds of jobs that are run so.
-fn assert_alone<R: Abort + AllocGlobal + Threads + Wait + time::Clock + Sync>(
-    rt: &R,
-    table: &str,
-    run: Run,
-) {
-    for case in table.split("==== ") {
+#[test]
+fn a_job_is_run_alone_to_its_end(rt: HostRuntime) {
+    for case in FIRST.split("==== ") {
         if !case.is_empty() {
-            assert_case(rt, case, run);
+            assert_case(&rt, case);
         }
     }
 }
 
-/// Sees that a case holds.
-fn assert_case<R: Abort + AllocGlobal + Threads + Wait + time::Clock + Sync>(
-    rt: &R,
-    case: &str,
-    run: Run,
-) {
-    let (label, rest) = halves(case, "\n");
-    let (words, rest) = halves(rest, "\n");
-    let (plan, rest) = halves(rest, "----\n");
-    let (script, want) = halves(rest, "----\n");
-    let count = if script.contains("=") { "" } else { WORD_COUNT };
-    let script = format!(in rt.alloc(); "{count}{script}").expect(rt, "memory");
-    for words in words.split(" or") {
-        let work = work_of(rt, script.as_str(), plan, words, INPUT);
-        assert_seen(rt, work, run, want, label);
-    }
-}
-
-/// Sees that what is seen of the first job of a work is what is wanted.
-fn assert_seen<R: Abort + AllocGlobal + Threads + Wait + time::Clock + Sync>(
-    rt: &R,
-    work: Work,
-    run: Run,
-    want: &str,
-    label: &str,
-) {
-    let files = MemFiles::new(rt.alloc());
-    let seen = match run {
-        Run::First => seen_first::<Brand, MemFiles, R>(rt, work, files),
-        Run::Again => seen_again::<Brand, MemFiles, R>(rt, work, files),
-    };
-    let Seen {
-        mut told,
-        history,
-        files,
-    } = seen;
-    push_files(rt, &files, &mut told);
-    let (end, counts) = halves(want, "----\n");
-    assert_eq!(rt; told.as_str(), end, "{label}");
-    assert_counts(rt, &[history], counts, label);
-}
-
-#[test]
-fn a_job_is_run_alone_to_its_end(rt: HostRuntime) {
-    assert_alone(&rt, COUNTS, Run::First);
-    assert_alone(&rt, FIRST, Run::First);
-}
-
 #[test]
 fn a_job_that_was_given_up_is_run_again_alone(rt: HostRuntime) {
-    assert_alone(&rt, COUNTS, Run::Again);
+    for case in COUNTS.split("==== ") {
+        if !case.is_empty() {
+            assert_case(&rt, case);
+        }
+    }
 }

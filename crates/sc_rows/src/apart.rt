@@ -10,10 +10,9 @@ ghost use Rattle.sc_exec.specs.Working.{HasWorked, IsFresh};
 ghost use Rattle.sc_rows.specs.Worlds.{IsOfFirst};
 ghost use Rattle.sc_staging.specs.Outputs.{output_dir, output_files};
 
-use crate::executors::{begun, fresh, store_at};
+use crate::executors::{begun, fresh, stores_of};
 use crate::gates::{Keeper, Kept};
 use crate::given::STILL;
-use crate::transcripts::{at, numbers_of};
 use sc_clock::Clock;
 use sc_desk::Desk;
 use sc_exec::{Driver, Gate, Helm, Opening, Stores, Worker, work_loop};
@@ -37,37 +36,6 @@ pub struct Setting {
     pub pairs: usize,
     /// How many executors, from the first on, have a task out that nobody does.
     pub out: u32,
-}
-
-/// The stores that lie at the places of executors, as a line says: each with its generation.
-fn stores_of<W: Naming, R: Abort + AllocGlobal>(
-    rt: &R,
-    work: &SharedWork<W>,
-    line: &str,
-) -> Stores<W> {
-    work.is_named();
-    let executors = work.get().limits().executors;
-    let mut locked = Vec::new(rt.alloc());
-    for word in line.split(" ") {
-        let numbers = numbers_of(rt, word);
-        let store = store_at(rt, work, at(&numbers, 0), at(&numbers, 1));
-        locked.push(Mutex::new(store)).expect(rt, "memory");
-    }
-    assert_eq!(rt; locked.len(), executors as usize, "stores");
-    Stores::of(locked)
-}
-
-/// The same of each line.
-fn all_stores_of<W: Naming, R: Abort + AllocGlobal>(
-    rt: &R,
-    work: &SharedWork<W>,
-    lines: &str,
-) -> Vec<Stores<W>> {
-    let mut all = Vec::new(rt.alloc());
-    for line in lines.lines() {
-        all.push(stores_of(rt, work, line)).expect(rt, "memory");
-    }
-    all
 }
 
 /// The stores that an executor looks at: its own, or those of all.
@@ -177,7 +145,7 @@ pub fn worked_apart<
     ensures places { AreInPlace W.work.limits.executors result.2.items }
 {
     let (desk, output, mut workers) = begun(rt, work, files);
-    let all = all_stores_of(rt, work, stores);
+    let all = stores_of(rt, work, stores);
     let (desk, output) = work_apart::<W, Brand, F, Keeper, _, R>(
         rt,
         rt.alloc(),

@@ -12,7 +12,7 @@ const LISTED: [(&[u64], [u64; 5]); 4] = [
 ];
 
 #[test]
-fn a_listed_clock_ends_with_its_last_number(rt: HostRuntime) {
+fn a_clock_of_a_list_or_of_steps_ends_with_its_last_number(rt: HostRuntime) {
     for (times, want) in &LISTED {
         let times = Vec::from_slice(rt.alloc(), *times).expect(&rt, "memory");
         let mut clock = ListClock::new(times);
@@ -20,10 +20,6 @@ fn a_listed_clock_ends_with_its_last_number(rt: HostRuntime) {
             assert_eq!(&rt; clock.now(), *time);
         }
     }
-}
-
-#[test]
-fn a_clock_of_steps_stands_still_at_the_last_number(rt: HostRuntime) {
     let mut clock = StepClock {
         time: 100,
         step: 50,

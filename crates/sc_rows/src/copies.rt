@@ -5,14 +5,15 @@
 
 use crate::files::standing;
 use crate::gates::{Keeper, Kept};
-use crate::given::{PLAN, Row, SCRIPT, Seen};
-use crate::histories::assert_counts;
-use sc_clock::{ListClock, StepClock};
-use sc_exec::OpenGate;
+use crate::given::{Outside, seen_of};
+use crate::histories::assert_history;
+use crate::works::{source_of, words_of};
+use sc_clock::{Clock, ListClock, StepClock};
+use sc_exec::{Gate, OpenGate};
 use std::process::Abort;
-
-/// The words of a run under a plan in which slow attempts get copies.
-const SPECULATES: [&str; 5] = ["run", SCRIPT, "--plan", PLAN, "--speculation"];
+use std::sync::Wait;
+use std::thread::Threads;
+use std::time;
 
 /// Four numbers in four partitions.
 const FOUR: &str = "l = parallelize 4 1 2 3 4\ncollect l\n";
@@ -24,8 +25,8 @@ const FOUR_PRINTED: &str = "1\n2\n3\n4\n";
 const SAVE: &str = "l = parallelize 4 1 2 3 4\nsave l \"out\"\n";
 
 /// What stands of these.
-const SAVED: &[u8] =
-    b"out/ out/part-00000=1\n out/part-00001=2\n out/part-00002=3\n out/part-00003=4\n \
+const SAVED: &str =
+    "out/ out/part-00000=1\n out/part-00001=2\n out/part-00002=3\n out/part-00003=4\n \
       out/_SUCCESS= ";
 
 /// Two numbers of one key, summed, so that both stages have two tasks.
@@ -38,14 +39,14 @@ collect r
 
 /// A script and a plan, how many attempts enter before the first one of the first task goes on,
 /// what is printed and told, what stands, and what the history shows.
-const COPIES: [(&str, &str, usize, &str, &[u8], &str); 8] = [
+const COPIES: [(&str, &str, usize, &str, &str, &str); 8] = [
     // The copy is the first whose report is told.
     (
         FOUR,
         "late 0 0 0 9\n",
         5,
         FOUR_PRINTED,
-        b"",
+        "",
         "5 | take: task\n1 | post 0.0.0.1 result: finished\n0 | post 0.0.0.0 result: finished\n\
          4 | : finished\n",
     ),
@@ -55,7 +56,7 @@ const COPIES: [(&str, &str, usize, &str, &[u8], &str); 8] = [
         "fail 0 0 1\nlate 0 0 0 9\n",
         5,
         FOUR_PRINTED,
-        b"",
+        "",
         "1 | post 0.0.0.1 failed: planned: again\n4 | : finished\n",
     ),
     // Whichever is the first, the other one counts for nothing.
@@ -64,7 +65,7 @@ const COPIES: [(&str, &str, usize, &str, &[u8], &str); 8] = [
         "",
         5,
         FOUR_PRINTED,
-        b"",
+        "",
         "5 | take: task\n4 | : finished\n",
     ),
     (
@@ -72,7 +73,7 @@ const COPIES: [(&str, &str, usize, &str, &[u8], &str); 8] = [
         "twice 0 0 0\ntwice 0 0 1\ntwice 0 1 0\n",
         5,
         FOUR_PRINTED,
-        b"",
+        "",
         "5 | take: task\n4 | : finished\n",
     ),
     // An output of a map task that is made by two attempts.
@@ -81,7 +82,7 @@ const COPIES: [(&str, &str, usize, &str, &[u8], &str); 8] = [
         "late 0 0 0 9\n",
         3,
         "(k,3)\n",
-        b"",
+        "",
         "1 | take: task 0.0.0.1\n2 | : finished\n",
     ),
     (
@@ -89,7 +90,7 @@ const COPIES: [(&str, &str, usize, &str, &[u8], &str); 8] = [
         "",
         3,
         "(k,3)\n",
-        b"",
+        "",
         "1 | take: task 0.0.0.1\n2 | : finished\n",
     ),
     // Both attempts ask before a report of either is told: one of them is denied.
@@ -111,27 +112,25 @@ const COPIES: [(&str, &str, usize, &str, &[u8], &str); 8] = [
     ),
 ];
 
-/// The run of a script under a plan in which slow attempts get copies.
-fn speculating<R: Abort + AllocGlobal>(rt: &R, script: &str, plan: &str) -> Row {
-    Row::of_words(rt, &SPECULATES)
-        .file(rt, SCRIPT, script.as_bytes())
-        .file(rt, PLAN, plan.as_bytes())
-}
-
-/// Sees what a run told, what stands behind it and what its history shows.
-fn assert_seen<R: Abort + AllocGlobal>(
+/// Sees what is told of a run in which slow attempts get copies, what stands behind it, and what
+/// its history shows.
+fn assert_copied<
+    G: Gate + Sync,
+    C: Clock + Send + Drop,
+    R: Abort + AllocGlobal + Threads + Wait + time::Clock + Sync,
+>(
     rt: &R,
-    seen: &Seen,
-    want: (&str, &[u8]),
-    counts: &str,
-    label: &str,
+    (script, plan): (&str, &str),
+    gate: &G,
+    clock: C,
+    (told, left, counts): (&str, &str, &str),
 ) {
-    let all = seen.all().expect(rt, "memory");
-    assert_eq!(rt; all.as_str(), want.0, "{label}");
-    let stands = standing(rt, seen.saved());
-    assert!(rt; stands.as_slice() == want.1, "{label}: {stands:?}");
-    assert_eq!(rt; seen.given_up(), 0, "{label}");
-    assert_counts(rt, seen.histories(), counts, label);
+    let outside = Outside::of(rt, source_of(rt, script, plan, ""));
+    let seen = seen_of(rt, &words_of(rt, "--speculation"), outside, gate, clock);
+    assert_eq!(rt; seen.all.as_str(), told, "{plan:?}");
+    let stands = standing(rt, &seen.outside.files.files);
+    assert_eq!(rt; stands.as_str(), left, "{plan:?}");
+    assert_history(rt, &seen.histories, counts, plan);
 }
 
 #[test]
@@ -142,8 +141,7 @@ fn a_copy_leaves_the_text_as_it_was(rt: HostRuntime) {
             time: 0,
             step: 1_000,
         };
-        let seen = speculating(&rt, script, plan).run_by(&rt, &gate, clock);
-        assert_seen(&rt, &seen, (told, left), counts, plan);
+        assert_copied(&rt, (script, plan), &gate, clock, (told, left, counts));
     }
 }
 
@@ -166,8 +164,8 @@ const CLOCKS: [(&[u64], &str); 6] = [
 fn whatever_a_clock_gives_the_text_is_the_same(rt: HostRuntime) {
     for (times, counts) in CLOCKS {
         let times = Vec::from_slice(rt.alloc(), times).expect(&rt, "memory");
-        let row = speculating(&rt, FOUR, "late 0 1 0 2\n");
-        let seen = row.run_by(&rt, &OpenGate, ListClock::new(times));
-        assert_seen(&rt, &seen, (FOUR_PRINTED, b""), counts, "");
+        let given = (FOUR, "late 0 1 0 2\n");
+        let want = (FOUR_PRINTED, "", counts);
+        assert_copied(&rt, given, &OpenGate, ListClock::new(times), want);
     }
 }

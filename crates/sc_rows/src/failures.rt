@@ -2,7 +2,7 @@
 //! failures a run bears, and what its history shows of them.
 #![tactic(auto)]
 
-use crate::histories::assert_runs;
+use crate::histories::assert_case;
 
 const FAILURES: &str = r#"==== three planned failures are survived
 collect c
@@ -201,11 +201,6 @@ task limit: stage 1 attempt 0 partition 0
 4 | failed
 "#;
 
-#[test]
-fn failures_are_survived_up_to_their_limit(rt: HostRuntime) {
-    assert_runs(&rt, FAILURES);
-}
-
 const LATE: &str = r#"==== a success that comes late and twice counts once
 count c
 -- words
@@ -295,6 +290,12 @@ drop 0 1
 "#;
 
 #[test]
-fn late_and_doubled_reports_count_once(rt: HostRuntime) {
-    assert_runs(&rt, LATE);
+fn failures_and_late_reports_are_survived_up_to_their_limit(rt: HostRuntime) {
+    for table in [FAILURES, LATE] {
+        for case in table.split("==== ") {
+            if !case.is_empty() {
+                assert_case(&rt, case);
+            }
+        }
+    }
 }

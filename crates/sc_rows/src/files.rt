@@ -3,10 +3,11 @@
 
 use sc_files::{FileAnswer, Files, HostFiles, MakeAnswer, MemFiles};
 use sc_ids::Counts;
+use sc_input::{HostSource, ReadAnswer, Source};
 use sc_value::Name;
-use std::fs;
 use std::os::unix::fs::{PermissionsExt, symlink};
 use std::process::Abort;
+use std::{fs, str};
 
 /// Calls one after the other: what is called, with which paths and text, and the answer.
 const CALLS: [(&str, &str, &str, &str); 22] = [
@@ -67,19 +68,16 @@ fn answer_of<R: Abort + AllocGlobal, F: Files>(
 }
 
 /// All that is there: each directory with a slash behind it, and each file with its text.
-pub fn standing<R: Abort + AllocGlobal>(rt: &R, files: &MemFiles) -> Vec<u8> {
-    let mut out = Vec::new(rt.alloc());
+pub fn standing<R: Abort + AllocGlobal>(rt: &R, files: &MemFiles) -> String {
+    let mut out = String::new(rt.alloc());
     for dir in files.dirs() {
-        out.extend_from_slice(dir.as_str().as_bytes())
-            .expect(rt, "memory");
-        out.extend_from_slice(b"/ ").expect(rt, "memory");
+        let dir = dir.as_str();
+        write!(out, "{dir}/ ").expect(rt, "memory");
     }
     for (path, bytes) in files.files() {
-        out.extend_from_slice(path.as_str().as_bytes())
-            .expect(rt, "memory");
-        out.push(b'=').expect(rt, "memory");
-        out.extend_from_slice(bytes.as_slice()).expect(rt, "memory");
-        out.push(b' ').expect(rt, "memory");
+        let path = path.as_str();
+        let text = str::from_utf8(bytes.as_slice()).unwrap_or("(no text)");
+        write!(out, "{path}={text} ").expect(rt, "memory");
     }
     out
 }
@@ -98,8 +96,8 @@ fn calls_in_memory_change_what_they_name(rt: HostRuntime) {
                 clashes: 5
             }
     );
-    let want: &[u8] = b"t/ t/de/ t/d/ t/b=22 t/d/f=4 ";
-    assert!(rt; standing(&rt, &files).as_slice() == want);
+    let stands = standing(&rt, &files);
+    assert_eq!(rt; stands.as_str(), "t/ t/de/ t/d/ t/b=22 t/d/f=4 ");
 }
 
 #[test]
@@ -132,10 +130,17 @@ fn calls_on_the_system_answer_as_those_in_memory(rt: HostRuntime) {
     fs::remove_dir_all(&rt, "t").expect(&rt, "a directory");
 }
 
+/// A name of 300 bytes.
+const LONG: &str = "\
+    nnnnnnnnnnnnnnnnnnnnnnnnnnnnnnnnnnnnnnnnnnnnnnnnnnnnnnnnnnnnnnnnnnnnnnnnnnn\
+    nnnnnnnnnnnnnnnnnnnnnnnnnnnnnnnnnnnnnnnnnnnnnnnnnnnnnnnnnnnnnnnnnnnnnnnnnnn\
+    nnnnnnnnnnnnnnnnnnnnnnnnnnnnnnnnnnnnnnnnnnnnnnnnnnnnnnnnnnnnnnnnnnnnnnnnnnn\
+    nnnnnnnnnnnnnnnnnnnnnnnnnnnnnnnnnnnnnnnnnnnnnnnnnnnnnnnnnnnnnnnnnnnnnnnnnnn";
+
 /// Calls that the system refuses, or takes other than might be thought, and the answers. There are
 /// a file `f`, a directory `d`, and two links to nothing: the directory of `made` is there, and
 /// that of `lost` isn't.
-const REFUSALS: [(&str, &str, &str, &str); 25] = [
+const REFUSALS: [(&str, &str, &str, &str); 29] = [
     ("make", "u/f", "", "exists"),
     ("make", "u/lost", "", "exists"),
     ("make", "u/lost/a", "", "failed"),
@@ -161,6 +166,10 @@ const REFUSALS: [(&str, &str, &str, &str); 25] = [
     ("remove", "u/f", "", "failed"),
     ("remove", "u/f/a", "", "failed"),
     ("remove", "u/from", "", "done"),
+    ("make", LONG, "", "failed"),
+    ("write", LONG, "1", "failed"),
+    ("rename", ".", LONG, "failed"),
+    ("remove", LONG, "", "failed"),
 ];
 
 #[test]
@@ -182,24 +191,11 @@ fn what_the_system_refuses_is_a_fault_or_a_clash(rt: HostRuntime) {
         );
     }
     fs::remove_dir_all(&rt, "u").expect(&rt, "a directory");
-}
-
-#[test]
-fn a_name_of_300_bytes_is_a_fault(rt: HostRuntime) {
-    let mut long = String::new(rt.alloc());
-    for _ in 0..300 {
-        long.push('n').expect(&rt, "memory");
-    }
-    let mut files = HostFiles::new(rt.clone().expect(&rt, "memory"));
-    for (call, path, other) in [
-        ("make", long.as_str(), ""),
-        ("write", long.as_str(), "1"),
-        ("rename", ".", long.as_str()),
-        ("remove", long.as_str(), ""),
-    ] {
-        let answer = answer_of(&rt, &mut files, call, path, other);
-        assert!(rt; answer == "failed", "{call}: {answer}");
-    }
+    // No script can name such an input.
+    let mut source = HostSource::new(rt.clone().expect(&rt, "memory"));
+    let name = Name::new(rt.alloc(), "a\0b").expect(&rt, "memory");
+    let answer = source.read(&name);
+    assert!(rt; matches!(answer, ReadAnswer::Failed));
 }
 
 // Where the test's user may write anywhere, it may write here too.

@@ -1,8 +1,10 @@
 //! Gates that keep an attempt back, and what the others do meanwhile.
 #![tactic(auto)]
 
-use crate::given::{Row, STILL, Seen};
-use sc_core::{Answer, Event, JobHistory};
+use crate::given::{Outside, STILL, Seen, seen_of};
+use crate::histories::{assert_history, has_lines, history_of};
+use crate::works::{source_of, words_of};
+use sc_core::JobHistory;
 use sc_exec::Gate;
 use sc_ids::{AttemptId, ExecId};
 use sc_logs::{ExecLog, agree};
@@ -22,6 +24,9 @@ const FIRST: AttemptId = AttemptId {
     partition: 0,
     nth: 0,
 };
+
+/// Four numbers in four partitions.
+const FOUR: &str = "l = parallelize 4 1 2 3 4\ncollect l\n";
 
 /// Which attempts a gate keeps back, and until how many have entered.
 #[derive(Clone, Copy, Debug, PartialEq, Eq)]
@@ -75,12 +80,6 @@ impl Keeper {
     fn have_entered<R: Wait>(&self, rt: &R, many: usize) -> bool {
         self.entered.lock(rt).len() >= many
     }
-
-    /// Who entered, in order.
-    fn into_entered(self) -> Vec<(ExecId, AttemptId)> {
-        let Keeper { entered, .. } = self;
-        entered.into_inner()
-    }
 }
 
 impl Gate for Keeper {
@@ -96,7 +95,7 @@ impl Gate for Keeper {
     }
 }
 
-/// The attempts that an executor entered with, in order.
+/// The hand-outs of the attempts that an executor entered with, in order, as a history has them.
 fn entered_by<R: Abort + AllocGlobal>(
     rt: &R,
     entered: &[(ExecId, AttemptId)],
@@ -105,36 +104,10 @@ fn entered_by<R: Abort + AllocGlobal>(
     let mut out = String::new(rt.alloc());
     for (by, attempt) in entered {
         if *by == exec {
-            writeln!(out, "{attempt}").expect(rt, "memory");
+            writeln!(out, "{exec} take: task {attempt}, ").expect(rt, "memory");
         }
     }
     out
-}
-
-/// The attempts that an executor was handed, in order.
-fn handed_to<R: Abort + AllocGlobal>(rt: &R, log: &ExecLog) -> String {
-    let mut out = String::new(rt.alloc());
-    for entry in &log.entries {
-        if let (Event::Take { .. }, Answer::Task(hand_out)) = (&entry.event, &entry.answer) {
-            let attempt = hand_out.attempt();
-            writeln!(out, "{attempt}").expect(rt, "memory");
-        }
-    }
-    out
-}
-
-/// Sees that each executor of the only job was handed what it entered with: the first that entered
-/// one task, and the other one three.
-fn assert_divided<R: Abort + AllocGlobal>(rt: &R, seen: &Seen, entered: &[(ExecId, AttemptId)]) {
-    let logs = seen.logs();
-    assert_eq!(rt; logs.len(), 1);
-    assert_eq!(rt; entered.len(), 4);
-    for log in &logs[0] {
-        let handed = handed_to(rt, log);
-        let tasks = if log.exec == entered[0].0 { 1 } else { 3 };
-        assert_eq!(rt; handed.as_str().lines().count(), tasks);
-        assert_eq!(rt; handed.as_str(), entered_by(rt, entered, log.exec).as_str());
-    }
 }
 
 /// Sees that logs agree with the history of their job, and not where an entry of one is exchanged
@@ -149,16 +122,31 @@ fn assert_exchanged<R: Abort>(rt: &R, history: &JobHistory, logs: &mut Vec<ExecL
     assert!(rt; !agree(history, logs.as_slice()));
 }
 
+// Each executor was handed what it entered with: the first that entered one task, and the other
+// one three.
 #[test]
 fn an_executor_that_is_kept_leaves_its_tasks_to_the_other(rt: HostRuntime) {
     let gate = Keeper::new(rt.alloc(), Kept::First, 4);
-    let row = Row::of(&rt, "l = parallelize 4 1 2 3 4\ncollect l\n");
-    let seen = row.run_by(&rt, &gate, STILL);
-    let all = seen.all().expect(&rt, "memory");
+    let outside = Outside::of(&rt, source_of(&rt, FOUR, "", ""));
+    let seen = seen_of(&rt, &words_of(&rt, ""), outside, &gate, STILL);
+    let Seen {
+        all,
+        histories,
+        mut logs,
+        ..
+    } = seen;
     assert_eq!(&rt; all.as_str(), "1\n2\n3\n4\n");
-    assert_eq!(&rt; seen.given_up(), 0);
-    assert_divided(&rt, &seen, gate.into_entered().as_slice());
-    let (histories, mut logs) = seen.into_logs();
+    assert_history(&rt, &histories, "4 | take: task\n", "a gate");
+    let Keeper { entered, .. } = gate;
+    let entered = entered.into_inner();
+    assert_eq!(&rt; entered.len(), 4);
+    let history = history_of(&rt, &histories);
+    for exec in 0..2 {
+        let lines = entered_by(&rt, &entered, exec);
+        let tasks = if exec == entered[0].0 { 1 } else { 3 };
+        assert_eq!(&rt; lines.as_str().lines().count(), tasks);
+        assert!(&rt; has_lines(history.as_str(), lines.as_str()), "{history}");
+    }
     assert!(&rt; histories.len() == 1 && logs.len() == 1);
     assert_exchanged(&rt, &histories[0], &mut logs[0]);
 }

@@ -15,17 +15,14 @@
 //! them does what. What hangs on that is said of one executor, or of worlds step by step.
 #![tactic(auto)]
 
-use crate::given::STILL;
+use crate::given::{Outside, STILL, seen_of};
 use crate::works::{INPUT, halves, source_of, words_of};
-use sc_app::{Status, fault_text, run};
 use sc_core::JobHistory;
 use sc_exec::OpenGate;
-use sc_files::MemFiles;
-use sc_sink::MemSink;
 use std::process::Abort;
 use std::sync::Wait;
 use std::thread::Threads;
-use std::{str, time};
+use std::time;
 
 /// A count of words in two partitions: stage 0 makes two map outputs, and stage 1 reads them for
 /// two results.
@@ -36,89 +33,26 @@ p = map w (pair x 1)
 c = reduceByKey p 2 (+ a b)
 "#;
 
-/// What was seen of a run: what it printed and told of its end, and its history.
-#[derive(Drop)]
-struct Seen {
-    end: String,
-    history: String,
-}
-
-/// Sees that each case of a table holds.
-pub fn assert_runs<R: Abort + AllocGlobal + Threads + Wait + time::Clock + Sync>(
-    rt: &R,
-    table: &str,
-) {
-    for case in table.split("==== ") {
-        if !case.is_empty() {
-            assert_case(rt, case);
-        }
-    }
-}
-
 /// Sees that a case holds.
-fn assert_case<R: Abort + AllocGlobal + Threads + Wait + time::Clock + Sync>(rt: &R, case: &str) {
+pub fn assert_case<R: Abort + AllocGlobal + Threads + Wait + time::Clock + Sync>(
+    rt: &R,
+    case: &str,
+) {
     let (label, rest) = halves(case, "\n");
     let (given, want) = halves(rest, "-- end\n");
+    let (end, history) = halves(want, "-- history\n");
     let (script, rest) = halves(given, "-- words");
     let (words, plans) = halves(rest, "\n");
     let count = if script.contains("=") { "" } else { WORD_COUNT };
     let script = format!(in rt.alloc(); "{count}{script}").expect(rt, "memory");
     for plan in plans.split("or\n") {
-        assert_plan(rt, script.as_str(), plan, words, want, label);
+        for words in words.split(" or") {
+            let outside = Outside::of(rt, source_of(rt, script.as_str(), plan, INPUT));
+            let seen = seen_of(rt, &words_of(rt, words), outside, &OpenGate, STILL);
+            assert_eq!(rt; seen.all.as_str(), end, "{label}: {words} {plan:?}");
+            assert_history(rt, &seen.histories, history, label);
+        }
     }
-}
-
-/// Sees that it holds under a plan.
-fn assert_plan<R: Abort + AllocGlobal + Threads + Wait + time::Clock + Sync>(
-    rt: &R,
-    script: &str,
-    plan: &str,
-    words: &str,
-    want: &str,
-    label: &str,
-) {
-    let (end, history) = halves(want, "-- history\n");
-    for words in words.split(" or") {
-        let seen = seen_of(rt, script, plan, words);
-        assert_eq!(rt; seen.end.as_str(), end, "{label}: {words} {plan:?}");
-        assert_history(rt, seen.history.as_str(), history, label);
-    }
-}
-
-/// What is seen of a run.
-fn seen_of<R: Abort + AllocGlobal + Threads + Wait + time::Clock + Sync>(
-    rt: &R,
-    script: &str,
-    plan: &str,
-    words: &str,
-) -> Seen {
-    let mut source = source_of(rt, script, plan, INPUT);
-    let mut sink = MemSink::new(rt.alloc());
-    let words = words_of(rt, words);
-    let files = MemFiles::new(rt.alloc());
-    let ran = run(
-        rt,
-        rt.alloc(),
-        &words,
-        &mut source,
-        &mut sink,
-        files,
-        &OpenGate,
-        STILL,
-    );
-    assert_eq!(rt; ran.gave_up.len(), 0, "given up");
-    Seen {
-        end: end_of(rt, sink.bytes(), &ran.status),
-        history: history_of(rt, ran.history.as_slice()),
-    }
-}
-
-/// What was printed, and on a last line what is told of the end, if anything is.
-fn end_of<R: Abort + AllocGlobal>(rt: &R, printed: &[u8], status: &Status) -> String {
-    let text = str::from_utf8(printed).unwrap_or("(no text)");
-    let told = fault_text(rt.alloc(), status).expect(rt, "memory");
-    let end = if told.is_empty() { "" } else { "\n" };
-    format!(in rt.alloc(); "{text}{told}{end}").expect(rt, "memory")
 }
 
 /// The entries of jobs, with an empty line between two jobs.
@@ -135,29 +69,25 @@ pub fn history_of<R: Abort + AllocGlobal>(rt: &R, histories: &[JobHistory]) -> S
     out
 }
 
-/// Sees that so many entries of jobs have a text, as lines of a table want it.
-pub fn assert_counts<R: Abort + AllocGlobal>(
+/// Sees that a history is as it is wanted: that so many entries of jobs have a text, or all of it.
+pub fn assert_history<R: Abort + AllocGlobal>(
     rt: &R,
     histories: &[JobHistory],
     want: &str,
     label: &str,
 ) {
-    assert_history(rt, history_of(rt, histories).as_str(), want, label);
-}
-
-/// Sees that a history is as it is wanted.
-fn assert_history<R: Abort + AllocGlobal>(rt: &R, history: &str, want: &str, label: &str) {
-    if want.contains(" | ") {
-        for line in want.lines() {
-            let (want, text) = halves(line, " | ");
-            let counts = counts_of(rt, history, text);
-            assert!(rt;
-                are_counts(counts.as_str(), want),
-                "{label}: {text}: {counts} of {want}"
-            );
-        }
-    } else {
-        assert_eq!(rt; history, want, "{label}");
+    let history = history_of(rt, histories);
+    if !want.contains(" | ") {
+        assert_eq!(rt; history.as_str(), want, "{label}");
+        return;
+    }
+    for line in want.lines() {
+        let (want, text) = halves(line, " | ");
+        let counts = counts_of(rt, history.as_str(), text);
+        assert!(rt;
+            are_counts(counts.as_str(), want),
+            "{label}: {text}: {counts} of {want}"
+        );
     }
 }
 
@@ -179,4 +109,16 @@ fn counts_of<R: Abort + AllocGlobal>(rt: &R, history: &str, text: &str) -> Strin
         write!(counts, "{gap}{count}").expect(rt, "memory");
     }
     counts
+}
+
+/// Whether a history has these lines in this order, with others in between.
+pub fn has_lines(history: &str, lines: &str) -> bool {
+    let mut rest = history;
+    for line in lines.lines() {
+        match rest.split_once(line) {
+            Some((_, behind)) => rest = behind,
+            None => return false,
+        }
+    }
+    true
 }

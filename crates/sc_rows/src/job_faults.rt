@@ -2,7 +2,7 @@
 //! that leave early, and attempts that are slow.
 #![tactic(auto)]
 
-use crate::transcripts::assert_jobs;
+use crate::transcripts::assert_job;
 
 const FAULTS: &str =
     r#"==== a late report is told when it is released, and its second copy changes nothing
@@ -164,5 +164,9 @@ told 3
 
 #[test]
 fn faults_are_survived_as_their_transcripts_say(rt: HostRuntime) {
-    assert_jobs(&rt, FAULTS);
+    for case in FAULTS.split("==== ") {
+        if !case.is_empty() {
+            assert_job(&rt, case);
+        }
+    }
 }

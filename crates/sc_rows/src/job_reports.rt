@@ -1,7 +1,7 @@
 //! Reports that change little or nothing, and a second attempt of a stage beside the first.
 #![tactic(auto)]
 
-use crate::transcripts::assert_jobs;
+use crate::transcripts::assert_job;
 
 const REPORTS: &str =
     r#"==== reports of attempts that weren't handed out, or have ended, are ignored and counted
@@ -124,5 +124,9 @@ counts: task failures 4, stage attempts 2, hand-outs 99
 
 #[test]
 fn reports_are_answered_as_their_transcripts_say(rt: HostRuntime) {
-    assert_jobs(&rt, REPORTS);
+    for case in REPORTS.split("==== ") {
+        if !case.is_empty() {
+            assert_job(&rt, case);
+        }
+    }
 }

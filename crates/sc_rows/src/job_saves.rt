@@ -5,7 +5,7 @@
 //! moves in this order, each once, and any other step of it is over.
 #![tactic(auto)]
 
-use crate::transcripts::assert_jobs;
+use crate::transcripts::assert_job;
 
 const SAVES: &str =
     r#"==== the grant of a lost holder is free, and its partition is committed by another attempt
@@ -26,6 +26,7 @@ lose 1 0 0
 0 take: ended
 1 post 0.0.0.0 result: ignored
 1 stage 0.0.0.0: over
+1 ask 0.0.0.0: over
 told 1
 ==== who is denied waits until the holder has failed
 four saved results: task failures 4, stage attempts 4, hand-outs 99, speculation
@@ -225,11 +226,12 @@ told 9
 "#;
 
 #[test]
-fn the_first_that_asks_commits(rt: HostRuntime) {
-    assert_jobs(&rt, SAVES);
-}
-
-#[test]
-fn a_grant_of_an_older_attempt_of_a_stage_holds_in_the_newest(rt: HostRuntime) {
-    assert_jobs(&rt, OLDER);
+fn the_first_that_asks_commits_and_its_grant_holds_in_newer_attempts(rt: HostRuntime) {
+    for table in [SAVES, OLDER] {
+        for case in table.split("==== ") {
+            if !case.is_empty() {
+                assert_job(&rt, case);
+            }
+        }
+    }
 }

@@ -14,14 +14,19 @@ use sc_plan::{Plan, parse_plan};
 use sc_value::Octets;
 use std::process::Abort;
 
-/// The journal of a word count over two partitions, under a fault plan: stage 0 makes two outputs
-/// of a shuffle, and stage 1 reads them for two results.
-pub fn counting_under<R: Abort + AllocGlobal>(rt: &R, limits: Limits, plan: &str) -> Journal
+/// The journal of a word count over two partitions, which saves its results or doesn't, under a
+/// fault plan: stage 0 makes two outputs of a shuffle, and stage 1 reads them for two results.
+pub fn counting_under<R: Abort + AllocGlobal>(
+    rt: &R,
+    limits: Limits,
+    saves: bool,
+    plan: &str,
+) -> Journal
     ensures { room_of result.0.core ≡ 2 }
 {
     let graph = word_count(rt, 1);
     let plan = plan_of(rt, plan);
-    begun(rt, &graph, limits, false, &plan, None)
+    begun(rt, &graph, limits, saves, &plan, None)
 }
 
 /// That of a job behind it whose stage 2 reads the outputs of the same shuffle.
@@ -32,31 +37,18 @@ pub fn counting_again<R: Abort + AllocGlobal>(rt: &R, limits: Limits, last: &Cor
     begun(rt, &graph, limits, false, &plan_of(rt, ""), Some(last))
 }
 
-/// That of a word count that saves its results.
-pub fn counting_saved<R: Abort + AllocGlobal>(rt: &R, limits: Limits, plan: &str) -> Journal {
-    let graph = word_count(rt, 1);
-    begun(rt, &graph, limits, true, &plan_of(rt, plan), None)
-}
-
-/// That of a job without a shuffle, of so many results.
-pub fn results<R: Abort + AllocGlobal>(rt: &R, limits: Limits, tasks: u32) -> Journal
-    requires { 0 < tasks }
-{
-    let graph = results_alone(rt, tasks);
-    begun(rt, &graph, limits, false, &plan_of(rt, ""), None)
-}
-
-/// That of a job without a shuffle that saves so many results, under a fault plan.
-pub fn saving_under<R: Abort + AllocGlobal>(
+/// That of a job without a shuffle of so many results, which it saves or doesn't.
+pub fn results_under<R: Abort + AllocGlobal>(
     rt: &R,
     limits: Limits,
     tasks: u32,
+    saves: bool,
     plan: &str,
 ) -> Journal
     requires { 0 < tasks }
 {
     let graph = results_alone(rt, tasks);
-    begun(rt, &graph, limits, true, &plan_of(rt, plan), None)
+    begun(rt, &graph, limits, saves, &plan_of(rt, plan), None)
 }
 
 /// A plan for two executors.
@@ -82,25 +74,17 @@ fn begun<R: Abort + AllocGlobal>(
     ensures { IsOpening graph.now limits saves plan.now (option_map (λ l. l.now) last.entry)
         result.0.core }
 {
-    is_sound_behind(last);
     is_live_behind(rt, limits, last);
     let opening = Core::open(rt.alloc(), graph, limits, saves, plan, last).expect(rt, "memory");
     let core = Core::open(rt.alloc(), graph, limits, saves, plan, last).expect(rt, "memory");
     Journal::begin(rt.alloc(), opening, core)
 }
 
-/// The core of the job before is one. A call does nothing.
-fn is_sound_behind(last: Option<&Core>)
-    ensures { IfSome (option_map (λ l. l.now) last.entry) IsSoundCore }
-{
-    if let Some(core) = last {
-        core.is_sound();
-    }
-}
-
-/// Somebody is live behind the core of the job before, which is done, or in a first job.
+/// The core of the job before is one, and somebody is live behind it, since it is done, or in a
+/// first job. A call does nothing.
 fn is_live_behind<R: Abort>(rt: &R, limits: Limits, last: Option<&Core>)
-    ensures { HasLive (tracker_behind (option_map (λ l. l.now) last.entry) limits) }
+    ensures sound { IfSome (option_map (λ l. l.now) last.entry) IsSoundCore }
+    ensures live { HasLive (tracker_behind (option_map (λ l. l.now) last.entry) limits) }
 {
     cores_are_sound();
     match last {

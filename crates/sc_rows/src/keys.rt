@@ -6,8 +6,6 @@ use crate::works::halves;
 use sc_hash::{bucket, hash_of};
 use sc_keys::Keys;
 use sc_value::{Key, Text};
-use std::process::Abort;
-use std::thread::Threads;
 
 /// In each line a key's kind, its `hashCode` in Java, the remainder of that by 7 as `Math.floorMod`
 /// has it, and the key: a text, or a number as a `Long`.
@@ -60,22 +58,17 @@ number -2147483648 5 -9223372036854775808\n\
 number 1825280481 3 1234567890123456789\n\
 number 1825280480 2 -1234567890123456789\n";
 
-/// The key that a word writes.
-fn key_of<R: Abort + AllocGlobal>(rt: &R, kind: &str, word: &str) -> Key {
-    if kind == "text" {
-        Key::Text(Text::new(rt.alloc(), word).expect(rt, "memory"))
-    } else {
-        Key::Int(word.parse::<i64>().expect(rt, "a number"))
-    }
-}
-
 #[test]
 fn keys_have_the_hashes_of_java(rt: HostRuntime) {
     for line in HASHES.lines() {
         let (kind, rest) = halves(line, " ");
         let (hash, rest) = halves(rest, " ");
         let (remainder, word) = halves(rest, " ");
-        let key = key_of(&rt, kind, word);
+        let key = if kind == "text" {
+            Key::Text(Text::new(rt.alloc(), word).expect(&rt, "memory"))
+        } else {
+            Key::Int(word.parse::<i64>().expect(&rt, "a number"))
+        };
         let seen = (i64::from(hash_of(&key)), bucket(&key, 7));
         let hash = hash.parse::<i64>().expect(&rt, "a hash");
         let remainder = remainder.parse::<u32>().expect(&rt, "a remainder");
@@ -100,16 +93,6 @@ const RANGES: &str = r#"
 "10" "9" "1" | 3 | [1, 2, 0]
 "#;
 
-/// The ranges of literals, as they are written.
-fn ranges_of<R: Abort + AllocGlobal + Threads + Sync>(rt: &R, literals: &str, n: u32) -> String {
-    let script = format!(in rt.alloc(); "l = parallelize 1 {literals}\n").expect(rt, "memory");
-    let stream = last_stream(rt, script.as_str(), "");
-    let keys = Keys::of(rt.alloc(), &stream.rows).expect(rt, "memory");
-    let bounds = keys.bounds(rt.alloc(), n).expect(rt, "memory");
-    let ranges = keys.ranges(rt.alloc(), &bounds).expect(rt, "memory");
-    format!(in rt.alloc(); "{ranges:?}").expect(rt, "memory")
-}
-
 #[test]
 fn keys_fall_into_even_ranges(rt: HostRuntime) {
     for line in RANGES.lines() {
@@ -117,7 +100,13 @@ fn keys_fall_into_even_ranges(rt: HostRuntime) {
             let (literals, rest) = halves(line, " | ");
             let (n, want) = halves(rest, " | ");
             let n = n.parse::<u32>().expect(&rt, "a number");
-            let seen = ranges_of(&rt, literals, n);
+            let script = format!(in rt.alloc(); "l = parallelize 1 {literals}\n");
+            let script = script.expect(&rt, "memory");
+            let (rows, _) = last_stream(&rt, script.as_str(), "");
+            let keys = Keys::of(rt.alloc(), &rows).expect(&rt, "memory");
+            let bounds = keys.bounds(rt.alloc(), n).expect(&rt, "memory");
+            let ranges = keys.ranges(rt.alloc(), &bounds).expect(&rt, "memory");
+            let seen = format!(in rt.alloc(); "{ranges:?}").expect(&rt, "memory");
             assert_eq!(rt; seen.as_str(), want, "{line}");
         }
     }

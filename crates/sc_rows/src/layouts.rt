@@ -64,35 +64,29 @@ fn word_of(rows: &Rows) -> Option<&'static str> {
     }
 }
 
-/// Sees that there is memory for what can be made of three rows.
-fn assert_made<R: Abort + AllocGlobal>(rt: &R, rows: &Rows, line: &str) {
+/// Sees that the last node of a script is held so, and that there is memory for what can be made of
+/// its rows. The script is a line with literals, which are `n0`, and definitions, each of which
+/// reads the one before, a `|` between them.
+fn assert_held<R: Abort + AllocGlobal + Threads + Sync>(rt: &R, line: &str) {
     let alloc = rt.alloc();
+    let (operations, want) = line.rsplit_once(" | ").unwrap_or((line, "no layout"));
+    let lines = operations.replace(alloc, " | ", "\n").expect(rt, "memory");
+    let script = format!(in alloc; "n0 = parallelize 1 {lines}\n").expect(rt, "memory");
+    let (rows, _) = last_stream(rt, script.as_str(), "");
+    let layout = layout_of(alloc, &rows).expect(rt, "memory");
+    assert_eq!(rt; layout.as_str(), want, "{line}");
     let marks = [true, false, true];
     assert!(rt; rows.filter(alloc, &marks).is_ok(), "{line}");
     assert!(rt; rows.part(alloc, 1, 3).is_ok(), "{line}");
     assert!(rt; rows.flat(alloc).is_ok(), "{line}");
     assert!(rt; rows.printed_rows(alloc).is_ok(), "{line}");
-    assert!(rt; Keys::of(alloc, rows).is_ok(), "{line}");
+    assert!(rt; Keys::of(alloc, &rows).is_ok(), "{line}");
     let first = rows.share().expect(rt, "memory");
     let second = rows.joined(alloc).expect(rt, "memory");
     let both = Rows::concat(alloc, first, second).expect(rt, "memory");
     assert!(rt; both.filter(alloc, &marks).is_ok(), "{line}");
     assert!(rt; both.part(alloc, 1, 3).is_ok(), "{line}");
     assert!(rt; both.joined(alloc).is_ok(), "{line}");
-}
-
-/// Sees that the last node of a script is held so. The script is a line with literals, which are
-/// `n0`, and definitions, each of which reads the one before, a `|` between them.
-fn assert_held<R: Abort + AllocGlobal + Threads + Sync>(rt: &R, line: &str) {
-    let (operations, want) = line.rsplit_once(" | ").unwrap_or((line, "no layout"));
-    let lines = operations
-        .replace(rt.alloc(), " | ", "\n")
-        .expect(rt, "memory");
-    let script = format!(in rt.alloc(); "n0 = parallelize 1 {lines}\n").expect(rt, "memory");
-    let stream = last_stream(rt, script.as_str(), "");
-    let layout = layout_of(rt.alloc(), &stream.rows).expect(rt, "memory");
-    assert_eq!(rt; layout.as_str(), want, "{line}");
-    assert_made(rt, &stream.rows, line);
 }
 
 /// In each line: literals, definitions, and how the rows of the last one are held.

@@ -7,16 +7,14 @@
 
 ghost use Rattle.std.specs.Prelude.{◌≡◌};
 
-use crate::transcripts::{at, numbers_of};
-use crate::works::{INPUT, halves, work_of};
+use crate::works::{INPUT, at, halves, numbers_of, work_of};
 use crate::world_lines::{WORD_COUNT, desk_of};
 use sc_desk::{Desk, Taken};
-use sc_ids::{ExecId, Mark};
+use sc_ids::Mark;
 use sc_lineage::Work;
 use sc_work::{Naming, SharedWork};
 use std::marker::Brand;
 use std::process::Abort;
-use std::thread::Threads;
 
 const LEAVES: &str = r#"==== who left leaves no more, and the first that did stops all others
 --executors=3
@@ -40,22 +38,6 @@ leave 1: false, entry 2 is 0 leave 0: left
 take 0: stopped, entry 3 is 0 take: stopped by 1
 "#;
 
-/// An executor of the work leaves.
-fn leave<W: Naming, R: Abort>(rt: &R, desk: &mut Desk<W>, exec: ExecId) -> &'static str {
-    let executors = desk.work().get().limits().executors;
-    assert!(rt; exec < executors, "no executor of the work");
-    if desk.leave(exec) { "true" } else { "false" }
-}
-
-/// An executor asks for a task.
-fn take<W: Naming, R: Abort>(rt: &R, desk: &mut Desk<W>, exec: ExecId) -> &'static str {
-    match desk.take(Mark::Exec(exec), exec).expect(rt, "memory") {
-        Taken::Task(_) => "a task",
-        Taken::Stopped { .. } => "stopped",
-        _ => "another answer",
-    }
-}
-
 /// Makes the call of a line, and writes the line with its answer.
 fn tell<W: Naming, R: Abort + AllocGlobal>(
     rt: &R,
@@ -64,11 +46,17 @@ fn tell<W: Naming, R: Abort + AllocGlobal>(
     told: &mut String,
 ) {
     let (words, _) = halves(line, ": ");
-    let exec = at(numbers_of(rt, words).as_slice(), 0);
+    let exec = at(&numbers_of(rt, words), 0);
     let answer = if words.starts_with("leave ") {
-        leave(rt, desk, exec)
+        let executors = desk.work().get().limits().executors;
+        assert!(rt; exec < executors, "no executor of the work");
+        if desk.leave(exec) { "true" } else { "false" }
     } else {
-        take(rt, desk, exec)
+        match desk.take(Mark::Exec(exec), exec).expect(rt, "memory") {
+            Taken::Task(_) => "a task",
+            Taken::Stopped { .. } => "stopped",
+            _ => "another answer",
+        }
     };
     let count = desk.entries().len();
     let last = desk.entries().last().expect(rt, "an entry");
@@ -88,21 +76,16 @@ fn answers_of<W: Naming, R: Abort + AllocGlobal>(rt: &R, work: Work, lines: Stri
     told
 }
 
-/// Sees that a case holds.
-fn assert_leaves<R: Abort + AllocGlobal + Threads + Sync>(rt: &R, case: &str) {
-    let (label, rest) = halves(case, "\n");
-    let (word, want) = halves(rest, "\n----\n");
-    let work = work_of(rt, WORD_COUNT, "", word, INPUT);
-    let lines = String::from_str(rt.alloc(), want).expect(rt, "memory");
-    let seen = answers_of::<Brand, R>(rt, work, lines);
-    assert_eq!(rt; seen.as_str(), want, "{label}");
-}
-
 #[test]
 fn who_left_leaves_no_more(rt: HostRuntime) {
     for case in LEAVES.split("==== ") {
         if !case.is_empty() {
-            assert_leaves(&rt, case);
+            let (label, rest) = halves(case, "\n");
+            let (word, want) = halves(rest, "\n----\n");
+            let work = work_of(&rt, WORD_COUNT, "", word, INPUT);
+            let lines = String::from_str(rt.alloc(), want).expect(&rt, "memory");
+            let seen = answers_of::<Brand, HostRuntime>(&rt, work, lines);
+            assert_eq!(&rt; seen.as_str(), want, "{label}");
         }
     }
 }

@@ -7,11 +7,12 @@
 //! case fails, what it claims is told. `histories` walks runs under fault plans, `transcripts` the
 //! jobs that `jobs` begins without a script, and `world_lines` worlds step by step. `given` makes a
 //! run whose calls outside may fail. `works` reads the words and files of a case, and `streams`
-//! gives the rows of a node. `apart` lets executors look at stores of their own. What the program
-//! shows of a run is tested by the cases of `cases/`.
+//! gives the rows of a node. `lefts` walks jobs that `apart` runs by executors over stores of their
+//! own, or `alone` by one thread. What the program shows of a run, and what it leaves, is tested by
+//! the cases of `cases/`.
 //!
 //! Want of memory ends a test by `expect`: a `?` is one more way out, on which all that is held has
-//! to be let go. A loop holds one call, and a table texts or tuples of texts and numbers.
+//! to be let go. A loop holds few calls, and a table texts or tuples of texts and numbers.
 //!
 //! What the contracts of the crates below promise for all inputs isn't tried again: a row here is
 //! for what no clause says, for whether a clause says what was meant, or for whether a call
@@ -25,11 +26,7 @@ mod apart;
 #[cfg(test)]
 mod calls;
 #[cfg(test)]
-mod claims;
-#[cfg(test)]
 mod clocks;
-#[cfg(test)]
-mod committing;
 #[cfg(test)]
 mod copies;
 #[cfg(test)]
@@ -37,15 +34,11 @@ mod crews;
 #[cfg(test)]
 mod executors;
 #[cfg(test)]
-mod failing_saves;
-#[cfg(test)]
 mod failures;
 #[cfg(test)]
 mod files;
 #[cfg(test)]
 mod gates;
-#[cfg(test)]
-mod generated;
 #[cfg(test)]
 mod given;
 #[cfg(test)]
@@ -73,23 +66,17 @@ mod losses;
 #[cfg(test)]
 mod outside;
 #[cfg(test)]
-mod planned_saves;
-#[cfg(test)]
 mod plans;
 #[cfg(test)]
 mod raises;
 #[cfg(test)]
 mod readers;
 #[cfg(test)]
-mod saved_runs;
-#[cfg(test)]
 mod saves;
 #[cfg(test)]
 mod sequences;
 #[cfg(test)]
 mod slow_attempts;
-#[cfg(test)]
-mod stagings;
 #[cfg(test)]
 mod streams;
 #[cfg(test)]

@@ -2,7 +2,7 @@
 //! again and the text stays the same, up to a limit.
 #![tactic(auto)]
 
-use crate::histories::assert_runs;
+use crate::histories::assert_case;
 
 const WIPES: &str =
     r#"==== one wipe is found by a fetch of the second stage, and all of that store is made again
@@ -143,11 +143,6 @@ drop 0 5
 0 1 | failed
 "#;
 
-#[test]
-fn wipes_are_survived_up_to_their_limit(rt: HostRuntime) {
-    assert_runs(&rt, WIPES);
-}
-
 const LOSSES: &str = r#"==== a run ends where all executors are lost
 collect c
 -- words
@@ -256,6 +251,12 @@ no executor
 "#;
 
 #[test]
-fn losses_are_survived_while_an_executor_is_left(rt: HostRuntime) {
-    assert_runs(&rt, LOSSES);
+fn wipes_and_losses_are_survived_up_to_their_limit(rt: HostRuntime) {
+    for table in [WIPES, LOSSES] {
+        for case in table.split("==== ") {
+            if !case.is_empty() {
+                assert_case(&rt, case);
+            }
+        }
+    }
 }

@@ -4,8 +4,10 @@
 //! The texts and the statuses of the same runs are in `cases/`, but for calls that fail.
 #![tactic(auto)]
 
-use crate::claims::assert_end;
-use crate::given::Row;
+use crate::given::{Outside, STILL, Seen, seen_of};
+use crate::works::{add, strings_of};
+use sc_exec::OpenGate;
+use sc_input::MemSource;
 use std::process::Abort;
 use std::sync::Wait;
 use std::thread::Threads;
@@ -624,7 +626,10 @@ const ROWS: [(&[&str], &[(&str, &[u8])], u64, (u64, usize), &str); 63] = [
     ),
 ];
 
-/// Sees that a run of words over files ends so, where a read and a write fail.
+/// Sees that a run of words over files ends so, where a read and a write fail: a line with the
+/// number of how it ended, the names that the source was asked for, in order, how many files the
+/// run says that it read and how many pieces were written; and behind it what was written and what
+/// is told.
 fn assert_run<R: Abort + AllocGlobal + Threads + Wait + time::Clock + Sync>(
     rt: &R,
     words: &[&str],
@@ -633,9 +638,32 @@ fn assert_run<R: Abort + AllocGlobal + Threads + Wait + time::Clock + Sync>(
     (write, bytes): (u64, usize),
     end: &str,
 ) {
-    let row = Row::of_words(rt, words).files(rt, files);
-    let row = row.failing_read(rt, read).failing_write(rt, write, bytes);
-    assert_end(rt, &row.run(rt), end, "");
+    let alloc = rt.alloc();
+    let mut outside = Outside::of(rt, MemSource::new(alloc));
+    for (name, bytes) in files {
+        add(rt, &mut outside.source, *name, *bytes);
+    }
+    outside.source.fail_at(read).expect(rt, "memory");
+    outside.sink.fail_at(write, bytes).expect(rt, "memory");
+    let words = strings_of(rt, words);
+    let Seen {
+        number,
+        all,
+        reads,
+        outside,
+        ..
+    } = seen_of(rt, &words, outside, &OpenGate, STILL);
+    let mut asked = String::new(alloc);
+    for name in outside.source.asked() {
+        let gap = if asked.is_empty() { "" } else { " " };
+        let name = name.as_str();
+        write!(asked, "{gap}{name}").expect(rt, "memory");
+    }
+    let writes = outside.sink.pieces(alloc).expect(rt, "memory").len();
+    let seen = format!(in alloc;
+        "status {number}, asked [{asked}], {reads} read, {writes} written\n{all}"
+    ).expect(rt, "memory");
+    assert_eq!(rt; seen.as_str(), end);
 }
 
 #[test]

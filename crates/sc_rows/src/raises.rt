@@ -3,10 +3,8 @@
 //! The statuses of the same scripts are in `cases/`.
 #![tactic(auto)]
 
-use crate::claims::assert_text;
-use crate::streams::{kind_of, last_stream};
+use crate::streams::last_stream;
 use crate::works::halves;
-use std::alloc::{AllocError, Global};
 use std::process::Abort;
 use std::str;
 use std::thread::Threads;
@@ -228,21 +226,6 @@ p = coalesce o 1
 ====
 "#;
 
-/// Sees that each row of a table of literals and one of scripts holds.
-fn assert_raises<R: Abort + AllocGlobal + Threads + Sync>(rt: &R, rows: &str, chains: &str) {
-    for line in rows.lines() {
-        if !line.is_empty() {
-            assert_row(rt, line);
-        }
-    }
-    for case in chains.split("====\n") {
-        if !case.is_empty() {
-            let (script, want) = halves(case, "----\n");
-            assert_stream(rt, script, want);
-        }
-    }
-}
-
 /// Sees that a map of literals gives the rows of a line, and then raises.
 fn assert_row<R: Abort + AllocGlobal + Threads + Sync>(rt: &R, line: &str) {
     let (literals, rest) = halves(line, " | ");
@@ -258,17 +241,27 @@ fn assert_row<R: Abort + AllocGlobal + Threads + Sync>(rt: &R, line: &str) {
 /// then this raise.
 fn assert_stream<R: Abort + AllocGlobal + Threads + Sync>(rt: &R, script: &str, want: &str) {
     let (rows, raise) = halves(want, "! ");
-    let stream = last_stream(rt, script, "");
+    let (seen, kind) = last_stream(rt, script, "");
     let mut out = Vec::new(rt.alloc());
-    stream.rows.print_lines(&mut out).expect(rt, "memory");
+    seen.print_lines(&mut out).expect(rt, "memory");
     let printed = str::from_utf8(&out).unwrap_or("(no text)");
-    assert_text(rt, printed, rows, script);
-    assert_text(rt, kind_of(stream.raise), raise.trim_end(), script);
+    assert_eq!(rt; printed, rows, "{script}");
+    assert_eq!(rt; kind, raise.trim_end(), "{script}");
 }
 
 #[test]
 fn a_raise_comes_behind_the_rows_before_it(rt: HostRuntime) {
-    assert_raises(&rt, ROWS, CHAINS);
+    for line in ROWS.lines() {
+        if !line.is_empty() {
+            assert_row(&rt, line);
+        }
+    }
+    for case in CHAINS.split("====\n") {
+        if !case.is_empty() {
+            let (script, want) = halves(case, "----\n");
+            assert_stream(&rt, script, want);
+        }
+    }
 }
 
 /// The nodes over lines of 1, the line for which they raise, and the raise.
@@ -316,17 +309,6 @@ const PLACES: [(usize, usize); 11] = [
     (8192, 0),
 ];
 
-/// Lines of 1, so many before an odd one and so many behind it.
-fn ones_but(
-    alloc: Global,
-    odd: &str,
-    (before, behind): (usize, usize),
-) -> Result<String, AllocError> {
-    let first = "1\n".repeat(alloc, before)?;
-    let last = "1\n".repeat(alloc, behind)?;
-    format!(in alloc; "{first}{odd}\n{last}")
-}
-
 /// Sees that over lines of 1, so many before an odd one and so many behind it, these nodes stop
 /// before the odd one, by this raise.
 fn assert_stops<R: Abort + AllocGlobal + Threads + Sync>(
@@ -334,31 +316,23 @@ fn assert_stops<R: Abort + AllocGlobal + Threads + Sync>(
     nodes: &str,
     odd: &str,
     kind: &str,
-    place: (usize, usize),
+    (before, behind): (usize, usize),
 ) {
-    let lines = ones_but(rt.alloc(), odd, place).expect(rt, "memory");
-    let script = format!(in rt.alloc(); "l = text \"in.txt\" 1\n{nodes}\n");
-    let script = script.expect(rt, "memory");
-    let stream = last_stream(rt, script.as_str(), lines.as_str());
-    assert!(rt; stream.rows.len() == place.0, "{nodes}");
-    assert_text(rt, kind_of(stream.raise), kind, nodes);
-}
-
-/// Sees that these nodes stop before the odd line, whatever its place.
-fn assert_stops_anywhere<R: Abort + AllocGlobal + Threads + Sync>(
-    rt: &R,
-    nodes: &str,
-    odd: &str,
-    kind: &str,
-) {
-    for place in &PLACES {
-        assert_stops(rt, nodes, odd, kind, *place);
-    }
+    let alloc = rt.alloc();
+    let first = "1\n".repeat(alloc, before).expect(rt, "memory");
+    let last = "1\n".repeat(alloc, behind).expect(rt, "memory");
+    let lines = format!(in alloc; "{first}{odd}\n{last}").expect(rt, "memory");
+    let script = format!(in alloc; "l = text \"in.txt\" 1\n{nodes}\n").expect(rt, "memory");
+    let (rows, seen) = last_stream(rt, script.as_str(), lines.as_str());
+    assert_eq!(rt; rows.len(), before, "{nodes}");
+    assert_eq!(rt; seen, kind, "{nodes}");
 }
 
 #[test]
 fn rows_end_before_the_first_that_raises_whatever_its_place(rt: HostRuntime) {
     for (nodes, odd, kind) in &STOPPING {
-        assert_stops_anywhere(&rt, *nodes, *odd, *kind);
+        for place in &PLACES {
+            assert_stops(&rt, *nodes, *odd, *kind, *place);
+        }
     }
 }

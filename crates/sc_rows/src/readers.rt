@@ -1,10 +1,8 @@
-//! Readers that give a few bytes at a time or fail, and the files of the system.
+//! Readers that give a few bytes at a time or fail.
 #![tactic(auto)]
 
 use sc_base::OrMemory;
-use sc_input::{CountedReader, HostSource, ReadAnswer, ReadFault, Source, read_limited};
-use sc_value::Name;
-use std::fs;
+use sc_input::{CountedReader, ReadFault, read_limited};
 use std::io::{self, ErrorKind, Read};
 use std::process::Abort;
 
@@ -88,11 +86,7 @@ fn reads_give_all_bytes_or_tell_why_not(rt: HostRuntime) {
         };
         assert_reads(&rt, reader, limit, awaited, want);
     }
-}
-
-// More than one read asks for, and more than is awaited.
-#[test]
-fn many_bytes_are_read_whole(rt: HostRuntime) {
+    // More than one read asks for, and more than is awaited.
     let bytes = vec![in rt.alloc(); 7_u8; 300_000].expect(&rt, "memory");
     let reader = FewAtOnce {
         rest: bytes.as_slice(),
@@ -102,32 +96,4 @@ fn many_bytes_are_read_whole(rt: HostRuntime) {
         kind: ErrorKind::Other,
     };
     assert_reads(&rt, reader, 300_000, 1000, bytes.as_slice());
-}
-
-/// Names on the system, and what reading by them comes to.
-const ON_THE_SYSTEM: [(&str, &[u8]); 6] = [
-    ("read_by_a_test.txt", b"b a\n"),
-    (".", b"failed"),
-    ("no_such_file.txt", b"no file"),
-    ("no_such_folder/file.txt", b"no file"),
-    ("read_by_a_test.txt/file.txt", b"failed"),
-    ("a\0b", b"failed"),
-];
-
-#[test]
-fn a_folder_is_a_fault_and_a_missing_file_is_none(rt: HostRuntime) {
-    fs::write(&rt, "read_by_a_test.txt", "b a\n").expect(&rt, "a file");
-    let mut source = HostSource::new(rt.clone().expect(&rt, "memory"));
-    for (name, want) in &ON_THE_SYSTEM {
-        let asked = Name::new(rt.alloc(), *name).expect(&rt, "memory");
-        let answer = source.read(&asked);
-        let bytes = match &answer {
-            ReadAnswer::Bytes(bytes) => bytes.as_slice(),
-            ReadAnswer::NoFile => b"no file",
-            ReadAnswer::Failed => b"failed",
-            ReadAnswer::OutOfMemory => b"out of memory",
-        };
-        assert!(rt; bytes == *want, "by the name {name:?}");
-    }
-    fs::remove_file(&rt, "read_by_a_test.txt").expect(&rt, "a file");
 }

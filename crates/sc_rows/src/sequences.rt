@@ -3,7 +3,7 @@
 //! The numbers are those of the tasks that were handed out, job by job.
 #![tactic(auto)]
 
-use crate::histories::assert_runs;
+use crate::histories::assert_case;
 
 const JOBS: &str = r#"==== each job tells its tasks and their reports
 collect c
@@ -151,11 +151,6 @@ not text: no_text.txt
 -- history
 "#;
 
-#[test]
-fn each_job_has_its_tasks(rt: HostRuntime) {
-    assert_runs(&rt, JOBS);
-}
-
 const STAGES: &str = r#"==== a shuffle is skipped where rows lie as the operation asks
 l = parallelize 2 1 2 3
 p = map l (pair x x)
@@ -283,11 +278,6 @@ collect t
 0 2 | take: task 5.
 "#;
 
-#[test]
-fn shuffles_have_stages_unless_rows_lie_right(rt: HostRuntime) {
-    assert_runs(&rt, STAGES);
-}
-
 const CACHES: &str = r#"==== one block is kept, and each job computes what it lacks
 l = text "in.txt" 1
 a = map l (concat x "a")
@@ -346,6 +336,12 @@ lose 1 6 6
 "#;
 
 #[test]
-fn whatever_blocks_are_kept_the_texts_are_the_same(rt: HostRuntime) {
-    assert_runs(&rt, CACHES);
+fn each_job_has_its_tasks_and_its_stages(rt: HostRuntime) {
+    for table in [JOBS, STAGES, CACHES] {
+        for case in table.split("==== ") {
+            if !case.is_empty() {
+                assert_case(&rt, case);
+            }
+        }
+    }
 }

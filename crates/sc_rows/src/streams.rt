@@ -2,18 +2,19 @@
 #![tactic(auto)]
 
 use crate::works::work_of;
-use sc_expr::Raise;
+use sc_columns::Rows;
 use sc_lineage::Stream;
 use sc_ops::run_node;
 use std::process::Abort;
 use std::thread::Threads;
 
-/// The first partition of the last node of a script, of which each node reads the one before.
+/// The first partition of the last node of a script, of which each node reads the one before: its
+/// rows, and the word for the raise that ends them, or no word for none.
 pub fn last_stream<R: Abort + AllocGlobal + Threads + Sync>(
     rt: &R,
     script: &str,
     input: &str,
-) -> Stream {
+) -> (Rows, &'static str) {
     let work = work_of(rt, script, "", "", input);
     let mut inputs = Vec::new(rt.alloc());
     for (i, _) in work.script().nodes().iter().enumerate() {
@@ -22,13 +23,9 @@ pub fn last_stream<R: Abort + AllocGlobal + Threads + Sync>(
         inputs.clear();
         inputs.push(stream).expect(rt, "memory");
     }
-    inputs.pop().expect(rt, "a node")
-}
-
-/// The word for a raise, and no word for none.
-pub fn kind_of(raise: Option<Raise>) -> &'static str {
+    let Stream { rows, raise } = inputs.pop().expect(rt, "a node");
     match raise {
-        Some(raise) => raise.name(),
-        None => "",
+        Some(raise) => (rows, raise.name()),
+        None => (rows, ""),
     }
 }

@@ -39,47 +39,46 @@ fn register(tracker: &mut Tracker, node: u32, from: u32, maps: u32, exec: ExecId
     }
 }
 
-/// A tracker of two executors with such outputs.
-fn registered<R: Abort + AllocGlobal>(rt: &R, first: u32, second: u32, again: u32) -> Tracker {
+/// How many outputs are left of two shuffles of so many, of which the first has so many of its
+/// last ones registered again, where an executor is told lost: the middle of its executor's list
+/// and its front.
+fn left_behind<L: Ledger, R: Abort + AllocGlobal>(
+    rt: &R,
+    outputs: (u32, u32, u32),
+    lost: ExecId,
+    blank: Blank,
+) -> u32
+    requires name { blank.name ≡ L.name }
+    requires parts { blank.parts ≡ L.parts }
+    requires some { 0 < blank.parts }
+{
+    let (first, second, again) = outputs;
     let mut tracker = Tracker::new(rt.alloc(), 2).expect(rt, "memory");
     for (node, maps) in [(0, first), (1, second)] {
         let shuffle = ShuffleId { node, side: 0 };
         tracker.size_for(shuffle, maps).expect(rt, "memory");
         register(&mut tracker, node, 0, maps, node);
     }
-    // The last outputs of the first shuffle, from the middle of its executor's list and its front.
     register(&mut tracker, 0, first.saturating_sub(again), first, 1);
-    tracker
-}
-
-/// How many outputs of a shuffle are registered.
-fn left_of(tracker: &Tracker, node: u32, maps: u32) -> u32 {
+    let mut steps = Steps::<L>::new(blank);
+    tracker.unregister_exec(lost, &mut steps);
     let mut left: u32 = 0;
-    for map in 0..maps {
-        let shuffle = ShuffleId { node, side: 0 };
-        if let Location::Here(_) = tracker.location(BlockId { shuffle, map }) {
-            left = left.saturating_add(1);
+    for (node, maps) in [(0, first), (1, second)] {
+        for map in 0..maps {
+            let shuffle = ShuffleId { node, side: 0 };
+            if let Location::Here(_) = tracker.location(BlockId { shuffle, map }) {
+                left = left.saturating_add(1);
+            }
         }
     }
     left
 }
 
-/// An executor is told lost.
-fn lose<L: Ledger>(tracker: &mut Tracker, exec: ExecId, blank: Blank)
-    requires name { blank.name ≡ L.name }
-    requires parts { blank.parts ≡ L.parts }
-    requires some { 0 < blank.parts }
-{
-    let mut steps = Steps::<L>::new(blank);
-    tracker.unregister_exec(exec, &mut steps);
-}
-
 #[test]
 fn a_loss_takes_the_outputs_of_its_executor_alone(rt: HostRuntime) {
     for (first, second, again, lost, expected) in ROWS {
-        let mut tracker = registered(&rt, first, second, again);
-        lose::<Brand>(&mut tracker, lost, Blank::new(1));
-        let left = left_of(&tracker, 0, first).saturating_add(left_of(&tracker, 1, second));
+        let outputs = (first, second, again);
+        let left = left_behind::<Brand, HostRuntime>(&rt, outputs, lost, Blank::new(1));
         assert!(rt; left == expected, "{first} {second} {again} {lost}: {left}");
     }
 }

@@ -12,9 +12,12 @@ use std::marker::Model;
 /// number wants memory; the first call has the number 1.
 #[derive(Drop)]
 pub struct Veiled {
-    files: MemFiles,
-    calls: u64,
-    wanting: u64,
+    /// The files behind the veil.
+    pub files: MemFiles,
+    /// How many calls were made.
+    pub calls: u64,
+    /// The number of the call that wants memory, or 0.
+    pub wanting: u64,
 }
 
 impl Model for Veiled {
@@ -65,20 +68,6 @@ impl Files for Veiled {
 }
 
 impl Veiled {
-    /// Files of which the call of this number wants memory.
-    pub fn new(files: MemFiles, wanting: u64) -> Veiled {
-        Veiled {
-            files,
-            calls: 0,
-            wanting,
-        }
-    }
-
-    /// The files behind the veil.
-    pub fn files(&self) -> &MemFiles {
-        &self.files
-    }
-
     /// Counts a call, and says whether it wants memory.
     fn wants_memory(&mut self) -> bool
         ensures { self.new ≡ self.old }

@@ -1,10 +1,8 @@
 //! What words of the command line ask for; which ones are refused is in `cases/words.txt`.
 #![tactic(auto)]
 
-use crate::claims::assert_text;
-use crate::given::words_of;
-use sc_base::OrMemory;
-use sc_words::{Command, Workload, read_words};
+use crate::works::strings_of;
+use sc_words::{Workload, read_words};
 use std::process::Abort;
 
 /// What words ask for: the script, how many executors, failures of a task, attempts of a stage and
@@ -12,18 +10,10 @@ use std::process::Abort;
 /// seed and size of a workload.
 fn asked<R: Abort + AllocGlobal>(rt: &R, words: &[&str]) -> String {
     let alloc = rt.alloc();
-    let words = words_of(alloc, words).expect(rt, "memory");
-    match read_words(alloc, &words) {
-        Ok(command) => told(rt, &command),
-        Err(refusal) => match refusal {
-            OrMemory::Fault(_) => String::from_str(alloc, "usage").expect(rt, "memory"),
-            OrMemory::OutOfMemory => panic!(rt; "memory"),
-        },
-    }
-}
-
-/// A command in words.
-fn told<R: Abort + AllocGlobal>(rt: &R, command: &Command) -> String {
+    let words = strings_of(rt, words);
+    let Ok(command) = read_words(alloc, &words) else {
+        return String::from_str(alloc, "usage").expect(rt, "memory");
+    };
     let script = command.script.as_str();
     let executors = command.limits.executors;
     let failures = command.limits.task_failures;
@@ -35,17 +25,18 @@ fn told<R: Abort + AllocGlobal>(rt: &R, command: &Command) -> String {
         ""
     };
     if let Some(Workload { seed, size }) = command.workload {
-        return format!(in rt.alloc();
-            "{script} {executors}{copies} from {seed} lines {size}"
-        ).expect(rt, "memory");
+        return format!(in alloc; "{script} {executors}{copies} from {seed} lines {size}").expect(
+            rt, "memory",
+        );
     }
-    let plan = match &command.plan {
-        Some(name) => name.as_str(),
-        None => "(no plan)",
-    };
-    format!(in rt.alloc();
-        "{script} {executors} {failures} {attempts} {cache}{copies} {plan}"
-    ).expect(rt, "memory")
+    let mut told = format!(in alloc;
+        "{script} {executors} {failures} {attempts} {cache}{copies} "
+    ).expect(rt, "memory");
+    match &command.plan {
+        Some(name) => told.push_str(name.as_str()).expect(rt, "memory"),
+        None => told.push_str("(no plan)").expect(rt, "memory"),
+    }
+    told
 }
 
 /// Words that are a command, and what they ask for.
@@ -187,6 +178,7 @@ const COMMANDS: [(&[&str], &str); 36] = [
 #[test]
 fn words_ask_for_a_script_under_limits(rt: HostRuntime) {
     for (words, want) in &COMMANDS {
-        assert_text(&rt, asked(&rt, *words).as_str(), *want, "");
+        let seen = asked(&rt, *words);
+        assert_eq!(rt; seen.as_str(), *want);
     }
 }

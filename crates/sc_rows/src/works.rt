@@ -19,8 +19,25 @@ pub fn halves<'a>(case: &'a str, mark: &str) -> (&'a str, &'a str) {
         .unwrap_or((case, "(a case without its mark)"))
 }
 
+/// The numbers of a line, in order.
+pub fn numbers_of<R: Abort + AllocGlobal>(rt: &R, line: &str) -> Vec<u64> {
+    let mut numbers = Vec::new(rt.alloc());
+    for word in line.split([' ', '.', ',', ':', '@', '-']) {
+        if let Ok(number) = word.parse::<u64>() {
+            numbers.push(number).expect(rt, "memory");
+        }
+    }
+    numbers
+}
+
+/// A number of a line; 0 where there are fewer, or where it has more than 32 bits.
+pub fn at(numbers: &[u64], place: usize) -> u32 {
+    let number = numbers.get(place).copied().unwrap_or(0);
+    u32::try_from(number).unwrap_or(0)
+}
+
 /// Adds a file.
-fn add<R: Abort + AllocGlobal>(rt: &R, source: &mut MemSource, name: &str, bytes: &[u8]) {
+pub fn add<R: Abort + AllocGlobal>(rt: &R, source: &mut MemSource, name: &str, bytes: &[u8]) {
     let name = Name::new(rt.alloc(), name).expect(rt, "memory");
     let bytes = Octets::copy_of(rt.alloc(), bytes).expect(rt, "memory");
     source.add(name, bytes).expect(rt, "memory");
@@ -51,6 +68,16 @@ pub fn words_of<R: Abort + AllocGlobal>(rt: &R, more: &str) -> Vec<String> {
         words.push(word).expect(rt, "memory");
     }
     words
+}
+
+/// These words.
+pub fn strings_of<R: Abort + AllocGlobal>(rt: &R, words: &[&str]) -> Vec<String> {
+    let mut strings = Vec::new(rt.alloc());
+    for word in words {
+        let word = String::from_str(rt.alloc(), *word).expect(rt, "memory");
+        strings.push(word).expect(rt, "memory");
+    }
+    strings
 }
 
 /// The work of a script over this text of `in.txt`, under a plan and with more words.

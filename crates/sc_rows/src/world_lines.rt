@@ -17,8 +17,7 @@ ghost use Rattle.sc_staging.specs.Outputs.{output_dir, output_files};
 ghost use Rattle.sc_stagecut.specs.Carrying.{HasBounds};
 
 use crate::files::standing;
-use crate::transcripts::{at, numbers_of};
-use crate::works::{INPUT, halves, work_of};
+use crate::works::{at, halves, numbers_of, work_of};
 use sc_compute::TaskResult;
 use sc_desk::{Desk, Passed, files_go_on};
 use sc_files::{Files, MemFiles};
@@ -177,7 +176,7 @@ pub fn new_stores<W: Naming, R: Abort + AllocGlobal>(rt: &R, work: &SharedWork<W
 }
 
 /// The step that the words of a line say.
-fn step_of(words: &str, numbers: &[u32]) -> Step {
+fn step_of(words: &str, numbers: &[u64]) -> Step {
     let exec = at(numbers, 0);
     if words.starts_with("take ") {
         Step::Take { exec }
@@ -240,22 +239,6 @@ fn told_of<W: Naming, R: Abort + AllocGlobal>(
     told.expect(rt, "memory")
 }
 
-/// What the line of these words is answered.
-fn answer_of<W: Naming, F: Files, R: Abort + AllocGlobal>(
-    rt: &R,
-    going: &mut Going<W, F>,
-    words: &str,
-) -> String {
-    let numbers = numbers_of(rt, words);
-    if words.starts_with("seen ") {
-        let seen = going.world.desk().seen(at(numbers.as_slice(), 0));
-        return format!(in rt.alloc(); "{seen}").expect(rt, "memory");
-    }
-    let step = step_of(words, numbers.as_slice());
-    let applied = going.world.apply(rt.alloc(), &mut going.output, step);
-    told_of(rt, &going.world, &applied.expect(rt, "memory"))
-}
-
 /// The lines as they are answered, one after the other, and behind them the results that are there
 /// and the directories and files that stand.
 fn answers_of<W: Naming, R: Abort + AllocGlobal>(rt: &R, work: Work, lines: String) -> String
@@ -265,7 +248,8 @@ fn answers_of<W: Naming, R: Abort + AllocGlobal>(rt: &R, work: Work, lines: Stri
     let mut told = replayed(rt, &mut going, lines.as_str());
     push_results(rt, going.world.desk(), &mut told);
     let Going { output, .. } = going;
-    push_files(rt, &output.close(), &mut told);
+    let stands = standing(rt, &output.close());
+    told.push_str(stands.as_str()).expect(rt, "memory");
     told
 }
 
@@ -290,37 +274,28 @@ fn tell<W: Naming, F: Files, R: Abort + AllocGlobal>(
     told: &mut String,
 ) {
     let (words, _) = halves(line, ": ");
-    let answer = answer_of(rt, going, words);
+    let numbers = numbers_of(rt, words);
+    if words.starts_with("seen ") {
+        let seen = going.world.desk().seen(at(&numbers, 0));
+        writeln!(told, "{words}: {seen}").expect(rt, "memory");
+        return;
+    }
+    let step = step_of(words, &numbers);
+    let applied = going.world.apply(rt.alloc(), &mut going.output, step);
+    let answer = told_of(rt, &going.world, &applied.expect(rt, "memory"));
     writeln!(told, "{words}: {answer}").expect(rt, "memory");
 }
 
-/// Writes the directories and files that stand.
-pub fn push_files<R: Abort + AllocGlobal>(rt: &R, files: &MemFiles, told: &mut String) {
-    let stands = String::from_utf8(standing(rt, files)).ok();
-    told.push_str(stands.expect(rt, "a text").as_str())
-        .expect(rt, "memory");
-}
-
-/// Writes the results that are there.
+/// Writes the results that are there, in order, as they are printed.
 pub fn push_results<W: Naming, R: Abort + AllocGlobal>(rt: &R, desk: &Desk<W>, told: &mut String) {
-    let results = results_of(rt, desk);
-    told.push_str(results.as_str()).expect(rt, "memory");
-}
-
-/// The results that are there, in order, as they are printed.
-fn results_of<W: Naming, R: Abort + AllocGlobal>(rt: &R, desk: &Desk<W>) -> String {
     let mut out = Vec::new(rt.alloc());
     for result in desk.results() {
         if let Some(TaskResult::Rows(rows)) = result {
             rows.print_lines(&mut out).expect(rt, "memory");
         }
     }
-    String::from_utf8(out).ok().expect(rt, "a text")
-}
-
-/// Sees that a case holds of the world of a word count over two lines.
-pub fn assert_world<R: Abort + AllocGlobal + Threads + Sync>(rt: &R, case: &str) {
-    assert_world_of(rt, WORD_COUNT, INPUT, case);
+    let results = String::from_utf8(out).ok().expect(rt, "a text");
+    told.push_str(results.as_str()).expect(rt, "memory");
 }
 
 /// Sees that a case holds of the world of the first action of a script, over this text of `in.txt`.

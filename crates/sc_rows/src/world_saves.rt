@@ -7,7 +7,7 @@ ghost use Rattle.std.specs.Prelude.{◌≡◌};
 
 use crate::files::standing;
 use crate::works::work_of;
-use crate::world_lines::{assert_world_of, replayed, world_of};
+use crate::world_lines::{replayed, world_of};
 use sc_desk::{Desk, Passed, Taken};
 use sc_files::MemFiles;
 use sc_ids::Mark;
@@ -16,15 +16,14 @@ use sc_staging::{Output, Renewed};
 use sc_work::Naming;
 use std::marker::Brand;
 use std::process::Abort;
-use std::thread::Threads;
 
 /// A line that is saved.
-const SAVE: &str = r#"
+pub const SAVE: &str = r#"
 l = text "in.txt" 1
 save l "out"
 "#;
 
-const SAVES: &str =
+pub const SAVES: &str =
     r#"==== a holder that is told lost behind its move: the part is another attempt's
 --executors=2
 lose 1 0 0
@@ -77,12 +76,12 @@ out/ out/_temporary/ out/_temporary/s-0-0-0-0=a
  "#;
 
 /// Two lines that are saved to two parts.
-const SAVE_TWO: &str = r#"
+pub const SAVE_TWO: &str = r#"
 l = text "in.txt" 2
 save l "out"
 "#;
 
-const COPIES: &str =
+pub const COPIES: &str =
     r#"==== a slow attempt is denied by its copy, which asks first, and its part is not committed
 --executors=2 --speculation
 ----
@@ -119,37 +118,17 @@ out/ out/_temporary/ out/_temporary/c-0-0-1-0=b
  out/_temporary/c-0-0-0-1=a
  "#;
 
-/// Sees that each case of a table holds of the world of a script that saves, over this text.
-fn assert_worlds<R: Abort + AllocGlobal + Threads + Sync>(
-    rt: &R,
-    script: &str,
-    input: &str,
-    table: &str,
-) {
-    for case in table.split("==== ") {
-        if !case.is_empty() {
-            assert_world_of(rt, script, input, case);
-        }
-    }
-}
-
-#[test]
-fn worlds_of_saves_go_as_their_steps_say(rt: HostRuntime) {
-    assert_worlds(&rt, SAVE, "a\n", SAVES);
-    assert_worlds(&rt, SAVE_TWO, "a\nb\n", COPIES);
-}
-
 /// Three lines in three parts, of which one is staged when the job is given up.
 const STAGED: &str = "take 0: driver take: task 0.0.0.0, epoch 0\ncompute 0: done\n\
     stage 0: driver stage 0.0.0.0: staged\n";
 
 /// Which call on the files fails, or none for 0: the third writes that part, then the staging area
 /// is removed, and made anew. And what is told of the job that begins again: what its journal had
-/// and has, at which path a call failed, if one did, what stands then, and the first task.
+/// and has, the first task or at which path a call failed, and what stands then.
 const AGAIN: [(u64, &str); 3] = [
     (
         0,
-        "2 entries, then 0\nout/ out/_temporary/ task 0.0.0.0 of 1 entry\n",
+        "2 entries, then 0\ntask 0.0.0.0 of 1 entry\nout/ out/_temporary/ ",
     ),
     (
         4,
@@ -183,26 +162,6 @@ fn again<W: Naming, R: Abort + AllocGlobal>(
     (desk, output)
 }
 
-/// Makes the staging area of a save anew, and tells what stands then. Whether no call failed.
-fn renew<R: Abort + AllocGlobal>(rt: &R, output: Output<MemFiles>, told: &mut String) -> bool {
-    let Output::Save(staging) = output else {
-        panic!(rt; "no save")
-    };
-    let (files, failed) = match staging.again() {
-        Renewed::Staging(staging) => (staging.close(), None),
-        Renewed::Device { path, files } => (files, Some(path)),
-        Renewed::NoMemory { .. } => panic!(rt; "memory"),
-    };
-    if let Some(path) = &failed {
-        let path = path.as_str();
-        writeln!(told, "device: {path}").expect(rt, "memory");
-    }
-    let stands = String::from_utf8(standing(rt, &files)).ok();
-    told.push_str(stands.expect(rt, "a text").as_str())
-        .expect(rt, "memory");
-    failed.is_none()
-}
-
 /// What is told of a job that begins again, where a call on its files fails.
 fn told_again<W: Naming, R: Abort + AllocGlobal>(rt: &R, work: Work, failing: u64) -> String
     requires { work ≡ W.work }
@@ -211,13 +170,27 @@ fn told_again<W: Naming, R: Abort + AllocGlobal>(rt: &R, work: Work, failing: u6
     let mut files = MemFiles::new(rt.alloc());
     files.fail_at(failing).expect(rt, "memory");
     let (mut desk, output) = again::<W, R>(rt, work, files, &mut told);
-    if renew(rt, output, &mut told) {
-        let Taken::Task(task) = desk.take(Mark::Driver, 0).expect(rt, "memory") else {
-            panic!(rt; "no task")
-        };
-        let (attempt, now) = (task.attempt(), desk.entries().len());
-        writeln!(told, "task {attempt} of {now} entry").expect(rt, "memory");
-    }
+    let Output::Save(staging) = output else {
+        panic!(rt; "no save")
+    };
+    let files = match staging.again() {
+        Renewed::Staging(staging) => {
+            let Taken::Task(task) = desk.take(Mark::Driver, 0).expect(rt, "memory") else {
+                panic!(rt; "no task")
+            };
+            let (attempt, now) = (task.attempt(), desk.entries().len());
+            writeln!(told, "task {attempt} of {now} entry").expect(rt, "memory");
+            staging.close()
+        }
+        Renewed::Device { path, files } => {
+            let path = path.as_str();
+            writeln!(told, "device: {path}").expect(rt, "memory");
+            files
+        }
+        Renewed::NoMemory { .. } => panic!(rt; "memory"),
+    };
+    let stands = standing(rt, &files);
+    told.push_str(stands.as_str()).expect(rt, "memory");
     told
 }
 

@@ -3,7 +3,9 @@
 //! A case has one more word, a plan, the steps with their answers, and the results.
 #![tactic(auto)]
 
-use crate::world_lines::assert_world;
+use crate::works::INPUT;
+use crate::world_lines::{WORD_COUNT, assert_world_of};
+use crate::world_saves::{COPIES, SAVE, SAVE_TWO, SAVES};
 
 const WORLDS: &str =
     r#"==== an output that was wiped is made again, and both results by another attempt
@@ -97,9 +99,16 @@ take 1: driver take: task 0.0.0.1, epoch 1
 
 #[test]
 fn worlds_go_as_their_steps_say(rt: HostRuntime) {
-    for case in WORLDS.split("==== ") {
-        if !case.is_empty() {
-            assert_world(&rt, case);
+    let tables = [
+        (WORD_COUNT, INPUT, WORLDS),
+        (SAVE, "a\n", SAVES),
+        (SAVE_TWO, "a\nb\n", COPIES),
+    ];
+    for (script, input, table) in tables {
+        for case in table.split("==== ") {
+            if !case.is_empty() {
+                assert_world_of(&rt, script, input, case);
+            }
         }
     }
 }

@@ -2,7 +2,6 @@ use Rattle.std.proofs.Common.{rules, ◌≡◌, ◌<◌, ◌+◌, ◌++◌, All,
 use Rattle.std.proofs.lemmas.List.Elements.{All-push}
 use Rattle.sc_exec.specs.Workers.{AreInPlace}
 use Rattle.sc_exec.specs.Working.{IsFresh}
-use Rattle.sc_exec.specs.declared.lefts.Left.TheVariants as lefts
 use Rattle.sc_exec.specs.declared.workers.Worker.{Worker}
 use Rattle.sc_rows.proofs.CrewLemmas.{one_more_in_place}
 use Rattle.sc_rows.proofs.executors.crew.Goals as goal
@@ -20,7 +19,4 @@ loop-exec-preserved g c =
       places = subst (λ (ws : List Worker). AreInPlace (c.loop-exec.exec + 1) ws) (sym pushed)
           (one_more_in_place c.loop-exec.exec before c.fresh.result
           c.loop-exec.invariant.places c.fresh.ensures.exec);
-      lefts = subst (λ (ws : List Worker). All (λ w. w.left ≡ lefts.NoMemory) ws) (sym pushed)
-          (All-push (λ w. w.left ≡ lefts.NoMemory) before c.fresh.result
-          c.loop-exec.invariant.lefts c.fresh.ensures.left);
     }

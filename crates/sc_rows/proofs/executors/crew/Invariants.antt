@@ -1,7 +1,6 @@
 use Rattle.std.proofs.Common.{◌≡◌, All}
 use Rattle.sc_exec.specs.Workers.{AreInPlace}
 use Rattle.sc_exec.specs.Working.{IsFresh}
-use Rattle.sc_exec.specs.declared.lefts.Left.TheVariants as lefts
 use Rattle.sc_rows.proofs.executors.crew.Given as goal
 
 abbrev pub invariant-loop-exec : goal.invariant-loop-exec
@@ -9,5 +8,4 @@ invariant-loop-exec g l =
     record {
       fresh : All (IsFresh l.fn.executors) l.workers.items;
       places : AreInPlace l.exec l.workers.items;
-      lefts : All (λ w. w.left ≡ lefts.NoMemory) l.workers.items;
     }

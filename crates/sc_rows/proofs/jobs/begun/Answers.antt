@@ -10,7 +10,7 @@ begin-requires g c =
     let before : Option CoreData = option_map (λ l. l.now) c.args.last in
     openings_agree c.args.graph.now c.args.limits c.args.saves c.args.plan.now before
     c.expect-core.result c.expect-opening.result c.requires.job c.requires.fits
-    (last_leaves_well before c.is_sound_behind.ensures)
+    (last_leaves_well before c.is_live_behind.ensures.sound)
     (subst (λ r. IfOk r
     (λ k. IsOpening c.args.graph.now c.args.limits c.args.saves c.args.plan.now before k))
     c.expect-core.ensures c.open-2.ensures)

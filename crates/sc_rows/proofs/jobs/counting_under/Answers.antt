@@ -10,5 +10,5 @@ begun-requires-clause-fits g c = rw c.word_count-graph.ensures (word_count_fits 
 
 pub returns : goal.returns
 returns g c =
-    word_count_room c.args.limits 1 c.plan_of-plan.result c.begun.result.0.core
+    word_count_room c.args.limits 1 c.args.saves c.plan_of-plan.result c.begun.result.0.core
     (rw c.word_count-graph.ensures at c.begun.ensures)

@@ -1,4 +1,4 @@
-use Rattle.sc_rows.proofs.leaving.assert_leaves.Given as goal
+use Rattle.sc_rows.proofs.leaving.who_left_leaves_no_more.Given as goal
 
 -- the work of the desk
 abbrev pub ghosts-answers_of : goal.ghosts-answers_of

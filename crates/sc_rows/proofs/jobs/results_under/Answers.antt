@@ -1,5 +1,5 @@
 use Rattle.sc_rows.proofs.JobLemmas.{results_alone_fits, results_alone_job}
-use Rattle.sc_rows.proofs.jobs.results.Goals as goal
+use Rattle.sc_rows.proofs.jobs.results_under.Goals as goal
 
 pub begun-requires-clause-job : goal.begun-requires-clause-job
 begun-requires-clause-job g c =

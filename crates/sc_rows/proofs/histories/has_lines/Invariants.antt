@@ -2,7 +2,7 @@
 use Rattle.std.proofs.Common.{◌≡◌}
 use denote.Text.{Utf8}
 use denote.Shadow.{shadow}
-use Rattle.sc_rows.proofs.planned_saves.has_lines.Given as goal
+use Rattle.sc_rows.proofs.histories.has_lines.Given as goal
 
 abbrev pub invariant-loop-line : goal.invariant-loop-line
 invariant-loop-line l =

@@ -1,4 +1,4 @@
-use Rattle.sc_rows.proofs.lefts.assert_left.Given as goal
+use Rattle.sc_rows.proofs.lefts.assert_way.Given as goal
 
 -- the work of the job
 abbrev pub ghosts-seen_apart : goal.ghosts-seen_apart
