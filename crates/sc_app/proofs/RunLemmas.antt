@@ -1,5 +1,5 @@
 -- How a run ends behind its script and its plan, from how its parts did, or before them.
-use Rattle.std.proofs.Common.{append_assoc, ◌≡◌, ◌∙◌, ℕ, List, [], ◌∷◌, ◌++◌, length, map, subst, sym, ap, refl, Option, Some, None, inl, inr}
+use Rattle.std.proofs.Common.{append_assoc, ◌≡◌, ◌∙◌, ℕ, List, [], ◌∷◌, ◌++◌, length, map, subst, sym, ap, refl, Option, Some, inl, inr}
 use Rattle.std.specs.Prelude.{Err}
 use Rattle.std.specs.Option.{option_map}
 use Rattle.std.proofs.lemmas.List.{append-nil}
@@ -25,7 +25,7 @@ use Rattle.sc_app.specs.Handed.{IsRun, RanAllJobs}
 use Rattle.sc_app.specs.Promises.{Ends}
 use Rattle.sc_app.specs.Runs.{RunData, AreReads, AsksOnce, HasRead, HasReadWork, name_missed, run_of}
 use Rattle.sc_app.specs.Statuses.{is_missing, status_of_input, status_of_print}
-use Rattle.sc_words.specs.Words.{AreTaken, command_of}
+use Rattle.sc_words.specs.Words.{command_of}
 use Rattle.sc_words.specs.declared.commands.Command.{Command}
 use Rattle.sc_app.proofs.PieceLemmas.{text-printed}
 use Rattle.sc_app.proofs.AskedLemmas.{told_cause, names-behind, usage-none, asked-none, asks}
@@ -293,27 +293,6 @@ module _ (words : List (List ℕ)) (command : Command)
                   stands = x;
                 });
               })
-
--- words that are refused
-pub no-command : (words : List (List ℕ)) (source : SourceState) (sink : SinkState)
-    (files : FilesState) → (AreTaken words → ⊥) → command_of words ≡ None
-    → IsRun (run_of words [] (outside_of source sink) (outside_of source sink) files files) []
-    [] statuses.Usage
-no-command words source sink files refused none =
-    record {
-      reads = inl refl;
-      asked = λ command e. absurd cc;
-      ends = record {
-        refused = refused;
-        no_command = none;
-        nothing_read = refl;
-        nothing_ran = (refl, refl);
-        untouched = refl;
-        nothing_saved = refl;
-      };
-      jobs = λ e. absurd cc;
-      usage = ((λ e. refused), (λ r. inl refl));
-    }
 
 -- memory ran out before anything was read
 pub no-memory : (words : List (List ℕ)) (source : SourceState) (sink : SinkState)

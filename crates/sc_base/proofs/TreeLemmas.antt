@@ -9,7 +9,7 @@ use Rattle.std.specs.FinMap.{slice_cmp-IsAntisymmetric, nat_cmp-IsAntisymmetric}
 use Rattle.std.specs.FinSet as sets
 use Rattle.std.proofs.lemmas.Map.Text.{is_eq-slice_cmp}
 use Rattle.std.proofs.lemmas.Slice.Eq.{bytes_eq-Decides}
-use Rattle.sc_base.specs.Trees.{Tree, Path, file_at, has_dir, is_in, lies_under, moved, tree, with_dir, with_file, without_file, without_tree}
+use Rattle.sc_base.specs.Trees.{Tree, Path, file_at, has_dir, is_in, lies_under, moved, with_dir, with_file, without_file, without_tree}
 
 -- paths are ordered by their bytes, and tie exactly where they are equal
 pub by_bytes : maps.IsAntisymmetric (slice_cmp nat_cmp)
@@ -28,14 +28,6 @@ apart_by q k false apart is = is
 
 pub ties-other : (q k : Path) → q ≢ k → eq_by_cmp (slice_cmp nat_cmp) q k ≡ false
 ties-other q k apart = apart_by q k (eq_by_cmp (slice_cmp nat_cmp) q k) apart refl
-
--- trees are equal where every look-up is
-pub same_tree : (t u : Tree) → ((q : Path) → has_dir t q ≡ has_dir u q)
-    → ((q : Path) → file_at t q ≡ file_at u q) → t ≡ u
-same_tree t u dirs files =
-    let same_dirs = sets.same_set nat_list_cmp_total by_bytes t.dirs u.dirs dirs in
-    let same_files = maps.same_map nat_list_cmp_total by_bytes t.files u.files files in
-    λ i. tree (same_dirs i) (same_files i)
 
 -- after a directory was made
 pub has_dir-with_dir : (t : Tree) (dir : Path) → has_dir (with_dir t dir) dir ≡ true
@@ -63,11 +55,6 @@ file_at-with_file_other t path bytes q apart =
     ∙ ap (λ b. cond b (Some bytes) (file_at t q)) (ties-other q path apart)
 
 -- after a file was removed
-pub file_at-without_file : (t : Tree) (path : Path) → file_at (without_file t path) path ≡ None
-file_at-without_file t path =
-    maps.get-remove nat_list_cmp_total t.files path path
-    ∙ ap (λ b. cond b None (file_at t path)) (ties-itself path)
-
 pub file_at-without_file_other : (t : Tree) (path q : Path) → q ≢ path
     → file_at (without_file t path) q ≡ file_at t q
 file_at-without_file_other t path q apart =
@@ -80,12 +67,6 @@ pub file_at-moved : (t : Tree) (from to bytes : Path) → file_at t from ≡ Som
 file_at-moved t from to bytes is =
     file_at-with_file (without_file t from) to (unwrap_or (file_at t from) [])
     ∙ ap (λ o. Some (unwrap_or o [])) is
-
-pub file_at-moved_from : (t : Tree) (from to : Path) → from ≢ to
-    → file_at (moved t from to) from ≡ None
-file_at-moved_from t from to apart =
-    file_at-with_file_other (without_file t from) to (unwrap_or (file_at t from) []) from apart
-    ∙ file_at-without_file t from
 
 pub file_at-moved_other : (t : Tree) (from to q : Path) → q ≢ to → q ≢ from
     → file_at (moved t from to) q ≡ file_at t q

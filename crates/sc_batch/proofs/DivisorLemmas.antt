@@ -1,11 +1,11 @@
 -- Quotients that a product guesses.
-use Rattle.std.proofs.Common.{◌≡◌, ◌∙◌, ℕ, ℤ, zero, suc, pos, negsuc, ◌+◌, ◌-◌, ◌*◌, ◌/◌, ◌%◌, ◌^◌, ◌<◌, ◌≤◌, min, Bool, true, false, List, Option, Ok, length, map, take, ap, sym, refl, arith, unsigned_abs, int_div, int_rem}
-use Rattle.std.proofs.lemmas.Nat.{div-add-mod', div-mul-add, div_below, mod-mul-add, mul-le, mul-lt}
+use Rattle.std.proofs.Common.{◌≡◌, ◌∙◌, ℕ, ℤ, zero, suc, pos, ◌+◌, ◌-◌, ◌*◌, ◌/◌, ◌%◌, ◌^◌, ◌<◌, ◌≤◌, min, Bool, true, false, List, Option, Ok, length, map, take, ap, sym, refl, arith}
+use Rattle.std.proofs.lemmas.Nat.{div-add-mod', div_below, mul-le, mul-lt}
 use Rattle.std.specs.Prelude.{replicate}
 use Rattle.sc_value.specs.Datum.{number}
 use Rattle.sc_columns.specs.Columns.{zip_with}
 use Rattle.sc_expr.specs.declared.exprs.Raise.{Raise}
-use Rattle.sc_batch.specs.Divisors.{IsDivisor, signed}
+use Rattle.sc_batch.specs.Divisors.{IsDivisor}
 use Rattle.sc_batch.specs.Items.{divided, division}
 use Rattle.sc_batch.specs.Outcomes.{until_raise}
 use Rattle.sc_batch.proofs.ValueLemmas.{each-value}
@@ -61,29 +61,6 @@ module _ (by : Divisor) (divisor : IsDivisor by) (a : ℕ) (small : a ≤ 2 ^ 63
       let n = divisor.small in
       let p = guessed_bound q is in
       omega arith
-
--- a quotient and what is left, where that is less than the divisor
-pub quotient_right : (a n q r : ℕ) → r < n → q * n + r ≡ a → q ≡ a / n
-quotient_right a n q r less is = sym (div-mul-add q n r less) ∙ ap (λ m. m / n) is
-
-pub rest_is_right : (a n q r : ℕ) → r < n → q * n + r ≡ a → r ≡ a % n
-rest_is_right a n q r less is = sym (mod-mul-add q n r less) ∙ ap (λ m. m % n) is
-
--- a quotient by a number above 1
-pub quotient_small : (a n : ℕ) → 1 < n → a ≤ 2 ^ 63 → a / n < 2 ^ 63
-quotient_small a n one small =
-    let twice : 2 ^ 63 * 2 ≤ 2 ^ 63 * n = mul-le (2 ^ 63) 2 (2 ^ 63) n (omega arith) (omega arith)
-    in
-    div_below a n (2 ^ 63) (omega arith) (omega (arith, twice))
-
--- with the sign of what is divided
-pub signed_rest : (m : ℤ) (n : ℕ) → signed m (unsigned_abs m % n) ≡ int_rem m (pos n)
-signed_rest (pos a) n = refl
-signed_rest (negsuc a) n = refl
-
-pub signed_quotient : (m : ℤ) (n : ℕ) → signed m (unsigned_abs m / n) ≡ int_div m (pos n)
-signed_quotient (pos a) n = refl
-signed_quotient (negsuc a) n = refl
 
 -- a division by a number above 1 doesn't raise
 division_is : (rest : Bool) (x : ℤ) (k : ℕ) → 1 < k

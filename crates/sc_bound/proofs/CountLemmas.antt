@@ -48,24 +48,6 @@ count_map {A = A} p g (x ∷ xs) same =
     f : A → ℕ
     f y = cond (p y) 1 0
 
--- the same, or fewer, where an item that counts may do so no more
-pub count_less : {A : Type 0} (p : A → Bool) (g : A → A) (xs : List A)
-    → ((x : A) → p (g x) ≡ true → p x ≡ true) → count_by p (map g xs) ≤ count_by p xs
-count_less p g [] same = omega arith
-count_less {A = A} p g (x ∷ xs) same =
-    let a = sum_by-cons f (g x) (map g xs) in
-    let b = sum_by-cons f x xs in
-    let one = by (p (g x)) refl in
-    let rest = count_less p g xs same in
-    omega (arith, a, b, one, rest)
-  where
-    f : A → ℕ
-    f y = cond (p y) 1 0
-
-    by : (b : Bool) → p (g x) ≡ b → f (g x) ≤ f x
-    by true e = rw (e, same x e) (omega arith)
-    by false e = rw e (omega arith)
-
 -- no more are left of those that are filtered
 pub count_fewer : {A : Type 0} (p w : A → Bool) (xs : List A)
     → count_by p (filter w xs) ≤ count_by p xs

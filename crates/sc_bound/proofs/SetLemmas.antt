@@ -172,22 +172,6 @@ held_fewer set q p =
     none true t h = absurd (true≢false (sym h))
     none false t h = absurd (true≢false (sym h))
 
--- and it isn't open any more
-pub held_shut : (set : TaskSetData) (p : ℕ) → is_open (Some (after_held set p true)) p ≡ false
-held_shut set p =
-    ap (λ o. not set.is_zombie && is_wanted_task o)
-    (task_changed p (held_task true) (λ t. refl) set.tasks)
-    ∙ by (not set.is_zombie) (task_at p set.tasks)
-  where
-    none : (b : Bool) → (b && false) ≡ false
-    none true = refl
-    none false = refl
-
-    by : (b : Bool) (o : Option TaskData)
-        → (b && is_wanted_task (option_map (held_task true) o)) ≡ false
-    by b None = none b
-    by b (Some t) = ap (λ x. b && x) (none (not (is_finished t))) ∙ none b
-
 -- whether another partition is held back doesn't matter
 pub other_fewer : (set : TaskSetData) (q : ℕ) (denied : Bool) (p : ℕ) → (q == p) ≡ false
     → Fewer p set (after_held set q denied)

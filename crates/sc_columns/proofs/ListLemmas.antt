@@ -1,6 +1,6 @@
 -- Two lists item by item, one item many times, and one list behind another.
 use Rattle.std.proofs.Common.{◌≡◌, ◌∙◌, ℕ, zero, suc, ◌+◌, ◌-◌, ◌<◌, ◌≤◌, List, [], ◌∷◌, ◌++◌, Some, None, length, map, min, replicate, take, ap, refl, sym, arith}
-use Rattle.std.proofs.lemmas.List.{append_assoc, map-append, take_more}
+use Rattle.std.proofs.lemmas.List.{map-append, take_more}
 use Rattle.std.proofs.lemmas.Option.{get_or_from_slice_get, slice_get_within}
 use Rattle.std.specs.List.{slice_get}
 use Rattle.sc_columns.specs.Columns.{zip_with}
@@ -60,14 +60,7 @@ take_next xs i x is =
     take_more xs i x (slice_get_within xs i x is)
     ∙ ap (λ y. take i xs ++ y ∷ []) (get_or_from_slice_get xs i x x is)
 
--- a list that grows behind its start by the items of another one
-pub grown_next : {X : Type 0} (start out after xs : List X) (i : ℕ) (x : X)
-    → out ≡ start ++ take i xs → slice_get xs i ≡ Some x → after ≡ out ++ x ∷ []
-    → after ≡ start ++ take (i + 1) xs
-grown_next start out after xs i x before is pushed =
-    pushed ∙ ap (λ o. o ++ x ∷ []) before ∙ append_assoc start (take i xs) (x ∷ [])
-    ∙ ap (λ t. start ++ t) (sym (take_next xs i x is))
-
+-- one item many times, each of which is mapped
 pub map-replicate : {X Y : Type 0} (f : X → Y) (n : ℕ) (x : X)
     → map f (replicate n x) ≡ replicate n (f x)
 map-replicate f zero x = refl

@@ -1,5 +1,5 @@
 -- Printed rows, piece by piece.
-use Rattle.std.proofs.Common.{◌≡◌, ◌∙◌, ℕ, zero, suc, ◌+◌, ◌-◌, ◌*◌, ◌<◌, ◌≤◌, List, [], ◌∷◌, ◌++◌, Result, Ok, Err, Some, None, append-nil, append_assoc, ap, ap₂, arith, codes, drop, if◌then◌else◌, length, map, refl, replicate, subst, sym, take}
+use Rattle.std.proofs.Common.{◌≡◌, ◌∙◌, ℕ, ◌+◌, ◌-◌, ◌*◌, ◌<◌, ◌≤◌, List, [], ◌∷◌, ◌++◌, Result, Ok, Err, Some, None, append-nil, append_assoc, ap, ap₂, arith, codes, drop, if◌then◌else◌, length, map, refl, replicate, subst, sym, take}
 use Rattle.std.proofs.lemmas.List.{flat_map_more, length-drop, length-take-le, map_push}
 use Rattle.std.proofs.lemmas.Option.{slice_get-map, slice_get_within}
 use Rattle.std.specs.Option.{option_map}
@@ -58,14 +58,6 @@ pub printed-list : (items : List Datum) (spans : List Span) (i : ℕ) (s : Span)
 printed-list items spans i s is =
     ap printed_row (slice_get-map (group_at items) spans i
     ∙ ap (option_map (group_at items)) (sym is))
-
-pub separator-first : (n : ℕ) → n ≡ 0 → separator n ≡ []
-separator-first zero is = refl
-separator-first (suc n) is = absurd (omega arith)
-
-pub separator-later : (n : ℕ) → 0 < n → separator n ≡ codes ", "
-separator-later zero some = absurd (omega arith)
-separator-later (suc n) some = refl
 
 more_items : (ds : List Datum) (d : Datum)
     → printed_more (items_of (ds ++ d ∷ []))

@@ -44,12 +44,6 @@ range_more f ys out after from k x before ordered is after_is =
     ap (map f) after_is ∙ map_push f out x ∙ ap (λ r. r ++ f x ∷ []) before
     ∙ sym (range_one ys from k (f x) ordered is)
 
--- a range that ends where the list does, or behind it
-pub range_end : {X : Type 0} (xs : List X) (from k to : ℕ) → length xs ≤ k → k ≤ to
-    → slice_range xs from k ≡ slice_range xs from to
-range_end xs from k to past ordered =
-    take_same (k - from) (to - from) (drop from xs) (omega (arith, length-drop from xs))
-
 -- a part of rows of each form
 pub part-map : {X Y : Type 0} (f : X → Y) (xs part : List X) (rows : List Y) (a b : ℕ)
     → rows ≡ map f xs → part ≡ slice_range xs a b → map f part ≡ slice_range rows a b

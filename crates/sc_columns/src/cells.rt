@@ -50,7 +50,7 @@ impl<'a> Cells for &'a Texts {
 
     #[inline(always)]
     fn write(self, i: usize, _digits: &mut Buffer, out: &mut Vec<u8>) -> Result<(), AllocError> {
-        out.extend_from_slice(self.get(i).as_bytes())
+        self.append_to(i, out)
     }
 }
 

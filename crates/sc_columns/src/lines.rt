@@ -1,7 +1,7 @@
 //! Rows as lines.
 #![tactic(auto)]
 
-ghost use Rattle.std.specs.Prelude.{◌≡◌, ◌++◌, OnOk, length, map, take};
+ghost use Rattle.std.specs.Prelude.{◌≡◌, ◌++◌, if◌then◌else◌, is_ok, OnOk, length, map, take};
 ghost use Rattle.sc_value.specs.Datum.{number, pair, text, truth as truth_datum};
 ghost use Rattle.sc_value.specs.Printing.{printed_line, printed_lines};
 ghost use Rattle.sc_columns.specs.Columns.{group_at, rows_in, zip_with};
@@ -9,7 +9,7 @@ ghost use Rattle.sc_columns.specs.Columns.{group_at, rows_in, zip_with};
 use crate::cells::{Cells, ListCells, PairCells};
 use crate::columns::Column;
 use itoa::Buffer;
-use sc_value::{Span, Texts};
+use sc_value::{Span, Texts, append_part};
 use std::alloc::AllocError;
 
 /// Writes each row and a line feed, or some of them where memory runs out.
@@ -65,7 +65,7 @@ fn write_bool_lines(truths: &[bool], out: &mut Vec<u8>) -> Result<(), AllocError
 {
     let twos = truths.len() / 2;
     for i in 0..twos {
-        out.extend_from_slice(two_lines(truths[2 * i], truths[2 * i + 1]))?;
+        write_two(truths[2 * i], truths[2 * i + 1], out)?;
     }
     if 2 * twos < truths.len() {
         out.extend_from_slice(truth_line(truths[2 * twos]))?;
@@ -73,20 +73,22 @@ fn write_bool_lines(truths: &[bool], out: &mut Vec<u8>) -> Result<(), AllocError
     Ok(())
 }
 
-/// The lines that two truth values print.
+/// Writes the lines of two truth values. Behind the last place in the bytes there are more, so that
+/// any two lines are copied as one block.
 #[inline(always)]
-fn two_lines(first: bool, second: bool) -> &'static [u8]
-    ensures { result.now
-        ≡ printed_line (truth_datum first) ++ printed_line (truth_datum second) }
+fn write_two(first: bool, second: bool, out: &mut Vec<u8>) -> Result<(), AllocError>
+    ensures { out.new.items ≡ (if is_ok result then out.old.items
+        ++ (printed_line (truth_datum first) ++ printed_line (truth_datum second))
+        else out.old.items) }
 {
-    let lines: &[u8] = b"false\nfalse\ntrue\ntrue\nfalse\n";
-    let (from, to) = match (first, second) {
-        (false, false) => (0, 12),
-        (false, true) => (6, 17),
-        (true, true) => (12, 22),
-        (true, false) => (17, 28),
+    let lines: &[u8] = b"false\nfalse\ntrue\ntrue\nfalse\nfalse";
+    let place = match (first, second) {
+        (false, false) => Span { from: 0, to: 12 },
+        (false, true) => Span { from: 6, to: 17 },
+        (true, true) => Span { from: 12, to: 22 },
+        (true, false) => Span { from: 17, to: 28 },
     };
-    &lines[from..to]
+    append_part(lines, place, out)
 }
 
 /// The line that a truth value prints.

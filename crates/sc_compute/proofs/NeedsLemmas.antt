@@ -5,7 +5,7 @@ use Rattle.std.proofs.lemmas.List.Elements.{All-append, All-cons, All-contains, 
 use Rattle.sc_lineage.specs.Dependencies.{PlaceData, place}
 use Rattle.sc_lineage.specs.ScriptData.{WorkData}
 use Rattle.sc_compute.specs.Keeping.{Keeps, Lessens, is_kept, is_known}
-use Rattle.sc_compute.specs.Needs.{AreFresh, AreNoted, HasFresh, IsFresh, KeepsNone, KnowsJust, LeadsPast, MayBeNoted, Notes, NotesOne, NotesReads, is_among, is_place, places_in, places_known, places_noted}
+use Rattle.sc_compute.specs.Needs.{AreFresh, AreNoted, HasFresh, IsFresh, KnowsJust, LeadsPast, MayBeNoted, Notes, NotesOne, NotesReads, is_among, is_place, places_in, places_known, places_noted}
 use Rattle.sc_compute.specs.Reading.{direct_reads}
 use Rattle.sc_compute.specs.declared.caching.Caching.{Caching}
 use Rattle.sc_compute.specs.declared.kept.KeptStreams.{KeptStreams}
@@ -80,14 +80,6 @@ all_fresh work known noted after at reads more here p fresh =
           };
           whole = fresh.whole;
         }))
-
-pub so_far_none : (work : WorkData) (at : PlaceData) (c : Caching) → NotesReads work at c c []
-so_far_none work at c = record {
-  known = refl;
-  kept = λ p is. is;
-  all = All-nil (HasFresh work (places_known c) (places_noted c));
-  only = λ p is. inl is;
-}
 
 -- one more was computed
 pub so_far_more : (work : WorkData) (at : PlaceData) (first now after : Caching)
@@ -206,8 +198,3 @@ fresh_from_none work at first after none notes p = (λ is. by (notes.only p is),
         → IsFresh work (is_among (places_known first)) at p
     by (inl before) = never true refl (sym (subst (λ ps. is_among ps p ≡ true) none before))
     by (inr fresh) = fresh
-
--- nothing is kept, so that all was noted for it
-pub noted_none : (work : WorkData) (kept : KeptStreams) (c : Caching) → KeepsNone kept
-    → AreNoted work kept c
-noted_none work kept c none from is = never (is_kept kept from) is (none from)

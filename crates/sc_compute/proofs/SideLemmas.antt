@@ -14,8 +14,8 @@ use Rattle.sc_lineage.specs.Keyed.{Side, met}
 use Rattle.sc_lineage.specs.declared.nodes.Meeting.{Meeting}
 use Rattle.sc_lineage.specs.declared.streams.Stream.{Stream}
 use Rattle.sc_lineage.specs.NodeData.{ShufflingData, reduce_by_key, group_by_key, sort_by_key, repartition}
-use Rattle.sc_lineage.specs.Partitioners.{no_partitioner, hash_partitioner, range_partitioner, partitioner_of_shuffle}
-use Rattle.sc_lineage.specs.Shuffles.{Dealing, bucket_read, by_hash, by_range, dealing_of, in_turn, map_side, met_stream, of_sides, reduce_side, shuffled_stream, stream_of_side}
+use Rattle.sc_lineage.specs.Partitioners.{hash_partitioner, range_partitioner, partitioner_of_shuffle}
+use Rattle.sc_lineage.specs.Shuffles.{Dealing, bucket_read, by_hash, by_range, dealing_of, map_side, met_stream, of_sides, reduce_side, shuffled_stream, stream_of_side}
 use Rattle.sc_compute.specs.Reading.{GivesSide, IsReadFrom, ReadsBucket}
 use Rattle.sc_compute.specs.declared.shuffles.ReadFrom.{ReadFrom}
 use Rattle.sc_compute.specs.declared.shuffles.ReadFrom.TheVariants.{Dealt}
@@ -63,13 +63,6 @@ deals_by_range (reduce_by_key e) n bounds is = cc
 deals_by_range group_by_key n bounds is = cc
 deals_by_range sort_by_key n bounds is = refl
 deals_by_range repartition n bounds is = cc
-
-pub deals_in_turn : (kind : ShufflingData) (n : ℕ) (bounds : List KeyData)
-    → partitioner_of_shuffle kind n ≡ no_partitioner → dealing_of kind n bounds ≡ in_turn n
-deals_in_turn (reduce_by_key e) n bounds is = cc
-deals_in_turn group_by_key n bounds is = cc
-deals_in_turn sort_by_key n bounds is = cc
-deals_in_turn repartition n bounds is = refl
 
 -- an answer that is a side gives its stream
 pub gives : (answer : Result (List Datum) (OrMemory Raise)) (side : Side) (stream : Stream)

@@ -1,5 +1,5 @@
 -- What was made for nodes, when one more is made.
-use Rattle.std.proofs.Common.{◌≡◌, ◌∙◌, ℕ, ◌<◌, Bool, true, false, cond, nat_eq, List, [], ◌∷◌, ◌++◌, Option, Some, None, All, length, slice_set, refl, ap, sym, subst, arith}
+use Rattle.std.proofs.Common.{◌≡◌, ◌∙◌, ℕ, ◌<◌, Bool, true, false, cond, nat_eq, List, [], ◌∷◌, ◌++◌, Option, Some, None, All, length, slice_set, refl, sym, subst, arith}
 use Rattle.std.proofs.lemmas.Bool.{eqb-true, eqb-false}
 use Rattle.std.proofs.lemmas.List.{get_or-set_same, get_or-set_other}
 use Rattle.std.proofs.lemmas.List.Elements.{All-nil, All-cons, All-head, All-tail, All-append, All-weaker}
@@ -36,12 +36,6 @@ made_right work stages k right made =
 pub count_made : (work : WorkData) (stages : ShuffleInputs) (k : ℕ) → AreRight work stages
     → HasMade stages k → at_or stages.counts.items k 0 ≡ local_count work k
 count_made work stages k right made = (made_right work stages k right made).1.count
-
-pub count_made_at : (work : WorkData) (stages : ShuffleInputs) (j k : ℕ) → j ≡ k
-    → AreRight work stages
-    → HasMade stages k → at_or stages.counts.items j 0 ≡ local_count work k
-count_made_at work stages j k same right made =
-    ap (λ i. at_or stages.counts.items i 0) same ∙ count_made work stages k right made
 
 -- what is known of a number holds of the same number
 pub of_same : (P : ℕ → Type 0) (o : Option ℕ) (p q : ℕ) → o ≡ Some p → o ≡ Some q → P p → P q

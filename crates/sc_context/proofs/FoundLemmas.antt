@@ -1,5 +1,5 @@
 -- The winners of a save, found one after another.
-use Rattle.std.proofs.Common.{◌≡◌, ◌∙◌, ◌⊎◌, inl, inr, ℕ, zero, suc, ◌+◌, ◌<◌, List, [], ◌∷◌, ◌++◌, Option, Some, None, length, slice_get, refl, ap, sym, subst, arith}
+use Rattle.std.proofs.Common.{◌≡◌, ◌∙◌, ◌⊎◌, inl, inr, ℕ, zero, suc, ◌+◌, ◌<◌, List, [], ◌∷◌, ◌++◌, Option, Some, length, slice_get, refl, ap, sym, subst, arith}
 use Rattle.std.specs.Prelude.{IsSomeAnd}
 use Rattle.std.proofs.lemmas.Bool.{cases_eq}
 use Rattle.std.proofs.lemmas.List.{length-append}
@@ -9,7 +9,6 @@ use Rattle.sc_output.specs.Names.{IsWithinTypes}
 use Rattle.sc_commit.specs.CommitLaws.{winner_of}
 use Rattle.sc_commit.specs.declared.committers.Committer.{Committer}
 use Rattle.sc_core.specs.CoreData.{CoreData}
-use Rattle.sc_desk.specs.Files.{AreWinners}
 use Rattle.sc_context.specs.Outputs.{HaveWinners}
 
 -- the winners of the first partitions, in order
@@ -18,10 +17,6 @@ pub record AreFirst (committers : List Committer) (count : ℕ) (winners : List 
     pub many : length winners ≡ count
     pub each : (p : ℕ) → p < count → winner_of committers p ≡ slice_get winners p
     pub in_order : AreWinnersFrom 0 winners
-
-pub none_first : (committers : List Committer) → AreFirst committers 0 []
-none_first committers =
-    record { many = refl; each = λ p within. absurd (omega (arith, within)); in_order = tt }
 
 -- ---- one more
 
@@ -74,16 +69,3 @@ first_more end count ws all w have first within is types pushed =
         let many = first.many in
         let before : p < count = grind (arith, other, lt) in
         first.each p before ∙ sym (get_before ws w p (omega (arith, before, many)))
-
--- no partition lacks one
-pub none_lacks : (end : CoreData) (p : ℕ) → HaveWinners end → p < length end.committers
-    → winner_of end.committers p ≡ None → ⊥
-none_lacks end p have within none =
-    subst (λ x. IsSomeAnd x (λ winner. winner.partition ≡ p)) none (have.each p within)
-
--- all are found
-pub first_all : (end : CoreData) (count : ℕ) (ws : List AttemptId)
-    → AreFirst end.committers count ws → count ≡ length end.committers
-    → AreWinners end.committers ws
-first_all end count ws first is =
-    (first.many ∙ is, λ p lt. first.each p (subst (λ n. p < n) (sym is) lt))

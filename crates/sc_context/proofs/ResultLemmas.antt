@@ -1,9 +1,9 @@
 -- The results of a job that is done.
-use Rattle.std.proofs.Common.{◌≡◌, ◌≢◌, ◌∙◌, ℕ, ◌+◌, ◌-◌, ◌<◌, List, [], ◌∷◌, ◌++◌, Option, Some, None, length, map, take, get_or, slice_get, Result, Ok, Err, IfOk, is_some, unwrap_or, true≢false, refl, ap, sym, subst, arith}
+use Rattle.std.proofs.Common.{◌≡◌, ◌≢◌, ◌∙◌, ℕ, ◌-◌, ◌<◌, List, [], ◌∷◌, ◌++◌, Option, Some, None, length, map, get_or, slice_get, Result, Ok, Err, IfOk, is_some, unwrap_or, true≢false, refl, ap, sym, subst, arith}
 use Rattle.std.specs.List.{All}
 use Rattle.std.specs.Option.{option_map}
 use Rattle.std.proofs.lemmas.Option.{slice_get-map, slice_get_read}
-use Rattle.std.proofs.lemmas.List.{ext_get_or, get_or-map, length-map, map-append, take_more}
+use Rattle.std.proofs.lemmas.List.{ext_get_or, get_or-map, length-map}
 use Rattle.std.proofs.lemmas.List.Elements.{All-from_get_or, All-get_or, All-head, All-tail}
 use Rattle.sc_base.specs.Lists.{at_or}
 use Rattle.sc_ids.specs.Graphs.{StageData}
@@ -230,17 +230,6 @@ pub both_ok : {A E : Type 0} (r : Result A E) (P Q R : A → Type 0)
     → ((a : A) → P a → Q a → R a) → IfOk r P → IfOk r Q → IfOk r R
 both_ok (Ok a) P Q R f p q = f a p q
 both_ok (Err e) P Q R f p q = tt
-
--- one result more
-pub some_more : {A : Type 0} (xs : List (Option A)) (ys zs : List A) (i : ℕ) (x : Option A)
-    (y : A) → take i xs ≡ map Some ys → i < length xs → x ≡ get_or xs i x → x ≡ Some y
-    → zs ≡ ys ++ y ∷ [] → take (i + 1) xs ≡ map Some zs
-some_more xs ys zs i x y so_far within is some pushed =
-    take_more xs i x within
-    ∙ ap (λ v. take i xs ++ v ∷ []) (sym is ∙ some)
-    ∙ ap (λ vs. vs ++ Some y ∷ []) so_far
-    ∙ sym (map-append Some ys (y ∷ []))
-    ∙ ap (map Some) (sym pushed)
 
 -- ---- the parent of a sort
 

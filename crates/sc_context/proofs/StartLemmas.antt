@@ -24,7 +24,7 @@ use Rattle.sc_desk.proofs.OrderLemmas.{due_room}
 use Rattle.sc_world.proofs.CodeOrders.{IsWipeOf, wipe_of}
 use Rattle.sc_world.specs.Runs.{AreReady}
 use Rattle.sc_world.specs.Ties.{StandsAt, generation_at, generation_in}
-use Rattle.sc_context.specs.Contexts.{IsContext, IsReady, context_data, new_context}
+use Rattle.sc_context.specs.Contexts.{IsContext, IsReady, context_data}
 use Rattle.sc_context.specs.Progress.{first_progress, progress}
 use Rattle.sc_context.specs.Starts.{IsUnregistered, empty_store, new_store, new_stores, seen_store, seen_stores}
 use Rattle.sc_context.proofs.ReadyLemmas.{AreReadyBehind}
@@ -101,12 +101,6 @@ first_context work passed files is ready =
       places = ap (λ (c : CarriedData). length c.bounds) is
           ∙ length-replicate (length work.script.nodes) None;
     }
-
--- its view
-pub first_view : (work : WorkData) (passed : PassedData) (files : FilesState)
-    → passed.carried ≡ (first_progress work).carried
-    → context_data 0 passed.carried [] [] files ≡ new_context work files
-first_view work passed files is = ap (λ c. context_data 0 c [] [] files) is
 
 -- ---- stores at the generations that were seen
 

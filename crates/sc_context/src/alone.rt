@@ -77,9 +77,17 @@ fn begin_alone<W: Naming>(alloc: Global, desk: Desk<W>) -> Result<Beginning<W>, 
     ensures empty { IfOk result (λ b. b.room.items ≡ []) }
     ensures room { IfOk result (λ b. W.work.limits.executors ≤ vec_capacity b.room) }
 {
-    let room = room_for(alloc, &desk)?;
-    let world = world_over(alloc, desk)?;
-    Ok(Beginning { world, room })
+    let Ok(room) = room_for(alloc, &desk) else {
+        drop(desk);
+        return Err(AllocError);
+    };
+    match world_over(alloc, desk) {
+        Ok(world) => Ok(Beginning { world, room }),
+        Err(error) => {
+            drop(room);
+            Err(error)
+        }
+    }
 }
 
 /// Room for the stores of all executors behind locks.
@@ -99,10 +107,16 @@ fn world_over<W: Naming>(alloc: Global, desk: Desk<W>) -> Result<World<W>, Alloc
     ensures { IfOk result (λ w. (stores : List StoreData)
         × (w ≡ idle_world W.work desk stores)) }
 {
-    let stores = stores_at(alloc, &desk)?;
+    let Ok(stores) = stores_at(alloc, &desk) else {
+        drop(desk);
+        return Err(AllocError);
+    };
     match World::begin(alloc, desk, stores) {
         Ok(world) => Ok(world),
-        Err(_) => Err(AllocError),
+        Err(back) => {
+            drop(back);
+            Err(AllocError)
+        }
     }
 }
 

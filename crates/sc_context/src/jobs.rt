@@ -32,7 +32,7 @@ use sc_causes::{planned_losses_alone, raises_leave_no_value};
 use sc_clock::Clock;
 use sc_core::Core;
 use sc_desk::{Desk, Passed, files_go_on};
-use sc_exec::Gate;
+use sc_exec::{Gate, Stores};
 use sc_files::Files;
 use sc_jobs::Goal;
 use sc_laws::outcome_law;
@@ -79,24 +79,35 @@ impl<W: Naming + Send + Sync, F: Files + Send> Context<W, F> {
             files,
         } = self;
         let Ok(crew) = make_room(alloc, &work, &mut records) else {
+            let_go(work, passed, stores);
             return Err(Stopped::without_memory(records, files));
         };
         let output = match open_output(alloc, &work, goal, files) {
             Ok(output) => output,
-            Err(Refused { why, files }) => return Err(Stopped {
-                why,
-                records,
-                files,
-            }),
+            Err(Refused { why, files }) => {
+                drop(crew);
+                let_go(work, passed, stores);
+                return Err(Stopped {
+                    why,
+                    records,
+                    files,
+                });
+            }
         };
         let last = last_end(records.histories.as_slice());
         let Ok(begun) = begin(alloc, &work, passed, last, goal) else {
+            drop(crew);
+            drop(stores);
+            drop(work);
             return Err(Stopped::without_memory(records, output.close()));
         };
         let run = run_begun(rt, alloc, gate, clock, last, begun, output, stores, crew);
         end_job(work, actions, records, run)
     }
 }
+
+/// Lets go of what a job would have begun with.
+fn let_go<W: Naming>(_work: SharedWork<W>, _passed: Passed, _stores: Stores<W>) {}
 
 /// Room in the records for one job more, and its executors. A refused call changes nothing.
 fn make_room<W: Naming>(

@@ -158,11 +158,14 @@ fn run_again<W: Naming, F: Files>(
     };
     match renew_output(output) {
         Ok(output) => run_renewed(alloc, desk, output, gave_up),
-        Err(Refused { why, files }) => Run::Refused {
-            gave_up,
-            why,
-            files,
-        },
+        Err(Refused { why, files }) => {
+            drop(desk);
+            Run::Refused {
+                gave_up,
+                why,
+                files,
+            }
+        }
     }
 }
 

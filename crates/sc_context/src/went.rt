@@ -64,12 +64,14 @@ pub(crate) fn finish<W: Naming, F: Files>(
     desk.job().is_job();
     let Closed {
         history,
-        results,
+        results: kept,
         passed,
-        ..
+        job,
     } = desk.close();
+    drop(job);
     let Ended { files, ended } = end_output(alloc, output, &history.end);
-    let results = results_by(alloc, ended, &history.end, results.as_slice());
+    let results = results_by(alloc, ended, &history.end, kept.as_slice());
+    drop(kept);
     Went {
         history,
         passed,

@@ -199,24 +199,3 @@ denies_ended ks a how p = by (p == a.partition) refl
         rw is (ap denies (committer_here ks a.partition (ended a how) refl)
         ∙ ended_denies a how (committer_at ks a.partition))
     by false e = ap denies (committer_other ks a.partition p (ended a how) e)
-
--- who ends holds no grant then
-pub holds_none : (ks : List Committer) (a : AttemptId) (how : Ending)
-    → holds a (committer_at (after_end ks a how) a.partition) ≡ false
-holds_none ks a how =
-    ap (holds a) (committer_here ks a.partition (ended a how) refl)
-    ∙ one (committer_at ks a.partition)
-  where
-    over : (h : AttemptId) (how : Ending) → holds a (after_holder h how) ≡ false
-    over h Failed = refl
-    over h Succeeded = refl
-
-    one : (k : Committer) → holds a (ended a how k) ≡ false
-    one Nobody = refl
-    one (Winner w) = refl
-    one (Holder h d) = by (is_same h a) refl
-      where
-        by : (b : Bool) → is_same h a ≡ b
-            → holds a (if b then after_holder h how else Holder h d) ≡ false
-        by true e = over h how
-        by false e = e

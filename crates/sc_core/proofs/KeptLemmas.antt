@@ -1,5 +1,5 @@
 -- Lists of inputs that are kept.
-use Rattle.std.proofs.Common.{◌≡◌, ◌≢◌, ℕ, zero, suc, Bool, true, false, List, [], ◌∷◌, Option, Some, None, IfSome, map, replicate, refl, Result, Ok, Err, OnOk, OnErr}
+use Rattle.std.proofs.Common.{◌≡◌, ◌≢◌, ℕ, zero, suc, Bool, true, false, List, [], ◌∷◌, Option, Some, None, IfSome, map, refl, Result, Ok, Err, OnOk, OnErr}
 use Rattle.sc_ids.specs.Changes.{change_at}
 use Rattle.sc_ids.specs.declared.attempts.AttemptId.{AttemptId}
 use Rattle.sc_ids.specs.declared.blocks.Loc.{Loc}
@@ -15,12 +15,6 @@ use Rattle.sc_dag.specs.Submission.{IsSubmitted}
 use Rattle.sc_dag.specs.declared.reports.Success.TheVariants as successes
 use Rattle.sc_core.specs.HandOuts.{inputs_of}
 use Rattle.sc_core.specs.Kept.{AreInputs, kept_at}
-
--- where no list was made, none is kept
-pub none_kept : (n s : ℕ) → kept_at (replicate n None) s ≡ None
-none_kept zero s = refl
-none_kept (suc n) zero = refl
-none_kept (suc n) (suc s) = none_kept n s
 
 -- nor where all were forgotten
 pub none_left : (kept : List (Option (List Location))) (s : ℕ)

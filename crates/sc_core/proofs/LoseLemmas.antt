@@ -102,19 +102,6 @@ released_next exec c mid next k is more =
     ∙ sym (released_more exec c.running k c)
     ∙ ap (λ (n : ℕ). all_released (attempts_on exec (take n c.running)) c) one
 
--- at the end all are
-pub released_all :
-    (exec : ℕ) (c next : CoreData) (k : ℕ) → k ≡ length c.running
-    → next ≡ all_released (attempts_on exec (take k c.running)) c
-    → next ≡ all_released (attempts_on exec c.running) c
-released_all exec c next k many is =
-    is ∙ ap (λ rs. all_released (attempts_on exec rs) c)
-    (ap (λ (n : ℕ). take n c.running) many ∙ take_all c.running)
-  where
-    take_all : (rs : List Running) → take (length rs) rs ≡ rs
-    take_all [] = refl
-    take_all (r ∷ rs) = ap (λ xs. r ∷ xs) (take_all rs)
-
 -- a job's stages, as far as they keep a core sound
 record Keeps (r : ℕ) (c after : CoreData) : Type 0 where
   calm : Calm c.dag after.dag

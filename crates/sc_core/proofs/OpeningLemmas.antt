@@ -23,7 +23,7 @@ use Rattle.sc_dag.specs.Laws as dag
 use Rattle.sc_dag.specs.Openings.{IsJob, Opens, blank_states, number_behind, sized_by, sized_for_all}
 use Rattle.sc_dag.specs.Outputs.{is_complete}
 use Rattle.sc_dag.specs.Settled.{IsSettled, IsSettledBy, IsUnderWay, will_go_on}
-use Rattle.sc_dag.specs.Sound.{IsSoundDag, attempts_in, runner_of}
+use Rattle.sc_dag.specs.Sound.{IsSoundDag, runner_of}
 use Rattle.sc_dag.specs.Submission.{is_map, this_stage}
 use Rattle.sc_dag.proofs.Moving.{newest_among}
 use Rattle.sc_dag.proofs.Tests.{any_mono}
@@ -48,12 +48,6 @@ blank_runs : (last : Option DagData) (n : ℕ) (stages : List StageData) (s : �
 blank_runs last n [] s b = refl
 blank_runs last n (stage ∷ stages) zero b = refl
 blank_runs last n (stage ∷ stages) (suc s) b = blank_runs last (n + 1) stages s b
-
-blank_attempts : (last : Option DagData) (n : ℕ) (stages : List StageData) (s : ℕ)
-    → attempts_in (slice_get (blank_states last n stages) s) ≡ []
-blank_attempts last n [] s = refl
-blank_attempts last n (stage ∷ stages) zero = refl
-blank_attempts last n (stage ∷ stages) (suc s) = blank_attempts last (n + 1) stages s
 
 blank_dead : (last : Option DagData) (n : ℕ) (stages : List StageData) (s : ℕ)
     → is_live_set (newest_among (slice_get (blank_states last n stages) s)) ≡ false

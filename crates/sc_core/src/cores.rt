@@ -1,7 +1,7 @@
 //! The core.
 #![tactic(auto)]
 
-ghost use Rattle.std.specs.Prelude.{◌≡◌, IfOk, IfSome, OnErr, Some, false, length, true};
+ghost use Rattle.std.specs.Prelude.{◌≡◌, IfOk, IfSome, OnErr, Some, false, true};
 ghost use Rattle.std.specs.Option.{option_map};
 ghost use Rattle.sc_commit.specs.CommitLaws.{winner_of};
 ghost use Rattle.sc_dag.specs.DagData.{stage_at};
@@ -163,13 +163,6 @@ impl Core {
         ensures { result ≡ (stage_at self.now.dag stage).tasks }
     {
         self.state.stages.dag().tasks(stage)
-    }
-
-    /// How many partitions its job saves: none where it saves nothing.
-    pub fn saved_partitions(&self) -> usize
-        ensures { result ≡ length self.now.committers }
-    {
-        self.state.commit.partitions()
     }
 
     /// The attempt of a save that has won a partition: its part is the one that counts.

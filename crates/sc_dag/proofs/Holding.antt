@@ -1,5 +1,5 @@
 -- Each change of a task set but one leaves its tasks held back as they were.
-use Rattle.std.proofs.Common.{◌≡◌, ℕ, ◌<◌, ◌==◌, Bool, true, false, cond, if◌then◌else◌, List, [], ◌∷◌, All, get_or, length, map, Option, Some, None, option_map, refl, ap, sym, subst, ◌∙◌, arith}
+use Rattle.std.proofs.Common.{◌≡◌, ℕ, ◌<◌, ◌==◌, Bool, true, false, cond, if◌then◌else◌, List, [], ◌∷◌, All, get_or, length, map, Option, Some, refl, ap, sym, subst, ◌∙◌, arith}
 use Rattle.std.proofs.lemmas.Bool.Decides.{nat_tests}
 use Rattle.std.proofs.lemmas.List.Elements.{All-cons, All-head, All-map, All-tail}
 use Rattle.sc_base.specs.Lists.{at_or}
@@ -75,14 +75,6 @@ pub holds_loss : (set : TaskSetData) (exec : ℕ) → KeepsHeld set (after_loss 
 holds_loss set exec flags held =
     All-map (IsHeldBy flags) (lost_task exec (redoes_lost set)) set.tasks
     (λ i d l. held i d l)
-
--- of a set that may be there
-pub holds_in :
-    (flags : List Bool) (f : TaskSetData → TaskSetData) (o : Option TaskSetData)
-    → ((set : TaskSetData) → o ≡ Some set → KeepsHeld set (f set))
-    → AreHeldBy flags o → AreHeldBy flags (option_map f o)
-holds_in flags f None keeps held = held
-holds_in flags f (Some set) keeps held = keeps set refl flags held
 
 -- ---- the change that does
 

@@ -66,9 +66,6 @@ pub record StandAt (graph stages : List StageData) : Type 0 where
   pub only : (s : ℕ) → (at_or stages s no_stage ≡ no_stage)
       ⊎ (Contains graph (at_or stages s no_stage) × ((at_or stages s no_stage).id ≡ s))
 
-pub stand_none : StandAt [] []
-stand_none = record { each = All-nil _; only = λ s. inl refl }
-
 -- the number behind all of them, and those that were there before
 each_more : (graph stages : List StageData) (x : StageData)
     → All (λ stage. slice_get stages stage.id ≡ Some stage) graph

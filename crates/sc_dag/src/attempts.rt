@@ -93,9 +93,9 @@ pub(crate) fn give_in(
 ) -> Result<(), AllocError>
     requires { may_be_given_in (set_in (slice_get attempts.old.items place)) exec now partition
         ≡ true }
-    ensures ok { OnOk result (attempts.new.items ≡ change_at attempts.old.items place
+    ensures given { OnOk result (attempts.new.items ≡ change_at attempts.old.items place
         (with_set (λ set. handed set partition exec now))) }
-    ensures err { OnErr result (attempts.new.items ≡ attempts.old.items) }
+    ensures refused { OnErr result (attempts.new.items ≡ attempts.old.items) }
     ensures len { vec_len attempts.new ≡ vec_len attempts.old }
     ensures capacity { vec_capacity attempts.new ≡ vec_capacity attempts.old }
 {

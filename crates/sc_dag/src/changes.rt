@@ -43,9 +43,9 @@ impl StageRow {
     /// Hands out a task of its newest attempt.
     pub fn give(&mut self, partition: u32, exec: ExecId, now: u64) -> Result<(), AllocError>
         requires { may_be_given_in (newest_set self.old.state) exec now partition ≡ true }
-        ensures ok { OnOk result (self.new.state
+        ensures given { OnOk result (self.new.state
             ≡ changed_newest (λ set. handed set partition exec now) self.old.state) }
-        ensures err { OnErr result (self.new.state ≡ self.old.state) }
+        ensures refused { OnErr result (self.new.state ≡ self.old.state) }
         ensures stage { self.new.stage ≡ self.old.stage }
         ensures ready { self.new.is_ready ≡ self.old.is_ready }
     {

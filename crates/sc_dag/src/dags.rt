@@ -8,7 +8,6 @@ ghost use Rattle.sc_dag.specs.DagData.{is_live_set, newest_at, stage_at, with_st
 ghost use Rattle.sc_dag.specs.Offers.{IsNextTask, OffersIn, handed_out, may_be_given_in, newest_number};
 ghost use Rattle.sc_dag.specs.Outputs.{is_complete};
 ghost use Rattle.sc_dag.specs.Reports.{is_finished_short, is_of_newest, wants_in};
-ghost use Rattle.sc_dag.specs.Submission.{waiting_stages};
 
 use crate::changes::RowChange;
 use crate::fates::Fate;
@@ -86,8 +85,8 @@ impl Dag {
     pub fn give(&mut self, attempt: AttemptId, exec: ExecId, now: u64) -> Result<(), AllocError>
         requires { may_be_given_in (newest_at self.old.0 attempt.stage) exec now
             attempt.partition ≡ true }
-        ensures ok { OnOk result (self.new.0 ≡ handed_out self.old.0 attempt exec now) }
-        ensures err { OnErr result (self.new.0 ≡ self.old.0) }
+        ensures given { OnOk result (self.new.0 ≡ handed_out self.old.0 attempt exec now) }
+        ensures refused { OnErr result (self.new.0 ≡ self.old.0) }
         ensures ready { self.new.1 ≡ self.old.1 }
     {
         give_at(&mut self.rows, attempt, exec, now)
@@ -134,16 +133,6 @@ impl Dag {
     {
         match self.rows.get(stage as usize) {
             Some(row) => row.is_live(),
-            None => false,
-        }
-    }
-
-    /// Whether a stage waits for outputs of its parents.
-    pub fn is_waiting(&self, stage: StageId) -> bool
-        ensures { result ≡ waiting_stages self.now.0 stage }
-    {
-        match self.rows.get(stage as usize) {
-            Some(row) => row.waits(),
             None => false,
         }
     }

@@ -85,9 +85,9 @@ pub(crate) fn give_at(
     requires { (t : TrackerData) (limits : Limits)
         → may_be_given_in (newest_at (dag_of rows.old.items t limits) a.stage) exec now a.partition
         ≡ true }
-    ensures ok { OnOk result (states_of rows.new.items ≡ change_at (states_of rows.old.items)
+    ensures given { OnOk result (states_of rows.new.items ≡ change_at (states_of rows.old.items)
         a.stage (changed_newest (λ set. handed set a.partition exec now))) }
-    ensures err { OnErr result (states_of rows.new.items ≡ states_of rows.old.items) }
+    ensures refused { OnErr result (states_of rows.new.items ≡ states_of rows.old.items) }
     ensures stages { stages_of rows.new.items ≡ stages_of rows.old.items }
     ensures ready { ready_of rows.new.items ≡ ready_of rows.old.items }
 {

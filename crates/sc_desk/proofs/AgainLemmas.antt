@@ -1,5 +1,5 @@
 -- A job that begins again.
-use Rattle.std.proofs.Common.{◌≡◌, Bool, true, false, Option, Some, None, IfSome, refl, ap, sym, subst, ◌∙◌}
+use Rattle.std.proofs.Common.{◌≡◌, Bool, true, false, Option, Some, None, IfSome, ap, sym, subst, ◌∙◌}
 use Rattle.std.specs.Option.{option_map}
 use Rattle.std.proofs.lemmas.List.Elements.{All-nil}
 use Rattle.sc_lineage.specs.ScriptData.{WorkData}
@@ -34,10 +34,6 @@ left_well false last sound = last_leaves_well last sound
 left_well true None sound = tt
 left_well true (Some last) sound =
     (unregistered_leave_well last).0 (last_leaves_well (Some last) sound)
-
-pub left_none : (again : Bool) → left_for again None ≡ None
-left_none false = refl
-left_none true = refl
 
 pub again_is_begun : AgainIsBegun
 again_is_begun work passed before last goal first d after orders begins same_job same_carried

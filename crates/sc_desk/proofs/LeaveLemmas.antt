@@ -1,30 +1,16 @@
 -- An executor that leaves, at the desk.
-use Rattle.std.proofs.Common.{◌≡◌, ◌∙◌, ℕ, length, refl, subst, sym}
+use Rattle.std.proofs.Common.{◌≡◌, ℕ, length, refl, subst, sym}
 use Rattle.sc_ids.specs.declared.attempts.Mark.TheVariants.{Exec}
 use Rattle.sc_ids.specs.declared.limits.Limits.{Limits}
-use Rattle.sc_lineage.specs.ScriptData.{WorkData}
-use Rattle.sc_dag.specs.Submission.{this_stage}
-use Rattle.sc_core.specs.CoreData.{result_stage}
 use Rattle.sc_core.specs.Sides.{StepsAside}
 use Rattle.sc_core.specs.declared.answers.Answer.{Answer}
 use Rattle.sc_core.specs.declared.events.Event.TheVariants.{Side}
 use Rattle.sc_core.specs.declared.events.SideEvent.TheVariants.{Leave}
-use Rattle.sc_core.proofs.StageCallLemmas.{submitted_calm}
 use Rattle.sc_desk.specs.Asides.{Notes}
 use Rattle.sc_desk.specs.DeskData.{DeskData, core_of}
 use Rattle.sc_desk.specs.Entries.{Enters}
 use Rattle.sc_desk.specs.Shelves.{shelf_in}
-use Rattle.sc_desk.specs.Sound.{IsSoundDesk}
 use Rattle.sc_desk.specs.declared.receipts.Noted.{Noted}
-
--- a job began under the limits of the work
-pub opened_limits :
-    (work : WorkData) (d : DeskData) → IsSoundDesk work d
-    → d.journal.opening.dag.limits ≡ work.limits
-opened_limits work d sound =
-    (submitted_calm sound.opened.dag d.journal.opening.dag
-    (this_stage (result_stage sound.opened.dag)) sound.opened.submits).limits
-    ∙ sound.opened.limits_are
 
 -- what is entered of one that leaves is as beside the reports
 pub left_notes :

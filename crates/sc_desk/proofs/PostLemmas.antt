@@ -1,5 +1,5 @@
 -- What holds of every desk holds behind each report that is posted.
-use Rattle.std.proofs.Common.{◌≡◌, ◌≢◌, ℕ, zero, suc, ◌||◌, slice_index_or, ◌+◌, ◌<◌, ◌≤◌, ◌&&◌, All, Contains, Bool, true, false, if◌then◌else◌, List, [], ◌∷◌, drop, map, Option, Some, None, IfSome, length, refl, arith, ap, ap₂, sym, subst, ◌∙◌, rules, true≢false}
+use Rattle.std.proofs.Common.{◌≡◌, ◌≢◌, ℕ, zero, suc, ◌||◌, slice_index_or, ◌+◌, ◌<◌, ◌≤◌, ◌&&◌, All, Contains, Bool, true, false, if◌then◌else◌, List, [], ◌∷◌, drop, map, Option, Some, None, length, refl, arith, ap, ap₂, sym, subst, ◌∙◌, rules, true≢false}
 use Rattle.sc_base.specs.Lists.{at_or}
 use Rattle.sc_ids.specs.Changes.{change_at}
 use Rattle.sc_ids.specs.declared.attempts.AttemptId.{AttemptId}
@@ -369,12 +369,6 @@ pub copies_counted :
     → copies_if (comes_twice c (attempt_of report)) ≡ count_of copy
 copies_counted c report None e = ap copies_if e
 copies_counted c report (Some copy) (e, same) = ap copies_if e
-
-pub copies_same :
-    (c : CoreData) (report : ReportData) (copy : Option ReportData) → AreCopies c report copy
-    → IfSome copy (λ x. x ≡ report)
-copies_same c report None e = tt
-copies_same c report (Some copy) (e, same) = same
 
 -- what it leaves of the core
 abbrev pub PostedTo : WorkData → DeskData → ReportData → Answer → CoreData → Type 0

@@ -257,13 +257,6 @@ pub record Waits (d after : DagData) : Type 0 where
   pub dead : (s : ℕ) → is_live_set (newest_at d s) ≡ false
       → is_live_set (newest_at after s) ≡ false
 
-pub waits_then : (a b c : DagData) → Waits a b → Waits b c → Waits a c
-waits_then a b c h k =
-    record {
-      waits = λ s w. h.waits s (k.waits s w);
-      dead = λ s z. k.dead s (h.dead s z);
-    }
-
 pub tamed_waits : (E : ℕ → ℕ → Type 0) (d after : DagData) → Tamed E d after → Waits d after
 tamed_waits E d after h =
     record {

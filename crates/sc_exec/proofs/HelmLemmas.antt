@@ -1,10 +1,9 @@
 -- What a call leaves of a desk with its files: that of the same job.
-use Rattle.std.proofs.Common.{◌≡◌, ◌∙◌, ℕ, true, List, [], Option, Some, None, IfSome, refl, ap, sym, subst, arith, rules, Bool, false}
+use Rattle.std.proofs.Common.{◌≡◌, ◌∙◌, ℕ, true, List, [], Option, Some, None, IfSome, refl, ap, sym, subst, arith, Bool, false}
 use Rattle.sc_base.specs.Outside.{FilesState, IsLaterFiles}
 use Rattle.sc_base.specs.Trees.{Path}
 use Rattle.sc_base.proofs.ChangeLemmas.{changes-compose, changes-none}
-use Rattle.sc_lineage.specs.Saves.{dir_of_action}
-use Rattle.sc_lineage.specs.ScriptData.{ActionData, WorkData}
+use Rattle.sc_lineage.specs.ScriptData.{WorkData}
 use Rattle.sc_ids.specs.declared.attempts.AttemptId.{AttemptId}
 use Rattle.sc_ids.specs.declared.attempts.Mark.{Mark}
 use Rattle.sc_plan.specs.declared.orders.Order.{Order}
@@ -21,7 +20,7 @@ use Rattle.sc_core.specs.Saving.{is_granted, saver_phase}
 use Rattle.sc_core.specs.declared.answers.Answer.{Answer}
 use Rattle.sc_core.specs.declared.events.Event.{Event}
 use Rattle.sc_core.specs.declared.events.SideEvent.TheVariants.{Ask, Tick}
-use Rattle.sc_jobs.specs.JobData.{JobData, goal_action, is_saving, saves}
+use Rattle.sc_jobs.specs.JobData.{JobData}
 use Rattle.sc_net.specs.Reports.{ReportData}
 use Rattle.sc_desk.specs.Asides.{Leaves, Notes}
 use Rattle.sc_desk.specs.DeskData.{DeskData, core_of}
@@ -220,18 +219,6 @@ pub may_move : (work : WorkData) (o : OpeningData) (d : DeskData) (a : AttemptId
     → IfSome before.files.shown (IsOpen (part_rename before.dir a))
 may_move work o d a before within sound replay is may =
     files_go_on.may_move work d a before.dir before.files within sound replay may is.stand
-
--- ---- where it saves to
-
-has_dir : (action : ActionData) → is_saving action ≡ true → None ≡ dir_of_action action → ⊥
-has_dir action saving none = search (rules, saving, none)
-
--- a job that saves has its files open
-pub none_aside : (work : WorkData) (o : OpeningData) (d : DeskData) (files : FilesState)
-    → IsJobOf work o (helm_data d None files) → saves work o.job.goal ≡ true → ⊥
-none_aside work o d files is saving =
-    has_dir (goal_action work d.job.goal)
-    (ap (λ (j : JobData). saves work j.goal) is.job ∙ saving) is.stand.opened_for
 
 -- ---- where nothing happened yet
 

@@ -1,7 +1,6 @@
 -- What keeps an executor from going on, as its log tells.
-use Rattle.std.proofs.Common.{ℕ, ◌≡◌, ◌∙◌, inl, inr, None, Result, Ok, Err, IfErr, refl, ap, sym, subst}
+use Rattle.std.proofs.Common.{ℕ, ◌≡◌, ◌∙◌, inl, inr, None, Result, ap, sym, subst}
 use Rattle.sc_lineage.specs.ScriptData.{WorkData}
-use Rattle.sc_plan.specs.declared.orders.Order.{Order}
 use Rattle.sc_core.specs.HandOuts.{HandOutData}
 use Rattle.sc_core.specs.declared.answers.Answer.TheVariants as says
 use Rattle.sc_net.specs.Reports.{IsTrueReport, ReportData, loc_at}
@@ -11,10 +10,8 @@ use Rattle.sc_net.specs.declared.findings.Finding.TheVariants as findings
 use Rattle.sc_desk.specs.DeskData.{DeskData}
 use Rattle.sc_logs.specs.Folds.{last_take}
 use Rattle.sc_logs.specs.declared.logs.ExecLog.{ExecLog}
-use Rattle.sc_exec.specs.Lefts.{IsDue, IsHindrance, IsSentWith, IsToldTheSame, ReadsAt, WasSent, WasTold}
+use Rattle.sc_exec.specs.Lefts.{IsHindrance, IsSentWith, IsToldTheSame, ReadsAt, WasSent, WasTold}
 use Rattle.sc_exec.specs.Logging.{IsSameLog, PostsBoth, TellsEarly}
-use Rattle.sc_exec.specs.Performing.{Hinders}
-use Rattle.sc_exec.specs.Places.{IsMisplaced}
 use Rattle.sc_exec.specs.declared.calls.Delivery.{Delivery}
 use Rattle.sc_exec.specs.declared.calls.Delivery.TheVariants as deliveries
 use Rattle.sc_exec.specs.declared.calls.Refused.{Refused}
@@ -22,33 +19,6 @@ use Rattle.sc_exec.specs.declared.calls.TooEarly.{TooEarly}
 use Rattle.sc_exec.specs.declared.lefts.Left.{Left}
 use Rattle.sc_exec.specs.declared.lefts.Left.TheVariants as lefts
 use Rattle.sc_exec.specs.declared.lefts.Stranger.TheVariants as strangers
-use Rattle.sc_exec.specs.declared.places.Misplaced.{Misplaced}
-
--- what keeps it from going on with the task that it was told last
-pub hindered : {T : Type 0} (work : WorkData) (log : ExecLog) (h : HandOutData)
-    (r : Result T Left) → WasTold (says.Task h) log → IfErr r (Hinders log.exec h)
-    → IfErr r (IsHindrance work log)
-hindered work log h (Ok x) told hinders = hinders
-hindered work log h (Err (lefts.Stranger (strangers.Store m))) told (is, sent) =
-    (is, inl (h, told, sent))
-hindered work log h (Err (lefts.Absent absence)) told contains = (h, told, contains)
-hindered work log h (Err lefts.NoMemory) told hinders = tt
-hindered work log h (Err (lefts.Stranger (strangers.Report refused))) told hinders =
-    absurd hinders
-hindered work log h (Err (lefts.Early early)) told hinders = absurd hinders
-hindered work log h (Err lefts.JobEnded) told hinders = absurd hinders
-hindered work log h (Err (lefts.Stopped first)) told hinders = absurd hinders
-hindered work log h (Err lefts.Lost) told hinders = absurd hinders
-hindered work log h (Err (lefts.Busy held)) told hinders = absurd hinders
-
--- the place of an order has another one's store
-pub ordered_hinders : (work : WorkData) (log : ExecLog) (order : Order) (m : Misplaced)
-    → IsDue work order → IsMisplaced order.exec m
-    → IsHindrance work log (lefts.Stranger (strangers.Store m))
-ordered_hinders work log order m due (at, other) = (
-  (refl, subst (λ (p : ℕ). m.found ≡ p → ⊥) (sym at) other),
-  inr (order, due, sym at),
-)
 
 -- ---- its report was refused
 

@@ -17,7 +17,6 @@ use Rattle.sc_compute.specs.contracts.results.TaskResult as result
 use Rattle.sc_desk.specs.contracts.desks.Desk as desk
 use Rattle.sc_desk.specs.contracts.journals.DeskJournal as desk_journal
 use Rattle.sc_desk.specs.contracts.orders.Orders as orders
-use Rattle.sc_desk.specs.contracts.passes.Passed as passed
 use Rattle.sc_jobs.specs.contracts.jobs.Job as job
 use Rattle.sc_jobs.specs.contracts.jobs.Plan as plan
 use Rattle.sc_net.specs.contracts.findings.Finding as finding
@@ -26,7 +25,6 @@ use Rattle.sc_net.specs.contracts.shelved.ShelvedReport as shelved
 use Rattle.sc_net.specs.contracts.tasks.Task as task
 use Rattle.sc_part.specs.contracts.ranges.Bounds as bounds
 use Rattle.sc_stagecut.specs.contracts.carried.Carried as carried
-use Rattle.sc_store.specs.contracts.blocks.Block as block
 use Rattle.sc_store.specs.contracts.store.Store as store
 use Rattle.sc_work.specs.contracts.shared.SharedWork as shared
 use Rattle.sc_work.specs.declared.naming.Naming.{Ghosts}
@@ -38,12 +36,6 @@ ruleset known = (held.the_send, held.the_sync, text.the_send, text.the_sync, cro
 
 pub shared_send : (W : RattleType) (g : Ghosts W.Denot) → IsSend W → IsSend (shared.the_row W g)
 shared_send W g s = search (work_send, work_sync, crosses, sendable) depth 60 fits 20000
-
-pub shared_sync : (W : RattleType) (g : Ghosts W.Denot) → IsSync W → IsSync (shared.the_row W g)
-shared_sync W g s = search (work_send, work_sync, crosses, sendable) depth 60 fits 20000
-
-pub block_send : (W : RattleType) (g : Ghosts W.Denot) → IsSend W → IsSend (block.the_row W g)
-block_send W g s = search (output_send, crosses, sendable) depth 60 fits 20000
 
 pub store_send : (W : RattleType) (g : Ghosts W.Denot) → IsSend W → IsSend (store.the_row W g)
 store_send W g s =
@@ -98,9 +90,6 @@ carried_send = search (bounds_send, crosses, sendable) depth 60 fits 20000
 
 orders_send : IsSend orders.the_row
 orders_send = search (crosses, sendable) depth 60 fits 20000
-
-pub passed_send : IsSend passed.the_row
-passed_send = search (carried_send, orders_send, crosses, sendable) depth 60 fits 20000
 
 core_send : IsSend core.the_row
 core_send = core_sent.the_send

@@ -10,7 +10,7 @@ use Rattle.sc_core.specs.HandOuts.{HandOutData}
 use Rattle.sc_net.specs.Reports.{ReportData}
 use Rattle.sc_net.specs.Tasks.{TaskData, blocks_of_task}
 use Rattle.sc_store.specs.StoreData.{StoreData}
-use Rattle.sc_task.specs.Nexts.{FetchesFrom, next_at, next_of}
+use Rattle.sc_task.specs.Nexts.{next_at, next_of}
 use Rattle.sc_task.specs.States.{AssignedData}
 use Rattle.sc_task.specs.declared.next.Next.{Next}
 use Rattle.sc_task.specs.declared.next.Next.TheVariants.{Fetch, Missing, Complete}
@@ -93,14 +93,6 @@ so_unread store a (Err lefts.JobEnded) lacks = absurd lacks
 so_unread store a (Err (lefts.Stopped first)) lacks = absurd lacks
 so_unread store a (Err lefts.Lost) lacks = absurd lacks
 so_unread store a (Err (lefts.Busy held)) lacks = absurd lacks
-
--- its store is another one's
-pub misplaced_unread : (exec : ℕ) (next : Next) (m : Misplaced) → FetchesFrom exec next
-    → IsMisplaced exec m → IsNextSo (λ block loc. IsMisplaced loc.exec m) next
-misplaced_unread exec (Fetch block loc) m there is =
-    subst (λ (e : ℕ). IsMisplaced e m) (sym there) is
-misplaced_unread exec (Missing last) m there is = absurd there
-misplaced_unread exec Complete m there is = absurd there
 
 -- ---- what keeps an executor from going on
 

@@ -1,6 +1,6 @@
 -- Paths that are read from one end.
-use Rattle.std.proofs.Common.{◌≡◌, ◌∙◌, ℕ, zero, suc, ◌<◌, cond, false, length, take, drop, get_or, arith, not-suc-le-zero, [], ◌∷◌, refl, ap}
-use Rattle.std.specs.Prelude.{◌==◌, Some, None}
+use Rattle.std.proofs.Common.{◌≡◌, ◌∙◌, ℕ, zero, suc, ◌<◌, false, length, take, drop, get_or, arith, not-suc-le-zero, [], ◌∷◌, refl, ap}
+use Rattle.std.specs.Prelude.{Some, None}
 use Rattle.sc_base.specs.Trees.{Path, dir_part, dir_step, lies_under}
 
 -- the last slash of a path ends its directory
@@ -11,15 +11,6 @@ dir_part-slash (c ∷ path) zero within is none =
     ap (dir_step c) none ∙ ap (λ b. dir_step b None) is
 dir_part-slash (c ∷ path) (suc k) within is none =
     ap (dir_step c) (dir_part-slash path k (omega (arith, within)) is none)
-
--- another byte in front of bytes without a slash leaves them without one
-pub dir_part-other : (path : Path) (k : ℕ) → k < length path → (get_or path k 0 == 47) ≡ false
-    → dir_part (drop (suc k) path) ≡ None → dir_part (drop k path) ≡ None
-dir_part-other [] k within is none = absurd (not-suc-le-zero within)
-dir_part-other (c ∷ path) zero within is none =
-    ap (dir_step c) none ∙ ap (λ b. cond b (Some []) None) is
-dir_part-other (c ∷ path) (suc k) within is none =
-    dir_part-other path k (omega (arith, within)) is none
 
 -- no path of no bytes lies under a directory that has some
 pub lies_under-short : (dir : Path) (k : ℕ) → k < length dir → lies_under (drop k dir) [] ≡ false

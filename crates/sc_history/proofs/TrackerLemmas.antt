@@ -243,10 +243,6 @@ stays c after event answer same none =
       epochs = none_more c after event answer (ap (λ (t : TrackerData). t.epoch) same) none;
     }
 
-no_and : (b : Bool) → (b && false) ≡ false
-no_and true = refl
-no_and false = refl
-
 -- the reports of an event are one, and what it shows
 told_one : (c : CoreData) (event : Event) (answer : Answer) (a : AttemptId) (outcome : Outcome)
     → forgets c event answer ≡ list_any (tells_newer c.dag.tracker) (tellings_in c event answer)

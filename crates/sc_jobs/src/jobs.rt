@@ -190,16 +190,6 @@ impl<W: Naming> Job<W> {
         is_saving(self.action(work))
     }
 
-    /// Whether it has a stage of a number, with a task for a partition.
-    pub fn has_task(&self, stage: StageId, partition: u32) -> bool
-        ensures { IsTrue result ↔ HasTask self.now.graph stage partition }
-    {
-        match self.stage(stage) {
-            Some(stage) => partition < stage.tasks(),
-            None => false,
-        }
-    }
-
     /// What the task of a partition of a stage is to compute.
     pub fn task_target<'a>(
         &'a self,

@@ -5,7 +5,6 @@ pub mod MeaningLemmas
 pub mod CountLemmas
 pub mod FoundLemmas
 pub mod NameLemmas
-pub mod NodeLemmas
 pub mod SaveLemmas
 pub mod SoundLemmas
 pub mod WholeLemmas

@@ -15,7 +15,7 @@ use Rattle.sc_lineage.specs.NodeData.{NodeData, text_node, parallelize_node, eac
 use Rattle.sc_lineage.specs.Partitioners.{PartitionerData}
 use Rattle.sc_lineage.specs.ScriptData.{ScriptData, WorkData, count_step, ReadsBefore, AreWellPlaced, IsSoundScript}
 use Rattle.sc_lineage.specs.Streams.{ended_stream}
-use Rattle.sc_lineage.proofs.PlaceLemmas.{at_or-take, at_or-map_any, at_or-numbers_below, length-numbers_below, take-at_or}
+use Rattle.sc_lineage.proofs.PlaceLemmas.{at_or-take, at_or-map_any, at_or-numbers_below, length-numbers_below}
 use Rattle.sc_lineage.proofs.ByNodesLemmas.{fold_laws}
 use Rattle.sc_lineage.proofs.ReadLemmas.{counts_by_parents, narrow_by, reads_by_at_parents, reads_by_parents}
 
@@ -220,11 +220,3 @@ pub reads_by_counts : (found : List (List Stream)) (node : NodeData) (p : ℕ)
 reads_by_counts found node p =
     ap (λ (counts : ℕ → ℕ). reads_of counts node p)
     (λ i. λ q. sym (at_or-map_any length found q []) i)
-
--- one more stream of a node
-pub node_streams-more : (known : List PartitionerData) (work : WorkData) (k p : ℕ)
-    → p < part_count_by known work k
-    → take (p + 1) (node_streams_by known work k)
-    ≡ take p (node_streams_by known work k) ++ partition_stream_by known work k p ∷ []
-node_streams-more known work k p within =
-    take-at_or (node_streams_by known work k) p (ended_stream None) within

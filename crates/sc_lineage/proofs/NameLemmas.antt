@@ -1,13 +1,12 @@
 -- The names of inputs: each that is named, once, in the order of first naming.
-use Rattle.std.proofs.Common.{◌≡◌, ◌∙◌, ℕ, zero, suc, ◌<◌, ◌⊎◌, inl, inr, ⊎_elim, Bool, true, false, cond, not, ◌||◌, if◌then◌else◌, List, [], ◌∷◌, ◌++◌, length, take, get_or, filter, flat_map, bytes_eq, Contains, refl, ap, sym, arith, append-nil}
+use Rattle.std.proofs.Common.{◌≡◌, ◌∙◌, ℕ, zero, suc, ◌<◌, ◌⊎◌, inl, inr, ⊎_elim, Bool, true, false, cond, not, List, [], ◌∷◌, ◌++◌, length, take, get_or, filter, flat_map, bytes_eq, Contains, refl, ap, sym, arith}
 use Rattle.std.proofs.lemmas.Bool.{false≢true}
 use Rattle.std.proofs.Math.Seq.{take-append_seam}
 use Rattle.std.proofs.lemmas.List.Concat.{flat_map-append}
 use Rattle.std.proofs.lemmas.List.Elements.{All-weaker, recursion_from_All, filter_passes, filter-append}
 use Rattle.std.proofs.lemmas.Map.Keys.{IsDistinct-head, IsDistinct-tail, IsDistinct-cons}
-use Rattle.std.proofs.lemmas.Map.Views.{any-filter_same}
 use Rattle.std.proofs.lemmas.Slice.Eq.{bytes_eq-Decides}
-use Rattle.std.specs.List.{AllByRecursion, IsDistinct, list_any}
+use Rattle.std.specs.List.{AllByRecursion, IsDistinct}
 use Rattle.sc_base.specs.Lists.{firsts}
 use Rattle.sc_lineage.specs.Laws.{InputsAreNamed, InputsAreNamedOnce, InputsAreInOrder}
 use Rattle.sc_lineage.specs.ScriptData.{names_of_node}
@@ -147,54 +146,3 @@ inputs_are_in_order script longer more are =
     (flat_map-append names_of_node script.nodes more)
     ∙ ap (take (length (firsts named))) rest.1
     ∙ take-append_seam (firsts named) rest.0
-
--- a name behind others is put behind their firsts, unless it is one of them
-known_or_new : (n name : List ℕ) (kept : List (List ℕ)) (b c : Bool) → bytes_eq name n ≡ b
-    → (n ∷ filter (is_other n) (if c then kept else kept ++ name ∷ []))
-    ≡ (if b || c then n ∷ filter (is_other n) kept else n ∷ (filter (is_other n) kept ++ name ∷ []))
-known_or_new n name kept true true is = refl
-known_or_new n name kept true false is =
-    let same : name ≡ n = (bytes_eq-Decides name n).0 is in
-    let equal : bytes_eq n name ≡ true = (bytes_eq-Decides n name).1 (sym same) in
-    ap (λ ns. n ∷ ns)
-    (filter-append (is_other n) kept (name ∷ [])
-    ∙ ap (λ b. filter (is_other n) kept ++ cond (not b) (name ∷ []) []) equal
-    ∙ append-nil (filter (is_other n) kept))
-known_or_new n name kept false true is = refl
-known_or_new n name kept false false is =
-    ap (λ ns. n ∷ ns)
-    (filter-append (is_other n) kept (name ∷ [])
-    ∙ ap (λ b. filter (is_other n) kept ++ cond (not b) (name ∷ []) [])
-    (differ (bytes_eq n name) refl))
-  where
-    differ : (b : Bool) → bytes_eq n name ≡ b → b ≡ false
-    differ true equal =
-        let same : n ≡ name = (bytes_eq-Decides n name).0 equal in
-        absurd (false≢true (sym is ∙ (bytes_eq-Decides name n).1 (sym same)))
-    differ false equal = refl
-
-pub firsts-push : (names : List (List ℕ)) (name : List ℕ)
-    → firsts (names ++ name ∷ [])
-    ≡ (if list_any (bytes_eq name) (firsts names) then firsts names else firsts names ++ name ∷ [])
-firsts-push [] name = refl
-firsts-push (n ∷ names) name =
-    let kept = firsts names in
-    ap (λ ns. n ∷ filter (is_other n) ns) (firsts-push names name)
-    ∙ known_or_new n name kept (bytes_eq name n) (list_any (bytes_eq name) kept) refl
-    ∙ ap (λ c. if c then n ∷ filter (is_other n) kept
-    else n ∷ (filter (is_other n) kept ++ name ∷ [])) (among (bytes_eq name n) refl)
-  where
-    among : (b : Bool) → bytes_eq name n ≡ b
-        → (b || list_any (bytes_eq name) (firsts names))
-        ≡ (b || list_any (bytes_eq name) (filter (is_other n) (firsts names)))
-    among true is = refl
-    among false is =
-        sym (any-filter_same (bytes_eq name) (is_other n) true
-        (λ other equal. passes other (bytes_eq n other) refl equal) (firsts names))
-      where
-        passes : (other : List ℕ) (c : Bool) → bytes_eq n other ≡ c → bytes_eq name other ≡ true
-            → is_other n other ≡ true
-        passes other true same equal =
-            absurd (false≢true (sym is ∙ (bytes_eq-Decides name n).1
-            ((bytes_eq-Decides name other).0 equal ∙ sym ((bytes_eq-Decides n other).0 same))))
-        passes other false same equal = ap not same

@@ -1,16 +1,8 @@
 -- Items at places, and the numbers below a bound.
-use Rattle.std.proofs.Common.{◌≡◌, ◌∙◌, ℕ, zero, suc, ◌+◌, ◌<◌, ◌≤◌, List, [], ◌∷◌, ◌++◌, Some, length, map, take, get_or, refl, ap, sym, arith}
-use Rattle.std.proofs.lemmas.List.{take_more}
+use Rattle.std.proofs.Common.{◌≡◌, ◌∙◌, ℕ, zero, suc, ◌+◌, ◌<◌, ◌≤◌, List, [], ◌∷◌, ◌++◌, Some, length, map, take, get_or, refl, ap, arith}
 use Rattle.std.proofs.lemmas.List.Elements.{All-nil, All-cons}
 use Rattle.std.specs.List.{slice_get, All}
 use Rattle.sc_base.specs.Lists.{numbers_from, numbers_below, at_or}
-
--- an item is still there when there are more behind
-pub at_or-append : {A : Type 0} (xs ys : List A) (i : ℕ) (other : A) → i < length xs
-    → at_or (xs ++ ys) i other ≡ at_or xs i other
-at_or-append [] ys i other within = absurd (omega arith)
-at_or-append (x ∷ xs) ys zero other within = refl
-at_or-append (x ∷ xs) ys (suc i) other within = at_or-append xs ys i other (omega arith)
 
 -- the first item behind others
 pub at_or-behind : {A : Type 0} (xs ys : List A) (x : A) (i : ℕ) (other : A) → i ≡ length xs
@@ -111,10 +103,3 @@ at_or-numbers_below f bound i other within =
     at_or-numbers_from 0 bound i 0 within ∙ omega arith in
     at_or-map f (numbers_below bound) i 0 other (omega (arith, length-numbers_below bound))
     ∙ ap f place
-
--- one item more
-pub take-at_or : {A : Type 0} (xs : List A) (i : ℕ) (other : A) → i < length xs
-    → take (i + 1) xs ≡ take i xs ++ at_or xs i other ∷ []
-take-at_or xs i other within =
-    take_more xs i other within
-    ∙ ap (λ x. take i xs ++ x ∷ []) (sym (at_or-get_or xs i other))

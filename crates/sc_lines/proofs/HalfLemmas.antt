@@ -6,14 +6,13 @@ use Rattle.std.proofs.lemmas.Str.{IsCharBoundary-after_ascii, IsCharBoundary-end
 use Rattle.std.specs.List.{All, onto_first}
 use Rattle.std.specs.Str.{IsCharBoundary, IsUtf8}
 use Rattle.std.specs.declared.alloc.Global.{Global}
-use Rattle.sc_base.specs.Limits.{count_limit}
 use Rattle.sc_base.specs.declared.refusals.OrMemory.{OrMemory}
 use Rattle.sc_value.specs.Lines.{lines_behind, text_lines}
 use Rattle.sc_value.specs.Spans.{IsPart, part_at}
 use Rattle.sc_value.specs.declared.line_ends.NotText.{NotText}
 use Rattle.sc_value.specs.declared.texts.Span.{Span}
 use Rattle.sc_value.proofs.SpanLemmas.{IsPart-append, parts-append}
-use Rattle.sc_lines.specs.Halves.{AreLinesOf, CanMove, IsCut, IsFound, moved}
+use Rattle.sc_lines.specs.Halves.{AreLinesOf, IsCut, IsFound, moved}
 
 -- ---- the lines on both sides of a line feed
 
@@ -140,13 +139,6 @@ all_moved text n (span ∷ spans) fits all =
     All-cons (IsPart text) (moved n span) (map (moved n) spans)
     (IsPart-moved text n span fits (All-head (IsPart (drop n text)) span spans all))
     (all_moved text n spans fits (All-tail (IsPart (drop n text)) span spans all))
-
--- they end within what is counted
-pub can_move : (back : List ℕ) (n : ℕ) (spans : List Span) → n + length back ≤ count_limit
-    → All (IsPart back) spans → All (CanMove n) spans
-can_move back n spans small all =
-    All-weaker (IsPart back) (CanMove n)
-    (λ span part. (part.ordered, omega (arith, part.within, small))) spans all
 
 -- ---- the lines of both halves
 

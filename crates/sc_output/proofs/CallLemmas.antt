@@ -6,7 +6,7 @@ use Rattle.sc_base.specs.Outside.{FilesState, Changes, IsLaterFiles, IsQuietFile
 use Rattle.sc_base.specs.Trees.{Tree, Path}
 use Rattle.sc_base.specs.declared.refusals.OrMemory.{OrMemory}
 use Rattle.sc_base.specs.declared.refusals.OrMemory.TheVariants.{Fault, OutOfMemory}
-use Rattle.sc_base.proofs.ChangeLemmas.{changes-compose, changes-none, changes-weaker}
+use Rattle.sc_base.proofs.ChangeLemmas.{changes-compose, changes-weaker}
 use Rattle.sc_output.specs.Calls.{AreOpen, Call, HasPath, IsNotDone, IsPartOfTheWay, IsStoppedAt, MakesCalls, after_call, after_calls}
 
 -- ---- calls behind others
@@ -124,13 +124,7 @@ calls-ended xs ys s u OutOfMemory one = (
   changes-weaker _ (IsPartOfTheWay (xs ++ ys)) s.shown u.shown (λ t k. way-front xs ys t k) one.1,
 )
 
--- no call at all
-pub calls-none : (s : FilesState) → MakesCalls [] s s (Ok tt)
-calls-none s = (
-  record { faults = refl; clashes = refl },
-  changes-none (λ t u. u ≡ after_calls t []) s.shown (λ t. refl),
-)
-
+-- what is later than later files is later than they
 pub later-then : (s u v : FilesState) → IsLaterFiles s u → IsLaterFiles u v → IsLaterFiles s v
 later-then s u v one two = record {
   shown = changes-compose _ _ (λ t k. Unit {0}) s.shown u.shown v.shown

@@ -1,7 +1,6 @@
 -- The winners' files that were renamed so far, and those that are left.
-use Rattle.std.proofs.Common.{◌≡◌, ◌∙◌, ℕ, zero, suc, ◌≤◌, List, [], ◌∷◌, ◌++◌, length, take, drop, get_or, map, refl, ap, sym, subst, arith}
+use Rattle.std.proofs.Common.{◌≡◌, ◌∙◌, ℕ, zero, suc, List, [], ◌∷◌, ◌++◌, length, take, drop, get_or, map, refl, ap, sym, subst, arith}
 use Rattle.std.specs.Prelude.{IfSome, Ok, Err}
-use Rattle.std.proofs.lemmas.List.{take_all}
 use Rattle.sc_base.specs.Outside.{FilesState}
 use Rattle.sc_base.specs.Trees.{Path}
 use Rattle.sc_base.specs.declared.refusals.OrMemory.{OrMemory}
@@ -9,7 +8,7 @@ use Rattle.sc_base.proofs.ChangeLemmas.{changes-after, if_some-weaker}
 use Rattle.sc_ids.specs.declared.attempts.AttemptId.{AttemptId}
 use Rattle.sc_output.specs.Calls.{AreOpen, Call, IsOpen, MakesCalls, after_call}
 use Rattle.sc_output.specs.Commits.{final_rename}
-use Rattle.sc_output.proofs.CallLemmas.{calls-ended, calls-none, calls-then}
+use Rattle.sc_output.proofs.CallLemmas.{calls-ended, calls-then}
 
 -- the first k winners' files were renamed, and nothing keeps the others from being
 pub record HasRenamed (dir : Path) (ws : List AttemptId) (k : ℕ) (s u : FilesState) : Type 0 where
@@ -42,10 +41,6 @@ map-push : (f : AttemptId → Call) (us : List AttemptId) (w : AttemptId)
     → map f us ++ f w ∷ [] ≡ map f (us ++ w ∷ [])
 map-push f [] w = refl
 map-push f (u ∷ us) w = ap (λ l. f u ∷ l) (map-push f us w)
-
-pub renamed-none : (dir : Path) (ws : List AttemptId) (start : FilesState)
-    → IfSome start.shown (AreOpen (map (final_rename dir) ws)) → HasRenamed dir ws 0 start start
-renamed-none dir ws start all = record { calls = calls-none start; left = all }
 
 pub renamed-next : (dir : Path) (ws : List AttemptId) (k : ℕ) (w : AttemptId)
     (vs : List AttemptId) (start now : FilesState) → drop k ws ≡ w ∷ vs
@@ -81,10 +76,3 @@ renamed-stopped dir ws k w vs start now next fault is so_far one =
     subst (λ l. MakesCalls l start next (Err fault)) (map-split f ws k w vs is)
     (calls-ended (map f (take k ws) ++ f w ∷ []) (map f vs) start next fault
     (calls-then (map f (take k ws)) (f w ∷ []) start now next (Err fault) so_far.calls one))
-
-pub renamed-all : (dir : Path) (ws : List AttemptId) (k : ℕ) (start now : FilesState)
-    → length ws ≤ k → HasRenamed dir ws k start now
-    → MakesCalls (map (final_rename dir) ws) start now (Ok tt)
-renamed-all dir ws k start now past so_far =
-    subst (λ l. MakesCalls (map (final_rename dir) l) start now (Ok tt)) (take_all k ws past)
-    so_far.calls

@@ -14,13 +14,6 @@ none_pass p [] all = refl
 none_pass p (x ∷ xs) all =
     ap (λ b. cond b (x ∷ filter p xs) (filter p xs)) all.0 ∙ none_pass p xs all.1
 
-pub filter_same : {X : Type 0} (p q : X → Bool) (xs : List X) → ((x : X) → p x ≡ q x)
-    → filter p xs ≡ filter q xs
-filter_same p q [] same = refl
-filter_same p q (x ∷ xs) same =
-    ap (λ b. cond b (x ∷ filter p xs) (filter p xs)) (same x)
-    ∙ ap (λ ys. cond (q x) (x ∷ ys) ys) (filter_same p q xs same)
-
 swap_by : {X : Type 0} (p q : X → Bool) (x : X) (xs : List X) (a b : Bool) → p x ≡ a → q x ≡ b
     → filter p (filter q xs) ≡ filter q (filter p xs)
     → filter p (cond b (x ∷ filter q xs) (filter q xs))

@@ -1,5 +1,5 @@
 -- Tables: entries in the order of their keys.
-use Rattle.std.proofs.Common.{◌≡◌, ◌∙◌, ℕ, suc, ◌+◌, ◌-◌, ◌≤◌, Bool, true, false, cond, List, [], ◌∷◌, length, take, drop, get_or, filter, refl, ap, sym, subst, arith}
+use Rattle.std.proofs.Common.{◌≡◌, ◌∙◌, ℕ, suc, ◌-◌, ◌≤◌, Bool, true, false, cond, List, [], ◌∷◌, length, take, drop, get_or, filter, refl, ap, sym, subst, arith}
 use Rattle.std.proofs.lemmas.Bool.Decides.{nat_tests}
 use Rattle.std.specs.Cmp.{IsStrictWeakOrder}
 use Rattle.std.specs.List.{AllByRecursion}
@@ -70,10 +70,6 @@ found_at key es =
     filter-sorted is_lower lower (λ e. e.key == key) es
     ∙ sym (sorted_is is_lower lower kept kept
     (sorted_from_asc is_lower kept (asc_same key kept (same_keys key es))) (λ z. refl))
-
--- a range of one key
-pub between_one : (key : ℕ) (e : Entry) → is_between key (key + 1) e ≡ (e.key == key)
-between_one key e = grind (arith, nat_tests)
 
 -- the entries below a key come first
 still : (a b : Entry) (key : ℕ) → is_lower b a ≡ false → nat_lt b.key key ≡ true

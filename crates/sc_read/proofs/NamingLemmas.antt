@@ -27,11 +27,6 @@ or_true : (b : Bool) → (b || (true || false)) ≡ true
 or_true true = refl
 or_true false = refl
 
-pub with_names-append : (names xs ys : List (List ℕ))
-    → with_names names (xs ++ ys) ≡ with_names (with_names names xs) ys
-with_names-append names [] ys = refl
-with_names-append names (x ∷ xs) ys = with_names-append (with_name names x) xs ys
-
 -- a list without some items, one of them again
 module _ (names : List (List ℕ)) (name : List ℕ) where
   -- where the name is among the names, those that are new aren't the name

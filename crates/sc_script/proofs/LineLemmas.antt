@@ -1,11 +1,11 @@
 -- From what the steps of a line answer to what the line is read as.
-use Rattle.std.proofs.Common.{◌≡◌, inl, inr, ℕ, List, [], Result, Ok, Err, refl, sym, subst, false}
+use Rattle.std.proofs.Common.{inl, inr, ℕ, List, [], Result, Ok, Err, refl, sym, subst}
 use Rattle.sc_base.specs.Answers.{Answers}
 use Rattle.sc_base.specs.declared.refusals.OrMemory.{OrMemory}
 use Rattle.sc_base.specs.declared.refusals.OrMemory.TheVariants.{Fault, OutOfMemory}
 use Rattle.sc_script.specs.Faults.{IsAnswer}
 use Rattle.sc_script.specs.Defining.{defined_data_of}
-use Rattle.sc_script.specs.Lines.{DefinedData, HasForm, KeepsLimits, ReadsLine, ReadsNext, added_by, is_skipped}
+use Rattle.sc_script.specs.Lines.{DefinedData, HasForm, KeepsLimits, ReadsLine, added_by}
 use Rattle.sc_script.specs.Parsing.{AreTokensOf, IsFormOf, IsTokensFault}
 use Rattle.sc_script.specs.Tokens.{TokenData, HasTokens, IsWithinLimits}
 use Rattle.sc_script.specs.Trees.{LineData}
@@ -69,11 +69,3 @@ added d line form (Ok after) has h = record { form = Ok form; has_form = has; is
 added d line form (Err (Fault kind)) has h =
     record { form = Ok form; has_form = has; is = sym h }
 added d line form (Err OutOfMemory) has h = tt
-
--- a line that isn't skipped
-pub unskipped : (d : DefinedData) (line : List ℕ) (r : Result Defined (OrMemory FaultKind))
-    → is_skipped line ≡ false → IsAnswer defined_data_of (ReadsLine d line) r
-    → IsAnswer defined_data_of (ReadsNext d line) r
-unskipped d line (Ok after) isnt h = inr (isnt, h)
-unskipped d line (Err (Fault kind)) isnt h = inr (isnt, h)
-unskipped d line (Err OutOfMemory) isnt h = tt

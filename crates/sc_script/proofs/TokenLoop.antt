@@ -183,9 +183,6 @@ kept_tokens line tokens inside blank left token after before read stands kept =
     stands later.2) in
     (later.0, subst (IsWithinLimits line) (HasTokens-unique kept.has has).0 kept.within)
 
-pub too_long : (line : List ℕ) → line_limit < length line → KeepsLimits line → ⊥
-too_long line long kept = omega (arith, kept.within.bytes)
-
 pub too_deep : (line : List ℕ) (tokens : List TokenData) (inside : ℕ) (blank : Bool)
     (left : List ℕ) (token : TokenData) (after : List ℕ) (deeper : ℕ)
     → IsReadTo line tokens inside blank left → token_at left ≡ Some (token, after)

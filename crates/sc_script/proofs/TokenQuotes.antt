@@ -120,9 +120,6 @@ mark_begins (c ∷ cs) marked = go (or_cases (eqb c 34) (eqb c 92) marked)
 pub record IsReadText (line text left : List ℕ) : Type 0 where
   pub read : with_front text (text_at false left) ≡ text_at false line
 
-pub read_nothing : (line : List ℕ) → IsReadText line [] line
-read_nothing line = record { read = with_front-nil (text_at false line) }
-
 -- up to the next quote or backslash
 read_plain : (line text left plain now marked : List ℕ) (n : ℕ) → n ≡ position_or_len is_mark left
     → plain ≡ take n left → marked ≡ drop n left → now ≡ text ++ plain → IsReadText line text left

@@ -109,7 +109,7 @@ impl Carried {
 
     /// Keeps the new map stages of a job that begins. A refused call changes nothing.
     pub fn keep(&mut self, graph: &StageGraph) -> Result<(), AllocError>
-        ensures ok { OnOk result (self.new ≡ after_job self.old graph.now) }
+        ensures kept { OnOk result (self.new ≡ after_job self.old graph.now) }
         ensures refused { OnErr result (self.new ≡ self.old) }
     {
         let mut new = new_numbers(self.alloc, graph.stages(), self.next)?;

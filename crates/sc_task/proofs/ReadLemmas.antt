@@ -46,12 +46,6 @@ module _ {A : Type 0} where
   none_beside (x ∷ xs) (y ∷ ys) (suc n) same none =
       let e : length ys ≡ length xs = cc in none_beside xs ys n e none
 
--- nothing was read yet
-pub nothing_read : (work : WorkData) (t : TaskData) (cursor : Option Cursor)
-    → blocks_from t cursor ≡ blocks_of_task t → IfSome cursor IsPlace → HasRead work t [] cursor
-nothing_read work t cursor all place =
-    record { before = []; all = sym all; own = tt; place = place }
-
 -- one more block was read
 pub one_more_read : (work : WorkData) (t : TaskData) (got : List (List (List Datum)))
     (c : Cursor) (next : Option Cursor) (output : List (List Datum))

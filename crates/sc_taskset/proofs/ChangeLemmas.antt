@@ -1,5 +1,5 @@
 -- Lists of which the first element that passes a test is changed.
-use Rattle.std.proofs.Common.{◌≡◌, Bool, true, false, cond, ◌&&◌, List, [], ◌∷◌, length, map, Some, None, refl, ap, ◌∙◌, rules, suc}
+use Rattle.std.proofs.Common.{◌≡◌, Bool, true, false, cond, ◌&&◌, List, [], ◌∷◌, length, map, Some, refl, ap, ◌∙◌, suc}
 use Rattle.std.specs.List.{All, find, list_all}
 use Rattle.std.specs.Option.{option_map}
 use Rattle.std.proofs.lemmas.List.Elements.{All-cons, All-head, All-tail}
@@ -81,19 +81,6 @@ find_other q w f before after (x ∷ xs) = by (q x) refl (find_other q w f befor
         → find w (cond b (f x ∷ xs) (x ∷ change_first q f xs)) ≡ cond (w x) (Some x) (find w xs)
     by true is rest = rw (before x is, after x is)
     by false is rest = rw rest
-
--- nothing is changed where nothing passes
-pub unchanged :
-    {A : Type 0} (q : A → Bool) (f : A → A) (xs : List A)
-    → find q xs ≡ None → change_first q f xs ≡ xs
-unchanged q f [] none = refl
-unchanged q f (x ∷ xs) none = by (q x) none (λ n. unchanged q f xs n)
-  where
-    by : (b : Bool) → cond b (Some x) (find q xs) ≡ None
-        → (find q xs ≡ None → change_first q f xs ≡ xs)
-        → cond b (f x ∷ xs) (x ∷ change_first q f xs) ≡ x ∷ xs
-    by true n rest = absurd (search (rules, n))
-    by false n rest = ap (λ ys. x ∷ ys) (rest n)
 
 -- two changes of one element are one
 pub changed_twice :

@@ -1,8 +1,8 @@
 -- Flags of numbers, in words of 64.
-use Rattle.std.proofs.Common.{◌≡◌, ℕ, ◌+◌, ◌-◌, ◌*◌, ◌/◌, ◌%◌, ◌^◌, ◌<◌, ◌≤◌, ◌==◌, ◌⊎◌, inl, inr, min, true, false, List, length, get_or, set, bit_and, bit_or, w64, refl, ap, sym, ◌∙◌, arith, get_or-set_same, get_or-set_other, length-set}
+use Rattle.std.proofs.Common.{◌≡◌, ℕ, ◌+◌, ◌-◌, ◌*◌, ◌/◌, ◌%◌, ◌^◌, ◌<◌, ◌≤◌, ◌==◌, ◌⊎◌, inl, inr, min, true, false, List, length, get_or, set, bit_and, bit_or, w64, ap, sym, ◌∙◌, arith, get_or-set_same, get_or-set_other, length-set}
 use Rattle.std.specs.Int.{bit_at, bit_not}
 use Rattle.std.proofs.lemmas.Bool.{cases_eq, cases_lt}
-use Rattle.std.proofs.lemmas.Nat.Bits.{bit_at-zero, bit_at-lt, bit_at_set_same, bit_at_set_other, bit_at_clear_same, bit_at_clear_other, bit_at_and, bit_at_mask_inside, bit_at_mask_below, ones_shl}
+use Rattle.std.proofs.lemmas.Nat.Bits.{bit_at-lt, bit_at_set_same, bit_at_set_other, bit_at_clear_same, bit_at_clear_other, bit_at_and, bit_at_mask_inside, bit_at_mask_below, ones_shl}
 use Rattle.sc_taskset.specs.Flags.{IsLowest, IsPut, is_set}
 
 -- ---- one flag
@@ -106,29 +106,7 @@ rest_masked words from =
     none : (b : ℕ) → min b 0 ≡ 0
     none b = omega arith
 
--- a word behind it
-pub rest_whole : (words : List ℕ) (from at : ℕ) → from ≤ 64 * at
-    → IsRest words from at (get_or words at 0)
-rest_whole words from at le =
-    record {
-      kept = λ i l from. refl;
-      gone = λ i l lt. absurd (omega (arith, le, lt));
-    }
-
--- a word without flags
-pub none_more : (words : List ℕ) (from at : ℕ) → IsRest words from at 0
-    → NoneFrom words from (64 * at) → NoneFrom words from (64 * (at + 1))
-none_more words from at rest before k le lt = by (cases_lt k (64 * at))
-  where
-    by : (k < 64 * at) ⊎ (64 * at ≤ k) → is_set words k ≡ false
-    by (inl l) = before k le l
-    by (inr here) =
-        let word : k / 64 ≡ at = omega (arith, here, lt) in
-        let bit : bit_at (get_or words at 0) (k % 64) ≡ 0 =
-        sym (rest.kept (k % 64) (omega arith) (omega (arith, le, here, lt)))
-        ∙ bit_at-zero (k % 64) in
-        rw word (ap (λ b. b == 1) bit)
-
+-- the lowest flag of a word
 module _ (words : List ℕ) (from at word low : ℕ) (lowest : IsLowest word low)
     (rest : IsRest words from at word) (before : NoneFrom words from (64 * at)) where
   -- it isn't before the number

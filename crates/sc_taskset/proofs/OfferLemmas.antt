@@ -1,5 +1,5 @@
 -- What is there for an executor.
-use Rattle.std.proofs.Common.{◌≡◌, ℕ, ◌<◌, Bool, true, false, cond, not, ◌&&◌, ◌||◌, List, [], ◌∷◌, length, map, Option, Some, None, IfSome, inl, inr, ⊎_elim, ◌⊎◌, refl, ◌∙◌, arith, rules}
+use Rattle.std.proofs.Common.{◌≡◌, ℕ, ◌<◌, Bool, true, false, cond, not, ◌&&◌, ◌||◌, List, [], ◌∷◌, length, map, Option, Some, None, IfSome, inl, inr, ◌⊎◌, refl, ◌∙◌, arith, rules}
 use Rattle.std.specs.List.{find, list_any}
 use Rattle.std.specs.Option.{option_or}
 use Rattle.std.proofs.lemmas.Bool.Decides.{nat_tests}
@@ -119,14 +119,6 @@ joins_given s exec now partition may = by (task_at partition s.tasks) may
         ≡ true → IfSome o (λ t. may_join exec t ≡ true)
     by None m = tt
     by (Some t) m = task_joins (is_slow s now) exec t s.is_zombie s.limits.speculation m
-
--- an offered task may be handed out
-pub offered_given :
-    (s : TaskSetData) (exec now : ℕ) (g : GivenTask) → Offers s exec now (Some g)
-    → may_be_given s exec now g.partition ≡ true
-offered_given s exec now g offers =
-    ⊎_elim (λ first. rw first.passes refl)
-    (λ later. rw (later.0 g.partition, later.1.passes) refl) offers.0
 
 -- where one may join, fewer than two run
 pub joins_short : (exec : ℕ) (t : TaskData) → may_join exec t ≡ true → length t.copies < 2

@@ -1,11 +1,11 @@
 -- What is known of all rows of a set.
-use Rattle.std.proofs.Common.{◌≡◌, ℕ, ◌+◌, ◌<◌, ◌≤◌, ◌==◌, zero, suc, Bool, true, false, cond, not, ◌&&◌, List, [], ◌∷◌, length, get_or, set, map, Some, None, refl, ap, sym, ◌∙◌, arith, rules, nat_eq, nat_lt, ltb}
+use Rattle.std.proofs.Common.{◌≡◌, ℕ, ◌+◌, ◌<◌, ◌≤◌, ◌==◌, zero, suc, Bool, true, false, cond, not, List, [], ◌∷◌, length, get_or, set, map, Some, None, refl, ap, sym, ◌∙◌, arith, rules, nat_lt, ltb}
 use Rattle.std.proofs.lemmas.Bool.Decides.{nat_tests}
 use Rattle.std.proofs.lemmas.List.{get_or-map, get_or-set_other, length-map}
-use Rattle.std.proofs.lemmas.List.Sums.{count_by-le-length, fails_before_first, passes_at_first, position_or_len_is, prefix_len-le-length, sum_by-cons, sum_by-set}
+use Rattle.std.proofs.lemmas.List.Sums.{fails_before_first, passes_at_first, position_or_len_is, prefix_len-le-length, sum_by-cons, sum_by-set}
 use Rattle.std.proofs.Math.Seq.{map-set_same}
 use Rattle.std.proofs.lemmas.Grind.{get_or-set_at}
-use Rattle.std.specs.List.{count_by, find, list_all, position_or_len}
+use Rattle.std.specs.List.{count_by, find, position_or_len}
 use Rattle.std.specs.List.Sorted.{IsNonDecreasingBy, IsPartitionPoint}
 use Rattle.sc_taskset.specs.declared.rows.Row.{Row}
 use Rattle.sc_taskset.specs.declared.rows.Failure.{Failure}
@@ -26,47 +26,6 @@ use Rattle.sc_taskset.proofs.FindLemmas.{found_passes}
 count_cons : {A : Type 0} (q : A → Bool) (x : A) (xs : List A)
     → count_by q (x ∷ xs) ≡ cond (q x) 1 0 + count_by q xs
 count_cons q x xs = sum_by-cons (λ y. cond (q y) 1 0) x xs
-
--- an item that passes is counted
-pub count_some : {A : Type 0} (q : A → Bool) (xs : List A) (i : ℕ) (d : A)
-    → i < length xs → q (get_or xs i d) ≡ true → 0 < count_by q xs
-count_some q [] i d l is = absurd (omega (arith, l))
-count_some q (x ∷ xs) zero d l is = rw (count_cons q x xs, is) (omega arith)
-count_some q (x ∷ xs) (suc i) d l is =
-    omega (arith, count_cons q x xs, count_some q xs i d (omega (arith, l)) is)
-
--- one that doesn't isn't
-pub count_few : {A : Type 0} (q : A → Bool) (xs : List A) (i : ℕ) (d : A)
-    → i < length xs → q (get_or xs i d) ≡ false → count_by q xs < length xs
-count_few q [] i d l is = absurd (omega (arith, l))
-count_few q (x ∷ xs) zero d l is =
-    rw (count_cons q x xs, is) (omega (arith, count_by-le-length q xs))
-count_few q (x ∷ xs) (suc i) d l is =
-    by (q x) (count_few q xs i d (omega (arith, l)) is)
-  where
-    by : (b : Bool) → count_by q xs < length xs → count_by q (x ∷ xs) < suc (length xs)
-    by b more = rw (count_cons q x xs) (one (q x) more)
-      where
-        one : (b : Bool) → count_by q xs < length xs
-            → cond b 1 0 + count_by q xs < suc (length xs)
-        one true m = omega (arith, m)
-        one false m = omega (arith, m)
-
--- all rows are finished where no open one is counted
-pub none_open : (rows : List Row)
-    → list_all (λ r. is_finish r.finish) rows ≡ nat_eq (count_by is_open_row rows) 0
-none_open [] = refl
-none_open (r ∷ rows) = rw (count_cons is_open_row r rows) (by (is_finish r.finish) (none_open rows))
-  where
-    all : Bool
-    all = list_all (λ s. is_finish s.finish) rows
-
-    by : (b : Bool) → all ≡ nat_eq (count_by is_open_row rows) 0
-        → (b && all) ≡ nat_eq (cond (not b) 1 0 + count_by is_open_row rows) 0
-    by true e =
-        let none : 0 + count_by is_open_row rows ≡ count_by is_open_row rows = omega arith in
-        rw none e
-    by false e = grind (arith, nat_tests)
 
 -- ---- places
 

@@ -24,10 +24,10 @@ pub fn hand_in(
 ) -> Result<(), AllocError>
     requires { IfSome (find (is_row_of partition) rows.old)
         (λ r. length (copies_of r) < 2) }
-    ensures ok { (failures : List Failure)
+    ensures handed { (failures : List Failure)
         → OnOk result (tasks_of failures rows.new
         ≡ with_task partition (handed_task exec now) (tasks_of failures rows.old)) }
-    ensures err { OnErr result (rows.new ≡ rows.old) }
+    ensures refused { OnErr result (rows.new ≡ rows.old) }
 {
     match rows.row_of(partition) {
         Some(row) => match row.given.checked_add(1) {
@@ -86,9 +86,9 @@ fn replace(rows: &mut ListedRows, row: Row)
 fn hand_over(rows: &mut ListedRows, row: Row, exec: ExecId) -> Result<(), AllocError>
     requires { IfSome (find (is_row_of row.partition) rows.old)
         (λ before. IsOnOneMore exec before row) }
-    ensures ok { OnOk result
+    ensures handed { OnOk result
         (rows.new ≡ change_first (is_row_of row.partition) (λ _. row) rows.old) }
-    ensures err { OnErr result (rows.new ≡ rows.old) }
+    ensures refused { OnErr result (rows.new ≡ rows.old) }
 {
     let place = rows.place_of(row.partition);
     if place < rows.as_slice().len() {

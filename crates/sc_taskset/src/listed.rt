@@ -120,8 +120,8 @@ impl ListedRows {
         requires there { place < length self.old }
         requires same { row.partition ≡ (get_or self.old place row).partition }
         requires more { IsOnOneMore exec (get_or self.old place row) row }
-        ensures ok { OnOk result (self.new ≡ set self.old place row) }
-        ensures err { OnErr result (self.new ≡ self.old) }
+        ensures handed { OnOk result (self.new ≡ set self.old place row) }
+        ensures refused { OnErr result (self.new ≡ self.old) }
     {
         if !self.table.as_slice()[place].is_on(exec) {
             self.lists.add(exec, place)?;

@@ -30,8 +30,8 @@ impl Lists {
 
     /// Puts a place behind those of an executor. A refused call changes none.
     pub fn add(&mut self, exec: ExecId, place: usize) -> Result<(), AllocError>
-        ensures ok { OnOk result (IsAdded self.old self.new exec place) }
-        ensures err { OnErr result ((e : ℕ) → list_of self.new e ≡ list_of self.old e) }
+        ensures added { OnOk result (IsAdded self.old self.new exec place) }
+        ensures refused { OnErr result ((e : ℕ) → list_of self.new e ≡ list_of self.old e) }
     {
         grow(&mut self.places, exec)?;
         self.places[exec as usize].push(place)?;

@@ -19,7 +19,7 @@ pub fn reserve_for<T>(items: &mut Vec<T>, tasks: usize) -> Result<(), AllocError
     ensures items { items.new.items ≡ items.old.items }
     ensures kept { vec_capacity items.old ≤ vec_capacity items.new }
     ensures len { vec_len items.new ≡ vec_len items.old }
-    ensures ok { OnOk result (vec_len items.old + 2 * tasks ≤ vec_capacity items.new) }
+    ensures room { OnOk result (vec_len items.old + 2 * tasks ≤ vec_capacity items.new) }
 {
     match tasks.checked_mul(2) {
         Some(attempts) => items.reserve(attempts),

@@ -165,8 +165,8 @@ impl TaskSet {
     /// call changes nothing.
     pub fn give(&mut self, partition: u32, exec: ExecId, now: u64) -> Result<(), AllocError>
         requires { may_be_given self.old exec now partition ≡ true }
-        ensures ok { OnOk result (self.new ≡ handed self.old partition exec now) }
-        ensures err { OnErr result (self.new ≡ self.old) }
+        ensures given { OnOk result (self.new ≡ handed self.old partition exec now) }
+        ensures refused { OnErr result (self.new ≡ self.old) }
     {
         let tasks = self.rows.as_slice().len();
         reserve_for(&mut self.failures, tasks)?;

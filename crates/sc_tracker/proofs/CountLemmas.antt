@@ -1,5 +1,5 @@
 -- Lemmas on counts of the items that pass a test.
-use Rattle.std.proofs.Common.{◌≡◌, ℕ, ◌+◌, ◌-◌, ◌<◌, ◌≤◌, zero, suc, Bool, true, false, cond, ◌&&◌, List, [], ◌∷◌, length, map, replicate, refl, ap, sym, ◌∙◌, arith, true≢false}
+use Rattle.std.proofs.Common.{◌≡◌, ℕ, ◌+◌, ◌-◌, ◌<◌, ◌≤◌, zero, suc, Bool, true, false, cond, ◌&&◌, List, [], ◌∷◌, length, refl, ap, sym, ◌∙◌, arith, true≢false}
 use Rattle.std.proofs.lemmas.List.Sums.{count_by-le-length, sum_by-cons}
 use Rattle.std.specs.List.{count_by, list_all, range_with_len}
 use Rattle.sc_base.specs.Lists.{at_or, numbers_below, numbers_from}
@@ -72,18 +72,6 @@ count_change test f (x ∷ xs) zero d l b so =
 count_change test f (x ∷ xs) (suc i) d l b so =
     rw (count_cons test x (change_at xs i f), count_cons test x xs)
     (let more = count_change test f xs i d (omega (arith, l)) b so in omega (arith, more))
-
--- nothing is registered of outputs that were never registered
-pub none_of_never : (n : ℕ) → count_by is_here (replicate n never) ≡ 0
-none_of_never zero = refl
-none_of_never (suc n) =
-    omega (arith, count_cons is_here never (replicate n never), none_of_never n)
-
--- nor of forgotten ones
-pub none_of_forgotten : (xs : List Output) → count_by is_here (map forgotten xs) ≡ 0
-none_of_forgotten [] = refl
-none_of_forgotten (x ∷ xs) =
-    omega (arith, count_cons is_here (forgotten x) (map forgotten xs), none_of_forgotten xs)
 
 -- a registration of what wasn't registered is one more
 pub placed_anew : (xs : List Output) (i : ℕ) (loc : Loc) (epoch : ℕ) → i < length xs

@@ -4,7 +4,7 @@ use Rattle.std.proofs.lemmas.List.Sums.{sum_by-cons}
 use Rattle.std.specs.List.{count_by}
 use Rattle.sc_base.specs.Lists.{at_or}
 use Rattle.sc_ids.specs.Changes.{change_at}
-use Rattle.sc_tracker.specs.Lists.{AreLinked, AreOnce, IsList, back_at, has_place, is_same, next_at, output_at, with_one_forgotten, with_output}
+use Rattle.sc_tracker.specs.Lists.{AreLinked, AreOnce, back_at, has_place, is_same, next_at, output_at, with_one_forgotten, with_output}
 use Rattle.sc_tracker.specs.Outputs.{forgotten, forgotten_on, is_on, never}
 use Rattle.sc_tracker.specs.TrackerData.{ShuffleData, registered_on, shuffle_data}
 use Rattle.sc_tracker.specs.Tracking.{with_forgotten_on}
@@ -28,20 +28,6 @@ pub record IsRest (before now : List ShuffleData) (rows : List (List Link)) (exe
   pub exactly : (p : Place) → has_place places p ≡ is_on exec (output_at now p).here
   pub same : map (with_forgotten_on exec) now ≡ map (with_forgotten_on exec) before
   pub counted : taken + registered_on now exec ≡ registered_on before exec
-
-pub rest_of_all : (shuffles : List ShuffleData) (rows : List (List Link)) (exec : ℕ)
-    (first : Option Place) → IsList shuffles rows exec first
-    → IsRest shuffles shuffles rows exec first 0
-rest_of_all shuffles rows exec first list =
-    record {
-      front = None;
-      places = list.places;
-      linked = list.linked;
-      once = list.once;
-      exactly = list.exactly;
-      same = refl;
-      counted = omega arith;
-    }
 
 -- ---- one step
 

@@ -1,5 +1,5 @@
 -- Lists of a tracker that begins, has room for one more shuffle, or forgets outputs.
-use Rattle.std.proofs.Common.{◌≡◌, ◌⊎◌, inl, inr, ℕ, zero, suc, ◌<◌, Bool, true, false, if◌then◌else◌, List, [], ◌∷◌, ◌++◌, Option, None, length, map, replicate, refl, ap, sym, subst, ◌∙◌}
+use Rattle.std.proofs.Common.{◌≡◌, ◌⊎◌, inl, inr, ℕ, ◌<◌, Bool, true, false, if◌then◌else◌, List, [], ◌∷◌, ◌++◌, Option, None, length, map, replicate, refl, ap, sym, subst, ◌∙◌}
 use Rattle.std.proofs.lemmas.Bool.{cases_eq}
 use Rattle.std.proofs.lemmas.List.{length-map, length-replicate, map-append}
 use Rattle.sc_base.specs.Lists.{at_or}
@@ -18,26 +18,12 @@ use Rattle.sc_tracker.proofs.LinkLemmas.{links_same}
 abbrev nowhere : Option Place
 nowhere = None
 
-nothing_on : (exec n : ℕ) → at_or (replicate n nowhere) exec nowhere ≡ nowhere
-nothing_on exec zero = refl
-nothing_on zero (suc n) = refl
-nothing_on (suc exec) (suc n) = nothing_on exec n
-
 empty_list : (shuffles : List ShuffleData) (rows : List (List Link)) (exec : ℕ)
     (first : Option Place) → first ≡ None
     → ((p : Place) → is_on exec (output_at shuffles p).here ≡ false)
     → IsList shuffles rows exec first
 empty_list shuffles rows exec first is none =
     record { places = []; linked = is; once = tt; exactly = λ p. sym (none p) }
-
-pub new_listed : (executors : ℕ) → AreListed [] (lists_data (replicate executors None) [])
-new_listed executors =
-    record {
-      each = λ exec within.
-          empty_list [] [] exec (at_or (replicate executors None) exec nowhere)
-          (nothing_on exec executors) (λ p. refl);
-      linked = refl;
-    }
 
 pub more_listed : (shuffles : List ShuffleData) (l : ListsData) (s : ShuffleData) (n : ℕ)
     → s.outputs ≡ replicate n never → AreListed shuffles l

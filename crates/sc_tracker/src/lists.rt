@@ -49,7 +49,7 @@ impl Lists {
 
     /// Links for the outputs of one more shuffle. A refused call changes nothing.
     pub(crate) fn add(&mut self, alloc: Global, maps: u32) -> Result<(), AllocError>
-        ensures ok { OnOk result (self.new
+        ensures added { OnOk result (self.new
             ≡ lists_data self.old.firsts (self.old.rows ++ replicate maps unlinked ∷ [])) }
         ensures refused { OnErr result (self.new ≡ self.old) }
     {

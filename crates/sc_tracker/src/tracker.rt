@@ -114,7 +114,7 @@ impl Tracker {
     /// Makes room for the outputs of a shuffle of so many map partitions, unless there is some for
     /// it already. A refused call changes nothing.
     pub fn size_for(&mut self, shuffle: ShuffleId, maps: u32) -> Result<(), AllocError>
-        ensures ok { OnOk result (self.new ≡ sized self.old shuffle maps) }
+        ensures sized { OnOk result (self.new ≡ sized self.old shuffle maps) }
         ensures refused { OnErr result (self.new ≡ self.old) }
     {
         if !has_room(self.shuffles.as_slice(), shuffle) {

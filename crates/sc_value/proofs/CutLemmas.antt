@@ -103,9 +103,3 @@ pub cut_last : (separator s : List ℕ) (out now whole : List (List ℕ))
 cut_last [] s out now whole some none now_is was = absurd (cc)
 cut_last (c ∷ cs) s out now whole some none now_is was =
     now_is ∙ ap (λ ps. out ++ ps) (sym (cut_none c cs s none)) ∙ was
-
--- an empty separator
-pub cut_whole : (separator t : List ℕ) → (length separator == 0) ≡ true
-    → cut_at separator t ≡ t ∷ []
-cut_whole [] t is = refl
-cut_whole (c ∷ cs) t is = absurd (let none = eqb-true (length (c ∷ cs)) 0 is in omega (arith, none))

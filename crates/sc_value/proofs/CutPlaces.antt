@@ -6,7 +6,6 @@ use Rattle.std.proofs.lemmas.List.{append_assoc, map_push}
 use Rattle.std.proofs.lemmas.List.Elements.{All-push}
 use Rattle.std.proofs.lemmas.List.Splits.{slice_split_first, slice_split_none}
 use Rattle.std.specs.List.{All, position_or_len, slice_get, slice_range, slice_split}
-use Rattle.std.specs.Str.{IsUtf8}
 use Rattle.sc_value.specs.declared.texts.Span.{Span}
 use Rattle.sc_value.specs.Spans.{IsPart, part_at}
 use Rattle.sc_value.specs.Words.{cut_at}
@@ -68,19 +67,6 @@ pub record AreCutTo (c : ℕ) (text whole : List ℕ) (old spans : List Span) (f
     pub rest : IsRest (λ b. b == c) text from end n
     pub within : from + n ≤ end
 
-pub AreCutTo-start : (c : ℕ) (text : List ℕ) (old : List Span) (part : Span) (n : ℕ)
-    → n ≡ position_or_len (λ b. b == c) (part_at text part) → All (IsPart text) old
-    → IsPart text part → AreCutTo c text (part_at text part) old old part.from part.to n
-AreCutTo-start c text old part n next parts is =
-    let rest : IsRest (λ b. b == c) text part.from part.to n =
-    record { utf8 = is.utf8; small = is.within; ordered = is.ordered; next = next } in
-    record {
-      cut = refl;
-      parts = parts;
-      rest = rest;
-      within = rest_within (λ b. b == c) text part.from part.to n rest;
-    }
-
 pub AreCutTo-more : (c : ℕ) (text whole : List ℕ) (old spans now : List Span) (from n end m : ℕ)
     → c < 128 → from + n < end → now ≡ spans ++ record { from = from; to = from + n } ∷ []
     → m ≡ position_or_len (λ b. b == c) (slice_range text (from + n + 1) end)
@@ -116,29 +102,12 @@ AreCutTo-last c text whole old spans now from n end past now_is was =
     ∙ ap (λ w. map (part_at text) spans ++ w) (sym (piece_last c text from end n was.rest past))
     ∙ was.cut
 
-pub AreCutTo-parts : (c : ℕ) (text whole : List ℕ) (old spans now : List Span) (from n end : ℕ)
-    → now ≡ spans ++ record { from = from; to = end } ∷ []
-    → AreCutTo c text whole old spans from end n → All (IsPart text) now
-AreCutTo-parts c text whole old spans now from n end now_is was =
-    let P : List Span → Type 0 = λ all. All (IsPart text) all in
-    subst P (sym now_is) (All-push (IsPart text) spans (record { from = from; to = end }) was.parts
-    (record { ordered = was.rest.ordered; within = was.rest.small; utf8 = was.rest.utf8 }))
-
 -- the piece that is looked for is one of those behind a place
 pub record IsPieceFrom (c : ℕ) (text : List ℕ) (first from end k left n : ℕ) : Type 0 where
   pub piece : slice_get (cut_at (c ∷ []) (slice_range text from end)) left
       ≡ slice_get (cut_at (c ∷ []) (slice_range text first end)) k
   pub rest : IsRest (λ b. b == c) text from end n
   pub within : from + n ≤ end
-
-pub IsPieceFrom-start : (c : ℕ) (text : List ℕ) (first end k n : ℕ)
-    → first ≤ end → end ≤ length text → IsUtf8 (slice_range text first end)
-    → n ≡ position_or_len (λ b. b == c) (slice_range text first end)
-    → IsPieceFrom c text first first end k k n
-IsPieceFrom-start c text first end k n ordered small utf8 next =
-    let rest : IsRest (λ b. b == c) text first end n =
-    record { utf8 = utf8; small = small; ordered = ordered; next = next } in
-    record { piece = refl; rest = rest; within = rest_within (λ b. b == c) text first end n rest }
 
 get_behind : (piece : List ℕ) (pieces : List (List ℕ)) (left : ℕ) → 0 < left
     → slice_get (piece ∷ pieces) left ≡ slice_get pieces (left - 1)

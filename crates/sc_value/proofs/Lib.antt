@@ -16,4 +16,6 @@ pub mod WordLaws
 pub mod NumberLemmas
 pub mod TypeLemmas
 pub mod LineLaws
+pub mod BlankLemmas
+pub mod BlockLemmas
 pub mod BuilderLemmas

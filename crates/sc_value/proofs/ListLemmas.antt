@@ -1,6 +1,6 @@
 -- Lists of pieces, as ranges of the pieces of all lists, and one piece of each list.
-use Rattle.std.proofs.Common.{◌≡◌, ◌∙◌, ℕ, zero, suc, ◌+◌, ◌-◌, ◌<◌, ◌≤◌, List, [], ◌∷◌, ◌++◌, length, map, take, drop, get_or, refl, ap, sym, subst, arith, Option, Some, None}
-use Rattle.std.proofs.lemmas.List.{append_assoc, append-nil, drop_all, drop-append-le, take-append-le, take_all, length-append, length-drop, length-map, map_push}
+use Rattle.std.proofs.Common.{◌≡◌, ◌∙◌, ℕ, zero, suc, ◌+◌, ◌-◌, ◌<◌, ◌≤◌, List, [], ◌∷◌, ◌++◌, length, map, take, drop, get_or, refl, ap, sym, subst, arith, Option, Some}
+use Rattle.std.proofs.lemmas.List.{append_assoc, drop_all, drop-append-le, take-append-le, take_all, length-append, length-drop, length-map, map_push}
 use Rattle.std.proofs.lemmas.List.Elements.{All-push}
 use Rattle.std.specs.List.{All, AllByRecursion}
 use Rattle.sc_value.specs.declared.texts.Span.{Span}
@@ -139,22 +139,3 @@ AreFoundTo-more g text places out now d span i below is part now_is was =
           ∙ was.are;
       parts = subst P (sym now_is) (All-push (IsPart text) out span was.parts part);
     }
-
-pub AreFoundTo-stop : (g : List ℕ → Option (List ℕ)) (text : List ℕ) (places out : List Span)
-    (d : Span) (i : ℕ) → i < length places
-    → None ≡ g (part_at text (get_or places i d)) → AreFoundTo g text places out i
-    → map (part_at text) out ≡ until_none g (map (part_at text) places)
-AreFoundTo-stop g text places out d i below is was =
-    let f = part_at text in
-    let rest = until_none g (map f (drop (i + 1) places)) in
-    sym (append-nil (map f out)) ∙ ap (λ o. map f out ++ in_front o rest) is
-    ∙ ap (λ r. map f out ++ r) (sym (until_at f g places i d below)) ∙ was.are
-
-pub AreFoundTo-end : (g : List ℕ → Option (List ℕ)) (text : List ℕ) (places out : List Span)
-    (i : ℕ) → length places ≤ i → AreFoundTo g text places out i
-    → map (part_at text) out ≡ until_none g (map (part_at text) places)
-AreFoundTo-end g text places out i past was =
-    sym (append-nil (map (part_at text) out))
-    ∙ ap (λ r. map (part_at text) out ++ until_none g (map (part_at text) r))
-    (sym (drop_all i places past))
-    ∙ was.are

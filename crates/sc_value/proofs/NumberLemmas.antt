@@ -1,6 +1,6 @@
 -- Numbers, as they are tested and as they are read.
 use Rattle.std.proofs.Common.{◌≡◌, ◌∙◌, ℕ, ℤ, pos, negsuc, ◌<◌, ◌^◌, Bool, true, false, ◌&&◌, cond, List, [], ◌∷◌, Ok, Err, length, eqb, refl, ap, sym, subst, inl, inr, arith, eqb-true}
-use Rattle.std.proofs.lemmas.Bool.{and_from, false≢true, lt-ltb, ltb-true}
+use Rattle.std.proofs.lemmas.Bool.{and_from, false≢true, ltb-true}
 use Rattle.std.proofs.lemmas.Bool.Decides.{nat_tests}
 use Rattle.std.specs.Char.{is_ascii_digit, digit_value}
 use Rattle.std.specs.List.{list_all}
@@ -114,11 +114,7 @@ numeral_behind_sign (c ∷ cs) is = go (eqb c 45) refl
         let plus : eqb c 43 ≡ false = not_plus c first.0 in
         rw (e, plus) (numeral_from_digits (c ∷ cs) digits)
 
--- the test for 64 bits
-fits_yes : (z : ℤ) → SFits w64 z → fits_64 z ≡ true
-fits_yes (pos n) fits = lt-ltb n (2 ^ 63) fits.sfits
-fits_yes (negsuc n) fits = lt-ltb n (2 ^ 63) fits.sfits
-
+-- a number that doesn't fit into 64 bits
 fits_no : (z : ℤ) → ¬ (SFits w64 z) → fits_64 z ≡ false
 fits_no (pos n) fits = by_test (fits_64 (pos n)) refl where
   by_test : (b : Bool) → fits_64 (pos n) ≡ b → fits_64 (pos n) ≡ false
@@ -129,24 +125,11 @@ fits_no (negsuc n) fits = by_test (fits_64 (negsuc n)) refl where
   by_test false is = is
   by_test true is = absurd (fits (record { sfits = ltb-true n (2 ^ 63) is }))
 
--- a text that is no number, a number that fits, and one that doesn't
-pub int_none : (text : List ℕ) → is_number text ≡ false → Err NotANumber ≡ number_of_text text
-int_none text is =
-    ap (λ b. cond b (in_range (signed_digits_value 10 text)) (Err NotANumber)) (sym is)
-
+-- a text that is a number, and one that doesn't fit
 int_some : (text : List ℕ) → is_number text ≡ true
     → in_range (signed_digits_value 10 text) ≡ number_of_text text
 int_some text is =
     ap (λ b. cond b (in_range (signed_digits_value 10 text)) (Err NotANumber)) (sym is)
-
-pub int_fits : (text : List ℕ) (n : ℤ) → is_number text ≡ true
-    → n ≡ signed_digits_value 10 text → SFits w64 (signed_digits_value 10 text)
-    → Ok n ≡ number_of_text text
-int_fits text n is same fits =
-    ap Ok same
-    ∙ ap (λ b. cond b (Ok (signed_digits_value 10 text)) (Err OutOfRange))
-    (sym (fits_yes (signed_digits_value 10 text) fits))
-    ∙ int_some text is
 
 pub int_wide : (text : List ℕ) → is_number text ≡ true
     → ¬ (SFits w64 (signed_digits_value 10 text)) → Err OutOfRange ≡ number_of_text text

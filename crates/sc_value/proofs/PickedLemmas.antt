@@ -1,5 +1,5 @@
 -- Items at places.
-use Rattle.std.proofs.Common.{◌≡◌, ◌∙◌, ℕ, zero, suc, ◌+◌, ◌<◌, ◌≤◌, List, [], ◌∷◌, ◌++◌, length, map, drop, get_or, refl, ap, ap₂, sym, subst, Option, Some, None, slice_get, option_map, append_assoc, append-nil, drop_of_length-le}
+use Rattle.std.proofs.Common.{◌≡◌, ◌∙◌, ℕ, zero, suc, ◌+◌, ◌<◌, List, [], ◌∷◌, ◌++◌, length, map, drop, get_or, refl, ap, ap₂, sym, subst, Option, Some, None, slice_get, option_map, append_assoc}
 use Rattle.std.specs.List.{All, cons_option}
 use Rattle.std.proofs.lemmas.List.{drop_more}
 use Rattle.std.proofs.lemmas.List.Elements.{All-head, All-tail, All-cons, All-nil}
@@ -48,10 +48,3 @@ picked_more xs out after all ps i p x within at there is before =
     ∙ ap (λ o. cons_option o rest) there in
     ap (λ a. a ++ rest) is ∙ append_assoc out (x ∷ []) rest
     ∙ ap (λ ys. out ++ ys) (sym one) ∙ before
-
--- no place is left
-pub picked_all : {X : Type 0} (xs out all : List X) (ps : List ℕ) (i : ℕ) → length ps ≤ i
-    → out ++ picked xs (drop i ps) ≡ all → out ≡ all
-picked_all xs out all ps i past is =
-    sym (append-nil out)
-    ∙ sym (ap (λ qs. out ++ picked xs qs) (drop_of_length-le ps past)) ∙ is

@@ -3,7 +3,7 @@ use Rattle.std.proofs.Common.{◌≡◌, ◌∙◌, ℕ, ◌+◌, ◌-◌, ◌<�
 use Rattle.std.proofs.Common.{Option, Some, None, ltb, unwrap_or}
 use Rattle.std.proofs.Math.Nat.{eq-or-lt_of_le}
 use Rattle.std.proofs.lemmas.Bool.{eqb-true, cases_Bool, cond-true, cond-false, ltb-false}
-use Rattle.std.proofs.lemmas.List.{drop_all, drop-drop, drop-take, take-take, take_all, length-drop, length-take-le}
+use Rattle.std.proofs.lemmas.List.{drop_all, drop-drop, drop-take, take-take, length-drop, length-take-le}
 use Rattle.std.proofs.lemmas.List.Sums.{fails_before_first, passes_at_first, prefix_len-le-length}
 use Rattle.std.proofs.lemmas.Str.{IsCharBoundary-after_ascii, IsUtf8-drop, IsUtf8-nil, IsUtf8-take}
 use Rattle.std.specs.List.{All, position_or_len, slice_range}
@@ -75,11 +75,6 @@ pub range_length : (text : List ℕ) (from end : ℕ) → end ≤ length text
     → length (slice_range text from end) ≡ end - from
 range_length text from end small =
     length-take-le (end - from) (drop from text) (omega (arith, length-drop from text))
-
-pub range_whole : (text : List ℕ) → slice_range text 0 (length text) ≡ text
-range_whole text =
-    ap (λ n. take n text) (let e : length text - 0 ≡ length text = omega arith in e)
-    ∙ take_all (length text) text (omega arith)
 
 pub range_past : (text : List ℕ) (from end : ℕ) → end ≤ from → slice_range text from end ≡ []
 range_past text from end past =

@@ -38,14 +38,6 @@ same_type-sound (list_type a) text_type is = cc
 same_type-sound (list_type a) (pair_type c d) is = cc
 same_type-sound (list_type a) (list_type c) is = ap list_type (same_type-sound a c is)
 
-pub same_type-refl : (s : TypeData) → same_type s s ≡ true
-same_type-refl int_type = refl
-same_type-refl bool_type = refl
-same_type-refl text_type = refl
-same_type-refl (pair_type a b) =
-    ap (λ x. x && same_type b b) (same_type-refl a) ∙ same_type-refl b
-same_type-refl (list_type a) = same_type-refl a
-
 -- types that differ
 pub record Differ (s t : TypeData) : Type 0 where
   pub same : IsTrue false ↔ (s ≡ t)

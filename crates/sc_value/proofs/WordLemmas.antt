@@ -11,7 +11,7 @@ use Rattle.std.specs.Str.{IsUtf8}
 use Rattle.sc_value.specs.declared.texts.Span.{Span}
 use Rattle.sc_value.specs.Spans.{IsPart, part_at, some_span}
 use Rattle.sc_value.specs.Words.{is_blank, is_some_piece, words_of}
-use Rattle.sc_value.proofs.PieceLemmas.{IsRest, rest_within, rest_part, rest_behind, is_blank-ascii, none_passes, piece_within, range_behind, range_front, range_length, range_past, range_whole}
+use Rattle.sc_value.proofs.PieceLemmas.{IsRest, rest_within, rest_part, rest_behind, is_blank-ascii, none_passes, piece_within, range_behind, range_front, range_length}
 
 -- a piece as words: none, if it is empty
 abbrev pub some_piece : List ℕ → List (List ℕ)
@@ -51,10 +51,6 @@ words_from text from end n rest =
     (sym (range_front text from n end within))
     ∙ ap (λ r. some_piece (slice_range text from (from + n)) ++ words_of r)
     (range_behind text from n end within rest.small)
-
-pub words_past : (text : List ℕ) (from end : ℕ) → end ≤ from
-    → words_of (slice_range text from end) ≡ []
-words_past text from end past = ap words_of (range_past text from end past)
 
 -- how many words a piece is
 some_length : (w : List ℕ) (n : ℕ) → length w ≡ n → is_some_piece w ≡ nat_lt 0 n
@@ -116,24 +112,10 @@ AreWordsTo-more text whole old spans now from n end next some now_is was =
       small = was.small;
     }
 
-pub AreWordsTo-end : (text whole : List ℕ) (old spans : List Span) (from end : ℕ) → end ≤ from
-    → AreWordsTo text whole old spans from end
-    → map (part_at text) spans ≡ map (part_at text) old ++ words_of whole
-AreWordsTo-end text whole old spans from end past were =
-    sym (append-nil (map (part_at text) spans))
-    ∙ ap (λ ws. map (part_at text) spans ++ ws) (sym (words_past text from end past))
-    ∙ were.words
-
 -- the words of a text up to a place are those that were copied
 pub record AreCopiedTo (text : List ℕ) (copies : List (List ℕ)) (from : ℕ) : Type 0 where
   pub words : copies ++ words_of (slice_range text from (length text)) ≡ words_of text
   pub utf8 : IsUtf8 (slice_range text from (length text))
-
-pub AreCopiedTo-start : (text : List ℕ) → IsUtf8 text → AreCopiedTo text [] 0
-AreCopiedTo-start text utf8 = record {
-  words = ap words_of (range_whole text);
-  utf8 = subst IsUtf8 (sym (range_whole text)) utf8;
-}
 
 pub AreCopiedTo-more : (text : List ℕ) (copies now : List (List ℕ)) (from n : ℕ)
     → n ≡ position_or_len is_blank (slice_range text from (length text)) → from < length text
@@ -160,9 +142,3 @@ copied_utf8 text copies from n next some was =
     let part = rest_part is_blank text from (length text) n is_blank-ascii
     (record { utf8 = was.utf8; small = omega arith; ordered = omega arith; next = next }) in
     part.utf8
-
-pub AreCopiedTo-end : (text : List ℕ) (copies : List (List ℕ)) (from : ℕ) → length text ≤ from
-    → AreCopiedTo text copies from → copies ≡ words_of text
-AreCopiedTo-end text copies from past were =
-    sym (append-nil copies)
-    ∙ ap (λ ws. copies ++ ws) (sym (words_past text from (length text) past)) ∙ were.words

@@ -1,13 +1,13 @@
 -- A word of a text at its place, and how many there are.
 use Rattle.std.proofs.Common.{◌≡◌, ◌∙◌, ℕ, zero, suc, ◌+◌, ◌-◌, ◌<◌, ◌≤◌, List, [], ◌∷◌, ◌++◌, length, take, drop, refl, ap, sym, arith}
-use Rattle.std.proofs.Common.{Some, None, min}
+use Rattle.std.proofs.Common.{Some, min}
 use Rattle.std.proofs.lemmas.List.{length-take-le}
 use Rattle.std.specs.List.{position_or_len, slice_get, slice_range}
 use Rattle.std.specs.Str.{IsUtf8}
 use Rattle.sc_value.specs.Spans.{IsPart}
 use Rattle.sc_value.specs.Words.{is_blank, words_of}
-use Rattle.sc_value.proofs.PieceLemmas.{IsRest, rest_within, rest_part, rest_behind, is_blank-ascii, piece_within, range_behind, range_length, range_whole}
-use Rattle.sc_value.proofs.WordLemmas.{some_piece, words_first, words_from, words_past}
+use Rattle.sc_value.proofs.PieceLemmas.{IsRest, rest_within, rest_part, rest_behind, is_blank-ascii, piece_within, range_behind, range_length}
+use Rattle.sc_value.proofs.WordLemmas.{some_piece, words_first, words_from}
 
 -- the word that is looked for is one of those behind a place
 pub record IsWordFrom (text : List ℕ) (first from end k left : ℕ) : Type 0 where
@@ -77,17 +77,7 @@ IsWordFrom-part text first from n end k left small some next was =
     rest_part is_blank text from end n is_blank-ascii
     (record { utf8 = was.utf8; small = small; ordered = omega arith; next = next })
 
--- no more words
-pub IsWordFrom-none : (text : List ℕ) (first from end k left : ℕ) → end ≤ from
-    → IsWordFrom text first from end k left
-    → None ≡ slice_get (words_of (slice_range text first end)) k
-IsWordFrom-none text first from end k left past was =
-    no_word left ∙ ap (λ ws. slice_get ws left) (sym (words_past text from end past)) ∙ was.word
-  where
-    no_word : (left : ℕ) → None ≡ slice_get {X = List ℕ} [] left
-    no_word zero = refl
-    no_word (suc n) = refl
-
+-- how many words a list has with one more piece
 count_some : (w : List ℕ) (ws : List (List ℕ))
     → length (some_piece w ++ ws) ≡ min (length w) 1 + length ws
 count_some [] ws = omega arith
@@ -98,12 +88,6 @@ pub record IsCountTo (text : List ℕ) (from count : ℕ) : Type 0 where
   pub all : count + length (words_of (slice_range text from (length text)))
       ≡ length (words_of text)
   pub few : count ≤ from
-
-pub IsCountTo-start : (text : List ℕ) → IsCountTo text 0 0
-IsCountTo-start text = record {
-  all = (let e = ap (λ t. length (words_of t)) (range_whole text) in omega (arith, e));
-  few = omega arith;
-}
 
 pub IsCountTo-more : (text : List ℕ) (from n count now : ℕ) → from < length text
     → n ≡ position_or_len is_blank (slice_range text from (length text)) → now ≡ count + min n 1
@@ -121,10 +105,3 @@ IsCountTo-more text from n count now some next now_is was =
     (length-take-le n xs (omega (arith, len, within)))
     ∙ ap (λ r. min n 1 + length (words_of r)) (range_behind text from n end within (omega arith)) in
     record { all = omega (arith, step, was.all, now_is); few = omega (arith, was.few, now_is) }
-
-pub IsCountTo-end : (text : List ℕ) (from count : ℕ) → length text ≤ from
-    → IsCountTo text from count → count ≡ length (words_of text)
-IsCountTo-end text from count past was =
-    let none : length (words_of (slice_range text from (length text))) ≡ 0 =
-    ap length (words_past text from (length text) past) in
-    omega (arith, none, was.all)

@@ -4,7 +4,9 @@
 ghost use Rattle.std.specs.Prelude.{◌≡◌, ◌==◌, ◌≤◌, ◌+◌, ◌++◌, [], ◌∷◌, if◌then◌else◌, IfOk, OnOk, is_ok, length, take};
 ghost use Rattle.std.specs.List.{concat};
 ghost use Rattle.sc_base.specs.Limits.{count_limit};
+ghost use Rattle.sc_value.specs.Spans.{IsPart, part_at};
 
+use crate::blocks::append_part;
 use crate::octets::Octets;
 use crate::texts::{Span, Texts};
 use sc_base::COUNT_LIMIT;
@@ -124,8 +126,27 @@ impl TextsBuilder {
             ≡ (if is_ok result then self.old.taken + length piece.now else self.old.taken) }
         ensures within { OnOk result (self.new.taken ≤ count_limit) }
     {
+        if piece.len() > COUNT_LIMIT {
+            return Err(AllocError);
+        }
+        let to = piece.len() as u32;
+        self.push_part(piece.as_bytes(), Span { from: 0, to })
+    }
+
+    // The same of a part of some bytes.
+    #[inline(always)]
+    fn push_part(&mut self, bytes: &[u8], part: Span) -> Result<(), AllocError>
+        requires { IsPart bytes.now part }
+        ensures texts { self.new.texts ≡ (if is_ok result
+            then self.old.texts ++ (self.old.open_text ++ part_at bytes.now part) ∷ []
+            else self.old.texts) }
+        ensures open_text { self.new.open_text ≡ (if is_ok result then [] else self.old.open_text) }
+        ensures taken { self.new.taken ≡ (if is_ok result
+            then self.old.taken + length (part_at bytes.now part) else self.old.taken) }
+        ensures within { OnOk result (self.new.taken ≤ count_limit) }
+    {
         let written = self.bytes.len();
-        append(&mut self.bytes, piece.as_bytes())?;
+        append_within(&mut self.bytes, bytes, part)?;
         let to = self.bytes.len();
         let span = Span {
             from: self.open_from as u32,
@@ -160,7 +181,8 @@ impl TextsBuilder {
     {
         let count = self.spans.len();
         for i in 0..texts.len() {
-            match self.push(texts.get(i)) {
+            let (bytes, part) = texts.place(i);
+            match self.push_part(bytes, part) {
                 Ok(()) => {}
                 Err(_) => {
                     self.truncate(count);
@@ -204,4 +226,23 @@ fn append(bytes: &mut Vec<u8>, more: &[u8]) -> Result<(), AllocError>
         return Err(AllocError);
     }
     bytes.extend_from_slice(more)
+}
+
+/// Appends a part of other bytes.
+///
+/// # Errors
+///
+/// Memory is wanting, or there would be more than [`COUNT_LIMIT`] bytes.
+#[inline(always)]
+fn append_within(bytes: &mut Vec<u8>, others: &[u8], part: Span) -> Result<(), AllocError>
+    requires small { length bytes.old.items ≤ count_limit }
+    requires part { IsPart others.now part }
+    ensures items { bytes.new.items ≡ (if is_ok result
+        then bytes.old.items ++ part_at others.now part else bytes.old.items) }
+    ensures within { length bytes.new.items ≤ count_limit }
+{
+    if part.to as usize - part.from as usize > COUNT_LIMIT - bytes.len() {
+        return Err(AllocError);
+    }
+    append_part(others, part, bytes)
 }

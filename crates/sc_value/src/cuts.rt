@@ -9,8 +9,9 @@ ghost use Rattle.sc_base.specs.Limits.{count_limit};
 ghost use Rattle.sc_value.specs.Spans.{IsPart, part_at, place_at, span_of};
 ghost use Rattle.sc_value.specs.Words.{cut_at, nth_piece as piece_at, range_of, until_none};
 
+use crate::pieces::{Pieces, push_list};
 use crate::text::Text;
-use crate::texts::{Pieces, Span, push_list};
+use crate::texts::Span;
 use std::alloc::{AllocError, Global};
 
 /// The pieces of a text between the occurrences of a separator, each of them copied. Empty pieces

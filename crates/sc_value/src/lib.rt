@@ -7,13 +7,15 @@
 //! [`Octets`] are bytes that are shared and never change, [`Held`] is a shared range of items of
 //! any type. [`Texts`] are places in shared bytes, never a string for each text: [`lines`] finds
 //! the lines of a file so, and the words of texts, their pieces, a range of them and those at some
-//! places lie in the same bytes. A [`TextsBuilder`] makes texts one by one. [`parse_int`] reads the
-//! number that a text writes.
+//! places lie in the same bytes. A [`TextsBuilder`] makes texts one by one. [`append_part`] copies
+//! bytes, of which few go in a block. [`parse_int`] reads the number that a text writes.
 //!
 //! Shared bytes of texts end at 4 GiB. Rows and columns stand in `sc_columns`, expressions in
 //! `sc_expr`; below is `sc_base` alone.
 #![tactic(auto)]
 
+mod blanks;
+mod blocks;
 mod builder;
 mod cuts;
 mod held;
@@ -23,6 +25,7 @@ mod line_ends;
 mod name;
 mod numbers;
 mod octets;
+mod pieces;
 mod printing;
 mod text;
 mod texts;
@@ -30,6 +33,7 @@ mod types;
 mod values;
 mod words;
 
+pub use blocks::append_part;
 pub use builder::TextsBuilder;
 pub use cuts::cut_in;
 pub use held::{Held, kept_items, picked_items};

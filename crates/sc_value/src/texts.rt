@@ -1,19 +1,21 @@
 //! Texts as places in shared bytes.
 #![tactic(auto)]
 
-ghost use Rattle.std.specs.Prelude.{◌≡◌, ◌==◌, ◌<◌, ◌≤◌, ◌++◌, [], ◌∷◌, IfOk, OnOk, Some, length, map, slice_get, slice_range};
+ghost use Rattle.std.specs.Prelude.{◌≡◌, ◌==◌, ◌<◌, ◌≤◌, ◌++◌, [], ◌∷◌, if◌then◌else◌, is_ok, IfOk, IfSome, Some, length, map, slice_get, slice_range};
 ghost use Rattle.std.specs.List.{All};
+ghost use Rattle.std.specs.Str.{IsUtf8};
 ghost use Rattle.sc_value.specs.Kept.{kept as items_kept};
 ghost use Rattle.sc_base.specs.Limits.{count_limit};
 ghost use Rattle.sc_value.specs.Picked.{ArePlaces, picked as items_picked};
 ghost use Rattle.sc_value.specs.Spans.{IsPart, part_at};
 ghost use Rattle.sc_value.specs.Words.{cut_at, nth_piece as piece_at, nth_word as word_at, range_of, until_none, words_of};
 
+use crate::blocks::append_part;
 use crate::cuts::{nth_pieces_at, pieces_at};
 use crate::held::{Held, kept_items, picked_items};
 use crate::octets::Octets;
+use crate::pieces::Pieces;
 use crate::words::{nth_words_at, words_at};
-use sc_base::COUNT_LIMIT;
 use std::alloc::{AllocError, Global};
 use std::marker::Model;
 use std::str;
@@ -53,12 +55,6 @@ pub struct TextLists {
     pub lists: Vec<Span>,
 }
 
-/// Where the pieces of texts lie, and for each text a range of its pieces.
-pub(crate) struct Pieces {
-    pub items: Vec<Span>,
-    pub lists: Vec<Span>,
-}
-
 impl Texts {
     /// The parts of some bytes at some places, which copies none of them.
     pub fn of_spans(alloc: Global, bytes: Octets, spans: Vec<Span>) -> Result<Texts, AllocError>
@@ -91,6 +87,28 @@ impl Texts {
         let span = self.spans.as_slice()[i];
         let part = &self.bytes.as_slice()[span.from as usize..span.to as usize];
         unsafe { str::from_utf8_unchecked(part) }
+    }
+
+    /// Writes the text at a place behind some bytes, or nothing where memory runs out.
+    #[inline(always)]
+    pub fn append_to(&self, i: usize, out: &mut Vec<u8>) -> Result<(), AllocError>
+        requires { i < length self.now }
+        ensures bytes { IfSome (slice_get self.now i) (λ t. out.new.items
+            ≡ (if is_ok result then out.old.items ++ t else out.old.items)) }
+        ensures utf8 { IfSome (slice_get self.now i) IsUtf8 }
+    {
+        let (bytes, place) = self.place(i);
+        append_part(bytes, place, out)
+    }
+
+    /// The bytes that the text at a place lies in, and where.
+    #[inline(always)]
+    pub(crate) fn place(&self, i: usize) -> (&[u8], Span)
+        requires { i < length self.now }
+        ensures part { IsPart result.0.now result.1 }
+        ensures text { slice_get self.now i ≡ Some (part_at result.0.now result.1) }
+    {
+        (self.bytes.as_slice(), self.spans.as_slice()[i])
     }
 
     /// About how many bytes the texts take, from where the first begins to where the last ends: a
@@ -148,7 +166,7 @@ impl Texts {
     ///
     /// # Errors
     ///
-    /// Memory is wanting, or there are more than [`COUNT_LIMIT`] words in all.
+    /// Memory is wanting, or there are more than [`sc_base::COUNT_LIMIT`] words in all.
     pub fn words(&self, alloc: Global) -> Result<TextLists, AllocError>
         ensures words { IfOk result
             (λ w. map (range_of w.items) w.lists.items ≡ map words_of self.now) }
@@ -168,7 +186,7 @@ impl Texts {
     ///
     /// # Errors
     ///
-    /// Memory is wanting, or there are more than [`COUNT_LIMIT`] pieces in all.
+    /// Memory is wanting, or there are more than [`sc_base::COUNT_LIMIT`] pieces in all.
     pub fn cut(&self, alloc: Global, separator: u8) -> Result<TextLists, AllocError>
         requires { separator < 128 }
         ensures cut { IfOk result (λ w. map (range_of w.items) w.lists.items
@@ -214,25 +232,4 @@ impl Texts {
         )?;
         Texts::of_spans(alloc, bytes, places)
     }
-}
-
-/// Adds a range of items as a list.
-///
-/// # Errors
-///
-/// Memory is wanting, or the range ends behind [`COUNT_LIMIT`] items.
-pub(crate) fn push_list(lists: &mut Vec<Span>, from: usize, to: usize) -> Result<(), AllocError>
-    requires { from ≤ to }
-    ensures lists { OnOk result
-        (lists.new.items ≡ lists.old.items ++ record { from = from; to = to } ∷ []) }
-    ensures within { OnOk result (to ≤ count_limit) }
-{
-    if to > COUNT_LIMIT {
-        return Err(AllocError);
-    }
-    lists.push(Span {
-        from: from as u32,
-        to: to as u32,
-    })?;
-    Ok(())
 }

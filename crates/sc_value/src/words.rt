@@ -4,13 +4,15 @@
 ghost use Rattle.std.specs.Prelude.{◌≡◌, ◌<◌, ◌≤◌, ◌^◌, ◌+◌, ◌++◌, [], ◌∷◌, ℕ, List, IfOk, IfSome, OnOk, filter, length, map, slice_range};
 ghost use Rattle.std.specs.Option.{option_map};
 ghost use Rattle.std.specs.Str.{IsUtf8};
-ghost use Rattle.std.specs.List.{All, position_or_len};
+ghost use Rattle.std.specs.List.{All};
 ghost use Rattle.sc_base.specs.Limits.{count_limit};
 ghost use Rattle.sc_value.specs.Spans.{IsPart, part_at, place_at, some_span, span_of};
-ghost use Rattle.sc_value.specs.Words.{is_blank, is_some_piece, nth_word as word_at, range_of, until_none, words_of};
+ghost use Rattle.sc_value.specs.Words.{is_some_piece, nth_word as word_at, range_of, until_none, words_of};
 
+use crate::blanks::word_len;
+use crate::pieces::{Pieces, push_list};
 use crate::text::Text;
-use crate::texts::{Pieces, Span, push_list};
+use crate::texts::Span;
 use std::alloc::{AllocError, Global};
 use std::str;
 
@@ -23,7 +25,7 @@ pub fn words_in(alloc: Global, text: &str) -> Result<Vec<Text>, AllocError>
     let mut out = Vec::new(alloc);
     let mut from = 0;
     while from < end {
-        let len = word_len(&bytes[from..end]);
+        let len = word_len(bytes, from, end);
         push_word(alloc, &bytes[from..from + len], &mut out)?;
         from = from + len + 1;
     }
@@ -105,7 +107,7 @@ fn add_words(text: &[u8], part: Span, out: &mut Vec<Span>) -> Result<(), AllocEr
     let end = part.to as usize;
     let mut from = part.from as usize;
     while from < end {
-        let len = word_len(&text[from..end]);
+        let len = word_len(text, from, end);
         push_some(out, from, len)?;
         from = from + len + 1;
     }
@@ -142,17 +144,6 @@ fn push_word(alloc: Global, piece: &[u8], out: &mut Vec<Text>) -> Result<(), All
     Ok(())
 }
 
-/// How many bytes stand before the first blank.
-#[inline(always)]
-fn word_len(text: &[u8]) -> usize
-    ensures len { result ≡ position_or_len is_blank text.now }
-    ensures within { result ≤ length text.now }
-{
-    text.iter()
-        .position(|b| *b == b' ' || *b == b'\t')
-        .unwrap_or(text.len())
-}
-
 /// From where to where a word of a part of a text lies, where the part has so many.
 #[inline(always)]
 fn word_place(text: &[u8], first: usize, end: usize, k: usize) -> Option<(usize, usize)>
@@ -167,7 +158,7 @@ fn word_place(text: &[u8], first: usize, end: usize, k: usize) -> Option<(usize,
     let mut from = first;
     let mut left = k;
     while from < end {
-        let len = word_len(&text[from..end]);
+        let len = word_len(text, from, end);
         let step = len.min(1);
         if left < step {
             return Some((from, from + len));
@@ -186,7 +177,7 @@ fn count_words(text: &[u8]) -> usize
     let mut from = 0;
     let mut count = 0;
     while from < end {
-        let len = word_len(&text[from..end]);
+        let len = word_len(text, from, end);
         count = count + len.min(1);
         from = from + len + 1;
     }

@@ -1,5 +1,5 @@
 -- One of the places and one of the stores, as code changes them.
-use Rattle.std.proofs.Common.{◌≡◌, ◌≢◌, ℕ, zero, suc, ◌<◌, List, [], ◌∷◌, Option, Some, None, get_or, is_some, length, slice_get, slice_set, refl, ap, sym, subst, ◌∙◌, arith, rules, true, true≢false}
+use Rattle.std.proofs.Common.{◌≡◌, ◌≢◌, ℕ, zero, suc, ◌<◌, List, [], ◌∷◌, Option, Some, None, get_or, length, slice_get, slice_set, refl, ap, sym, subst, ◌∙◌, arith, rules}
 use Rattle.std.proofs.lemmas.Option.{slice_get_read}
 use Rattle.sc_base.specs.Lists.{at_or}
 use Rattle.sc_ids.specs.Changes.{change_at}
@@ -58,12 +58,6 @@ written_as xs i x y z lt e is = set_changed xs i x y (λ _. z) lt e is
 pub aside_there : (held : List (Option AttemptData)) (exec : ℕ) → IsAside (at_or held exec None)
     → exec < length held
 aside_there held exec aside = is_there held exec (λ none. subst IsAside none aside)
-
--- and one that has an attempt
-pub taken_there : (held : List (Option AttemptData)) (exec : ℕ)
-    → is_some (at_or held exec None) ≡ true → exec < length held
-taken_there held exec taken =
-    is_there held exec (λ none. true≢false (sym taken ∙ ap is_some none))
 
 -- its attempt, once it did that
 pub settles_among : (held : List (Option AttemptData)) (exec : ℕ) (x y : Option AttemptData)

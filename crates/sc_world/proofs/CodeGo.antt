@@ -1,14 +1,10 @@
 -- How one attempt goes on, in code.
-use Rattle.std.proofs.Common.{◌≡◌, ℕ, zero, suc, inr, List, [], ◌∷◌, Option, Some, None, IfSome, IsSomeAnd, get_or, is_some, slice_get, refl, ap, sym, subst, ◌∙◌, rules}
-use Rattle.sc_ids.specs.Graphs.{StageData}
+use Rattle.std.proofs.Common.{◌≡◌, ℕ, zero, suc, inr, List, [], ◌∷◌, Option, Some, None, IfSome, IsSomeAnd, get_or, slice_get, refl, ap, sym, subst, ◌∙◌, rules}
 use Rattle.sc_ids.specs.declared.blocks.BlockId.{BlockId}
 use Rattle.sc_ids.specs.declared.blocks.Loc.{Loc}
-use Rattle.sc_ids.specs.declared.blocks.Target.{Target}
-use Rattle.sc_ids.specs.declared.blocks.Target.TheVariants as targets
-use Rattle.sc_dag.specs.Submission.{is_map}
 use Rattle.sc_lineage.specs.ScriptData.{WorkData}
 use Rattle.sc_store.specs.StoreData.{StoreData}
-use Rattle.sc_net.specs.Tasks.{TaskData, block_left, block_left_by, block_of_task, is_map_stage, is_map_task, stage_of_task}
+use Rattle.sc_net.specs.Tasks.{TaskData}
 use Rattle.sc_compute.specs.declared.caching.CachedPart.{CachedPart}
 use Rattle.sc_task.specs.Attempts.{AttemptData, assigned}
 use Rattle.sc_task.specs.States.{ComputedData}
@@ -71,19 +67,6 @@ fetched stores t got block loc store a stands e is fetches =
           (store, read.0, subst (λ n. FetchesTo store t got n a) e fetches);
       is = refl;
     }
-
--- a task leaves a block where it is one of a map stage
-pub leaves_block : (t : TaskData) → is_some (block_of_task t) ≡ is_map_task t
-leaves_block t = by (stage_of_task t)
-  where
-    of : (target : Target) (p : ℕ) → is_some (block_left target p) ≡ is_map target
-    of (targets.Map shuffle) p = refl
-    of (targets.Result node) p = refl
-
-    by : (o : Option StageData)
-        → is_some (block_left_by o t.hand_out.attempt.partition) ≡ is_map_stage o
-    by None = refl
-    by (Some stage) = of stage.target t.hand_out.attempt.partition
 
 -- where an attempt computes, it has read all
 reads_all : (n : Next) → phase_reading n ≡ phases.Computes → n ≡ Complete

@@ -1,5 +1,5 @@
 -- Orders of a fault plan that wipe.
-use Rattle.std.proofs.Common.{◌≡◌, ℕ, ◌≤◌, true, List, Some, length, sym, arith, rules, true≢false}
+use Rattle.std.proofs.Common.{◌≡◌, ℕ, ◌≤◌, true, List, Some, length, sym, arith, true≢false}
 use Rattle.sc_plan.specs.Orders.{Due, due_count, nth_order, wipes_of}
 use Rattle.sc_plan.specs.declared.lines.PlanLine.{PlanLine}
 use Rattle.sc_plan.specs.declared.orders.Order.{Order}
@@ -35,11 +35,3 @@ is_wiping plan told order (below, is) = (wipe_of plan order.exec order.number or
 pub is_known : (dues : List Due) (told number : ℕ) → number ≤ due_count dues told
     → number ≤ length dues
 is_known dues told number le = let room = due_room dues told in omega (arith, le, room)
-
--- orders have numbers from 1 on
-pub none_zero : (dues : List Due) (told : ℕ) (order : Order) → order.number ≡ 0
-    → IsDueAmong dues told order → ⊥
-none_zero dues told order zero (below, is) = by order.number zero is
-  where
-    by : (n : ℕ) → n ≡ 0 → nth_order order.exec n dues ≡ Some order → ⊥
-    by n z e = let bad = rw z at e in search (rules, bad)

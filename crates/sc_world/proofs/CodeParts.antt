@@ -11,10 +11,10 @@ use Rattle.sc_staging.specs.Outputs.{GoesOnIn}
 use Rattle.sc_staging.specs.Parts.{part_rename, part_write}
 use Rattle.sc_staging.specs.StagingData.{StagingData}
 use Rattle.sc_staging.specs.declared.outputs.Output.{Output}
-use Rattle.sc_staging.specs.declared.outputs.Output.TheVariants.{Nothing, Save}
+use Rattle.sc_staging.specs.declared.outputs.Output.TheVariants.{Save}
 use Rattle.sc_core.specs.Saving.{is_granted, saver_phase}
-use Rattle.sc_jobs.specs.JobData.{JobData, saves}
-use Rattle.sc_task.specs.Attempts.{AttemptData, computed, granted, task_of}
+use Rattle.sc_jobs.specs.JobData.{JobData}
+use Rattle.sc_task.specs.Attempts.{AttemptData, computed, task_of}
 use Rattle.sc_desk.specs.DeskData.{DeskData, core_of}
 use Rattle.sc_desk.specs.Files.{CountsGoOn, FilesStand, HasReplay, part_texts}
 use Rattle.sc_desk.specs.Saving.{CallsAs, MovesPart, StagesPart}
@@ -23,13 +23,13 @@ use Rattle.sc_desk.proofs.CountLemmas.{counts_moved, counts_staged, move_calls, 
 use Rattle.sc_desk.proofs.FilesLemmas.{files_go_on}
 use Rattle.sc_desk.specs.declared.receipts.Noted.{Noted}
 use Rattle.sc_world.specs.Files.{OutputGoesOn, OutputStands, RenamesPart, WritesPart}
-use Rattle.sc_world.specs.Places.{HasPart, IsAtRest, IsAttemptOf}
+use Rattle.sc_world.specs.Places.{HasPart, IsAttemptOf}
 use Rattle.sc_world.specs.Runs.{IsWorld}
 use Rattle.sc_world.specs.Steps.{phase_of}
 use Rattle.sc_world.specs.WorldData.{WorldData, held_at}
 use Rattle.sc_world.specs.declared.places.AttemptState.TheVariants as phases
 use Rattle.sc_world.proofs.CodeSaves.{granted_at}
-use Rattle.sc_world.proofs.PartLemmas.{has_dir, part_text}
+use Rattle.sc_world.proofs.PartLemmas.{part_text}
 
 -- ---- a job that saves
 
@@ -38,30 +38,6 @@ same_job : (work : WorkData) (w : WorldData) (exec : ℕ) (a : AttemptData) → 
     → held_at w exec ≡ Some a → (task_of a).job ≡ w.desk.job
 same_job work w exec a is held =
     subst (λ o. IfSome o (λ x. (task_of x).job ≡ w.desk.job)) held (is.sound.of_job exec)
-
--- files that are put aside are those of no save
-put_aside : {F : Type 0} (work : WorkData) (w : WorldData) (exec : ℕ) (a : AttemptData)
-    (state : F → FilesState) (files : F) → IsWorld work w → held_at w exec ≡ Some a
-    → saves work (task_of a).job.goal ≡ true → OutputStands work w state (Nothing files) → ⊥
-put_aside work w exec a state files is held saving stands =
-    has_dir work w.desk.job.goal
-    (subst (λ (j : JobData). saves work j.goal ≡ true) (same_job work w exec a is held) saving)
-    stands.opened_for
-
-pub stages_saves : {F : Type 0} (work : WorkData) (w : WorldData) (exec : ℕ) (a : AttemptId)
-    (text : List ℕ) (state : F → FilesState) (files : F) → IsWorld work w
-    → HasPart work (held_at w exec) a text → OutputStands work w state (Nothing files) → ⊥
-stages_saves work w exec a text state files is part stands =
-    put_aside work w exec (computed part.task) state files is part.held part.is_text.1.part.1 stands
-
-pub moves_saves : {F : Type 0} (work : WorkData) (w : WorldData) (exec : ℕ) (a : AttemptId)
-    (state : F → FilesState) (files : F) → IsWorld work w
-    → phase_of (held_at w exec) ≡ phases.Moves → IsAttemptOf (held_at w exec) a
-    → OutputStands work w state (Nothing files) → ⊥
-moves_saves work w exec a state files is phase of stands =
-    let t = granted_at (held_at w exec) a phase of in
-    put_aside work w exec (granted t.0) state files is t.1
-    (subst (λ o. IfSome o (λ x. IsAtRest work (Some x))) t.1 (is.sound.rests exec)) stands
 
 -- ---- files that go on
 

@@ -1,24 +1,17 @@
 -- What an attempt of a save does beside the reports, as a step of its world.
-use Rattle.std.proofs.Common.{◌≡◌, ◌∙◌, ℕ, Bool, true, false, List, Option, Some, refl, ap, subst, sym}
+use Rattle.std.proofs.Common.{◌≡◌, ◌∙◌, ℕ, List, Option, Some, refl, ap, subst, sym}
 use Rattle.sc_ids.specs.Changes.{change_at}
 use Rattle.sc_ids.specs.declared.attempts.AttemptId.{AttemptId}
 use Rattle.sc_ids.specs.declared.attempts.Mark.TheVariants.{Driver}
 use Rattle.sc_lineage.specs.ScriptData.{WorkData}
-use Rattle.sc_commit.specs.Committing.{answer_to}
-use Rattle.sc_commit.specs.declared.committers.Permission.{Permission}
-use Rattle.sc_commit.specs.declared.committers.Permission.TheVariants as permissions
-use Rattle.sc_core.specs.CoreData.{CoreData}
-use Rattle.sc_core.specs.Saving.{AsksBy, AsksIf, is_staged, saver_phase}
-use Rattle.sc_core.specs.declared.answers.Answer.TheVariants as says
-use Rattle.sc_core.specs.declared.answers.SideAnswer.{SideAnswer}
 use Rattle.sc_core.specs.declared.events.SideEvent.{SideEvent}
 use Rattle.sc_core.specs.declared.events.SideEvent.TheVariants.{Ask, Move, Stage}
 use Rattle.sc_staging.specs.StagingData.{StagingData}
 use Rattle.sc_net.specs.Tasks.{TaskData}
 use Rattle.sc_task.specs.Attempts.{AttemptData, computed, granted, staged, task_of}
 use Rattle.sc_desk.specs.Asides.{Notes}
-use Rattle.sc_desk.specs.DeskData.{DeskData, core_of}
-use Rattle.sc_desk.specs.Saving.{IsEvidentAnswer, MovesPart, StagesPart}
+use Rattle.sc_desk.specs.DeskData.{DeskData}
+use Rattle.sc_desk.specs.Saving.{MovesPart, StagesPart}
 use Rattle.sc_desk.specs.Sound.{IsSoundDesk}
 use Rattle.sc_desk.specs.declared.receipts.Noted.{Noted}
 use Rattle.sc_world.specs.Places.{HasPart, IsAttemptOf, settled}
@@ -30,34 +23,6 @@ use Rattle.sc_world.specs.declared.steps.Applied.TheVariants as applied
 use Rattle.sc_world.specs.declared.steps.Step.TheVariants as steps
 use Rattle.sc_world.proofs.CodeRests.{asks_staged, moves_granted}
 use Rattle.sc_world.proofs.KeepLemmas.{steps_keep_world}
-
--- ---- answers
-
--- who asks is never told that a call failed
-pub asks_evident : (d after : DeskData) (a : AttemptId) (noted : Noted)
-    → Notes d Driver (Ask a) noted after → IsEvidentAnswer noted.answer
-asks_evident d after a noted notes = of notes.enters.step
-  where
-    c : CoreData
-    c = core_of d
-
-    permitted : (p : Permission) (said : SideAnswer) → AsksBy p c a said (core_of after)
-        → IsEvidentAnswer said
-    permitted permissions.Granted said h = rw h.0 tt
-    permitted (permissions.Denied by) said h = rw h.0 tt
-    permitted permissions.Over said h = rw h.0 tt
-
-    asked : (b : Bool) (said : SideAnswer) → AsksIf b c a said (core_of after)
-        → IsEvidentAnswer said
-    asked false said h = rw h.0 tt
-    asked true said h = permitted (answer_to c.committers a true) said h
-
-    of : (said : SideAnswer) × (says.Side noted.answer ≡ says.Side said)
-        × AsksIf (is_staged (saver_phase c a)) c a said (core_of after)
-        → IsEvidentAnswer noted.answer
-    of (said, is, asks) =
-        let same : noted.answer ≡ said = cc in
-        subst IsEvidentAnswer (sym same) (asked (is_staged (saver_phase c a)) said asks)
 
 -- ---- steps
 

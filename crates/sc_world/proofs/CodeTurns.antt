@@ -1,8 +1,7 @@
 -- What turns leave: who rests, and how much is left to do.
-use Rattle.std.proofs.Common.{◌≡◌, ◌≢◌, inl, inr, ℕ, ◌+◌, ◌<◌, ◌≤◌, ◌==◌, ◌&&◌, Bool, true, false, not, Contains, List, [], ◌∷◌, Option, Some, None, IfSome, cond, get_or, is_some, length, nat_le, slice_get, refl, ap, sym, subst, ◌∙◌, arith, rules}
+use Rattle.std.proofs.Common.{◌≡◌, ◌≢◌, inl, inr, ℕ, ◌+◌, ◌<◌, ◌≤◌, ◌&&◌, Bool, true, false, Contains, List, [], ◌∷◌, Option, Some, None, IfSome, cond, get_or, is_some, length, nat_le, slice_get, refl, ap, sym, subst, ◌∙◌, arith, rules}
 use Rattle.std.specs.List.{find}
 use Rattle.std.specs.Option.{option_map}
-use Rattle.std.proofs.lemmas.Bool.Decides.{nat_tests}
 use Rattle.std.proofs.lemmas.List.Elements.{All-contains_itself}
 use Rattle.std.proofs.lemmas.List.Folds.{list_any_none}
 use Rattle.std.proofs.lemmas.Option.{slice_get_within}
@@ -58,18 +57,6 @@ use Rattle.sc_world.proofs.CodeAmong.{is_there}
 use Rattle.sc_world.proofs.CodeRuns.{computes_on, given_desk, goes_then, loses_on, orders_on, posts_on, puts_on, reads_on, releases_on, takes_on}
 
 -- ---- who has an attempt out
-
-pub rests_alone : (w : WorldData) (exec : ℕ) → IsResting w → IsAlone exec w
-rests_alone w exec rests other not = rests other
-
-pub alone_rests : (w : WorldData) (exec : ℕ) → IsAlone exec w → held_at w exec ≡ None → IsResting w
-alone_rests w exec alone here other = by (exec == other) refl
-  where
-    by : (b : Bool) → (exec == other) ≡ b → held_at w other ≡ None
-    by true e =
-        let same : exec ≡ other = grind (arith, nat_tests, e) in
-        subst (λ (x : ℕ). held_at w x ≡ None) same here
-    by false e = alone other (λ same. grind (arith, nat_tests, e, same))
 
 -- an executor's attempt goes on, and no other has one
 pub alone_still : (w : WorldData) (exec : ℕ) (o : Option AttemptData) → IsAlone exec w
@@ -449,17 +436,6 @@ abbrev pub turns_left : Bool → ℕ → ℕ
 turns_left true left = left + 1
 turns_left false left = 0
 
-pub turns_fall : (work : WorkData) (w after : WorldData) → job_runs (core_in w) ≡ true
-    → IsLess work w after
-    → turns_left (job_runs (core_in after)) (left_in work after)
-    < turns_left (job_runs (core_in w)) (left_in work w)
-turns_fall work w after runs less = rw runs (by (job_runs (core_in after)) refl)
-  where
-    by : (b : Bool) → job_runs (core_in after) ≡ b
-        → turns_left b (left_in work after) < left_in work w + 1
-    by true e = let lt : left_in work after < left_in work w = less e in omega (arith, lt)
-    by false e = omega arith
-
 -- ---- orders
 
 -- what a desk is once an order was handed out
@@ -475,10 +451,6 @@ handed_so work w after order r =
     let h : IsOrderedIf true work w.desk order r.desk =
     subst (λ b. IsOrderedIf b work w.desk order r.desk) r.runs r.ordered in
     (h.0, r.is ∙ ap (with_desk w) h.1)
-
--- none is, and nothing has changed
-pub handed_none : (work : WorkData) (w after : WorldData) → HandsOrder work w None after → after ≡ w
-handed_none work w after r = (handed_so work w after None r).1
 
 -- an order that is handed out and carried out is the driver's turn
 pub orders_turn : (work : WorkData) (w mid after : WorldData) (order : Order) → IsResting w

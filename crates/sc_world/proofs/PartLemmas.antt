@@ -1,5 +1,5 @@
 -- The text of an attempt's part is that of its partition.
-use Rattle.std.proofs.Common.{◌≡◌, ◌∙◌, ℕ, zero, suc, true, false, List, [], ◌∷◌, Option, Some, None, map, true≢false, refl, ap, sym, rules}
+use Rattle.std.proofs.Common.{◌≡◌, ◌∙◌, ℕ, zero, suc, false, List, [], ◌∷◌, Option, Some, None, map, true≢false, refl, ap, sym}
 use Rattle.sc_base.specs.Lists.{at_or}
 use Rattle.sc_value.specs.Printing.{printed_lines}
 use Rattle.sc_ids.specs.Graphs.{StageData}
@@ -8,18 +8,17 @@ use Rattle.sc_ids.specs.declared.blocks.Target.TheVariants as targets
 use Rattle.sc_lineage.specs.Actions.{local_results, result_of}
 use Rattle.sc_lineage.specs.Meaning.{local_stream, local_streams}
 use Rattle.sc_lineage.specs.ScriptData.{ActionData, WorkData, collect_action, count_action, node_of_action, reduce_action, save_action}
-use Rattle.sc_lineage.specs.Saves.{dir_of_action}
 use Rattle.sc_lineage.specs.Streams.{ended_stream, whole_stream}
 use Rattle.sc_lineage.specs.Targets.{own_value, result_target}
 use Rattle.sc_lineage.specs.declared.streams.Stream.{Stream}
 use Rattle.sc_lineage.proofs.PlaceLemmas.{at_or-map_any}
 use Rattle.sc_dag.specs.Submission.{is_map}
 use Rattle.sc_staging.specs.Done.{text_of}
-use Rattle.sc_jobs.specs.JobData.{goal_action, is_saving, saves, stage_in, target_among, target_by}
+use Rattle.sc_jobs.specs.JobData.{goal_action, stage_in, target_among, target_by}
 use Rattle.sc_jobs.specs.declared.goals.Goal.{Goal}
 use Rattle.sc_net.specs.Tasks.{TaskData, is_map_stage, is_map_task, target_of_task}
 use Rattle.sc_task.specs.States.{IsPartText}
-use Rattle.sc_desk.specs.Files.{dir_of_job, part_texts}
+use Rattle.sc_desk.specs.Files.{part_texts}
 
 -- a task that is none of a map stage is to compute a result
 result_among : (work : WorkData) (goal : Goal) (o : Option StageData) (p : ℕ)
@@ -63,14 +62,3 @@ part_text work t text (rows, part, is) =
     ap (own_value work) (sym target) ∙ part.own in
     is ∙ ap (λ (s : Stream). printed_lines s.rows) (sym own)
     ∙ sym (text_at action (local_streams work (node_of_action action)) a.partition)
-
--- a job that saves has a directory
-pub has_dir : (work : WorkData) (goal : Goal) → saves work goal ≡ true
-    → None ≡ dir_of_job work goal → ⊥
-has_dir work goal is none = by (goal_action work goal) is none
-  where
-    by : (action : ActionData) → is_saving action ≡ true → None ≡ dir_of_action action → ⊥
-    by (collect_action node) e none = true≢false (sym e)
-    by (count_action node) e none = true≢false (sym e)
-    by (reduce_action node f) e none = true≢false (sym e)
-    by (save_action node dir) e none = search (rules, none)

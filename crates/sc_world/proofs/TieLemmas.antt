@@ -23,9 +23,6 @@ use Rattle.sc_world.specs.Ties.{AreLater, AreTied, StandsAt, StandsIn, generatio
 
 -- ---- stores later on
 
-pub later_itself : (stores : List StoreData) → AreLater stores stores
-later_itself stores = record { stands = λ b loc h. h; reached = λ exec. omega arith }
-
 -- one store changed
 pub one_later :
     (stores after : List StoreData) (exec : ℕ) (s s' : StoreData)

@@ -1,4 +1,4 @@
-use Rattle.std.proofs.Common.{◌∙◌, ◌+◌, ◌*◌, ◌++◌, ◌<◌, ap, arith, false, get_or, length, map}
+use Rattle.std.proofs.Common.{◌∙◌, ◌+◌, ◌*◌, ◌<◌, ap, arith, false, get_or, length, map}
 use Rattle.std.proofs.lemmas.Option.{slice_get-get_or, slice_get-map}
 use Rattle.std.specs.Option.{option_map}
 use Rattle.sc_value.specs.Datum.{truth}
@@ -14,10 +14,10 @@ loop-i-preserved c =
     let second : 2 * c.loop-i.i + 1 < length c.args.truths.now = omega arith in
     two_lines_printed (map truth truths) i (truth (get_or truths (2 * i) false))
     (truth (get_or truths (2 * i + 1) false)) c.args.out.now.items before
-    c.extend_from_slice.new.self.items
+    c.write_two.new.out.items
     (slice_get-map truth truths (2 * i)
     ∙ ap (option_map truth) (slice_get-get_or truths (2 * i) false first))
     (slice_get-map truth truths (2 * i + 1)
     ∙ ap (option_map truth) (slice_get-get_or truths (2 * i + 1) false second))
     c.loop-i.invariant
-    (c.in_ok-extend_from_slice.ensures.items ∙ ap (λ l. before ++ l) c.two_lines.ensures)
+    c.in_ok-write_two.ensures

@@ -40,8 +40,8 @@ returns-then-stage-len c =
       ready = view_kept (λ r. r.is_ready) rows a.stage old new there at is.ready;
     }
 
-pub returns-else-stage-len-clause-ok : goal.returns-else-stage-len-clause-ok
-returns-else-stage-len-clause-ok c =
+pub returns-else-stage-len-clause-given : goal.returns-else-stage-len-clause-given
+returns-else-stage-len-clause-given c =
     let a = c.args.a in
     view_past (λ r. r.state) c.args.rows.now.items a.stage
     (changed_newest (λ set. handed set a.partition c.args.exec c.args.now))

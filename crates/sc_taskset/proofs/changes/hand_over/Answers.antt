@@ -16,11 +16,11 @@ hand-requires-clause-more c =
     c.args.row c.place_of-place.ensures
     (omega (arith, c.if-place-as_slice.true, ap length c.as_slice.ensures))) at c.requires
 
-pub returns-in_ok-hand-clause-ok : goal.returns-in_ok-hand-clause-ok
-returns-in_ok-hand-clause-ok c =
+pub returns-in_ok-hand-clause-handed : goal.returns-in_ok-hand-clause-handed
+returns-in_ok-hand-clause-handed c =
     let q = is_row_of c.args.row.partition in
     let rows = c.args.rows.now in
-    c.in_ok-hand.ensures.ok ∙ ap (λ i. set rows i c.args.row) c.place_of-place.ensures
+    c.in_ok-hand.ensures.handed ∙ ap (λ i. set rows i c.args.row) c.place_of-place.ensures
     ∙ found_at q rows c.args.row
     (omega (
       arith,
@@ -29,8 +29,8 @@ returns-in_ok-hand-clause-ok c =
       c.place_of-place.ensures,
     ))
 
-pub returns-else-place-as_slice-clause-ok : goal.returns-else-place-as_slice-clause-ok
-returns-else-place-as_slice-clause-ok c =
+pub returns-else-place-as_slice-clause-handed : goal.returns-else-place-as_slice-clause-handed
+returns-else-place-as_slice-clause-handed c =
     found_past (is_row_of c.args.row.partition) c.args.rows.now c.args.row
     (omega (
       arith,

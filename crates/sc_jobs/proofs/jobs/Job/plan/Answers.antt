@@ -24,7 +24,7 @@ invariant_of-result g c =
 pub returns-clause-carried_on : goal.returns-clause-carried_on
 returns-clause-carried_on g c =
     let Carries : CarriedData → Type 0 = λ x. IsCarriedFor g.W.Naming.work.script.nodes x in
-    let kept = c.in_ok-keep.ensures.ok
+    let kept = c.in_ok-keep.ensures.kept
     ∙ ap (λ (p : Plan). after_job c.args.carried.now p.graph)
     (c.deref.ensures ∙ c.in_ok-plan.ensures.ok) in
     subst Carries (sym kept)

@@ -18,7 +18,7 @@ invariant_of-self-2 c =
           rw w.self-inside-is
           (hand_listed c.self.inside.lists w.add.new.self rows c.args.place _ c.args.row there
           before c.self.invariant c.args.exec more
-          (sym c.is_on.ensures ∙ w.if-not-is_on.true) w.in_ok-add.ensures.ok)
+          (sym c.is_on.ensures ∙ w.if-not-is_on.true) w.in_ok-add.ensures.added)
       | else-not-is_on w ↦
           rw w.self-inside-is
           (kept_listed c.self.inside.lists c.self.inside.lists rows c.args.place _ c.args.row

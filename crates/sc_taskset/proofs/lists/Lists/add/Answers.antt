@@ -7,8 +7,8 @@ on_err : {T E P : Type 0} (r : Result T E) → P → OnErr r P
 on_err (Ok x) p = tt
 on_err (Err e) p = p
 
-pub returns-in_err-push-clause-err : goal.returns-in_err-push-clause-err
-returns-in_err-push-clause-err c =
+pub returns-in_err-push-clause-refused : goal.returns-in_err-push-clause-refused
+returns-in_err-push-clause-refused c =
     let places = c.grow.new.places.items in
     let there = c.in_ok-grow.ensures.there in
     on_err c.from_residual-in_err-push.result
@@ -16,8 +16,8 @@ returns-in_err-push-clause-err c =
     (c.in_err-push.ensures.items ∙ ap (λ v. v.items) c.index_mut.ensures.value)
     ∙ c.grow.ensures.same e)
 
-pub returns-clause-ok : goal.returns-clause-ok
-returns-clause-ok c =
+pub returns-clause-added : goal.returns-clause-added
+returns-clause-added c =
     let places = c.grow.new.places.items in
     let there = c.in_ok-grow.ensures.there in
     record {

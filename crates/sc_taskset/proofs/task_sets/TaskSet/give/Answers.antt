@@ -18,16 +18,16 @@ invariant_of-self-2 c =
     ∙ sym (length-map s.rows (task_of s.failures.items)) in
     let failures : vec_len s.failures + 2 * length set.tasks
     ≤ vec_capacity c.reserve_for.new.items =
-    omega (arith, c.in_ok-reserve_for.ensures.ok, many) in
+    omega (arith, c.in_ok-reserve_for.ensures.room, many) in
     let durations : vec_len s.durations + 2 * length set.tasks
     ≤ vec_capacity c.reserve_for-2.new.items =
-    omega (arith, c.in_ok-reserve_for-2.ensures.ok, many) in
+    omega (arith, c.in_ok-reserve_for-2.ensures.room, many) in
     rw (
       c.reserve_for.ensures.items,
       c.reserve_for-2.ensures.items,
       c.reserve_for.ensures.len,
       c.reserve_for-2.ensures.len,
-      c.in_ok-hand_in.ensures.ok s.failures.items,
+      c.in_ok-hand_in.ensures.handed s.failures.items,
     )
     (held_roomy set c.args.partition c.args.exec c.args.now _ _
     (rw (← c.self.view_is) at c.requires) failures durations c.self.invariant)

@@ -16,7 +16,7 @@ invariant_of-self-then-not-has_room c =
     ap (λ k. list_any (is_of k) f.shuffles.items) own
     ∙ ap (list_any (is_of c.args.shuffle)) (sym c.as_slice.ensures.value)
     ∙ sym c.has_room.ensures ∙ c.if-not-has_room.true in
-    rw (c.push_reserved.ensures.items, c.reserve.ensures.items, c.in_ok-add.ensures.ok) (
+    rw (c.push_reserved.ensures.items, c.reserve.ensures.items, c.in_ok-add.ensures.added) (
       sized_sound (tracker_data f.shuffles.items f.trust.items f.epoch) s c.args.maps is
           c.self.invariant.0,
       c.self.invariant.1,

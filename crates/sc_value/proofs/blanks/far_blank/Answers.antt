@@ -4,7 +4,7 @@ use Rattle.std.proofs.lemmas.Iterator.Search.{position_from_yields_List}
 use Rattle.std.specs.List.{position_or_len}
 use Rattle.sc_value.specs.Words.{is_blank}
 use Rattle.sc_value.proofs.PieceLemmas.{position_or_length, piece_within}
-use Rattle.sc_value.proofs.words.word_len.Goals as goal
+use Rattle.sc_value.proofs.blanks.far_blank.Goals as goal
 
 pub returns-clause-len : goal.returns-clause-len
 returns-clause-len c =
