@@ -14,11 +14,18 @@ use Rattle.sc_files.specs.declared.files.Files as files
 use Rattle.sc_staging.specs.contracts.outputs.Output as output
 use Rattle.sc_staging.specs.contracts.staging.Staging as staging
 use Rattle.sc_work.specs.declared.naming.Naming as naming
-use Rattle.sc_exec.proofs.JobsCross.{desk_send, store_send}
-use Rattle.sc_exec.specs.contracts.driver.Driver as driver
+use Rattle.atomic_table.proofs.shared.Seat.TheSendSync as seat
+use Rattle.crossbeam_queue.proofs.array_queue.Slotted.TheSendSync as slotted
+use Rattle.sc_queue.proofs.rules.Posted.TheSendSync as posted
+use Rattle.sc_exec.proofs.JobsCross.{desk_send, entry_send, report_send, store_send}
+use Rattle.sc_exec.specs.contracts.crews.Member as member
 use Rattle.sc_exec.specs.contracts.helms.Helm as helm
+use Rattle.sc_exec.specs.contracts.visits.Witnessed as witnessed
+use Rattle.sc_exec.specs.contracts.driver.Driver as driver
+use Rattle.sc_exec.specs.contracts.job_desks.JobDesk as job_desk
 use Rattle.sc_exec.specs.contracts.places.Stores as stores
 use Rattle.sc_exec.specs.declared.openings.Opening as opening
+use Rattle.sc_queue.specs.declared.queued.Queued as queued
 
 ruleset known = (text.the_send, text.the_sync, name.the_send, name.the_sync, crosses, sendable)
 
@@ -30,17 +37,45 @@ output_send : (F : RattleType) (f : files.Ghosts F.Denot) → IsSend F
     → IsSend (output.the_field F f).row
 output_send F f s = search (staging_send, crosses, sendable) depth 60 fits 20000
 
-pub helm_send : (W J F : RattleType) (g : naming.Ghosts W.Denot) (o : opening.Ghosts J.Denot)
+pub job_desk_send : (W J F : RattleType) (g : naming.Ghosts W.Denot) (o : opening.Ghosts J.Denot)
     (f : files.Ghosts F.Denot) → IsSend W → IsSend J → IsSend F
-    → IsSend (helm.the_row W J F g o f)
-helm_send W J F g o f s t u =
+    → IsSend (job_desk.the_row W J F g o f)
+job_desk_send W J F g o f s t u =
     search (desk_send, output_send, crosses, sendable) depth 60 fits 20000
 
+-- what is on its way, and what lies behind the lock
+pub witnessed_send : (W : RattleType) (g : naming.Ghosts W.Denot) → IsSend W
+    → IsSend (witnessed.the_row W g)
+witnessed_send W g s = search (report_send, crosses, sendable) depth 60 fits 20000
+
+pub helm_send : (W J F : RattleType) (g : naming.Ghosts W.Denot) (o : opening.Ghosts J.Denot)
+    (q : queued.Ghosts J.Denot) (f : files.Ghosts F.Denot) → IsSend W → IsSend J → IsSend F
+    → IsSend (helm.the_row W J F g o q f)
+helm_send W J F g o q f s t u =
+    search (job_desk_send, witnessed_send, posted.the_send, seat.the_send, crosses, sendable)
+    depth 60 fits 20000
+
 pub driver_sync : (W J F : RattleType) (g : naming.Ghosts W.Denot) (o : opening.Ghosts J.Denot)
-    (f : files.Ghosts F.Denot) → IsSend W → IsSend J → IsSend F
-    → IsSync (driver.the_row W J F g o f)
-driver_sync W J F g o f s t u =
-    search (helm_send, mutex.the_sync, crosses, sendable) depth 60 fits 20000
+    (q : queued.Ghosts J.Denot) (f : files.Ghosts F.Denot) → IsSend W → IsSend J → IsSend F
+    → IsSync (driver.the_row W J F g o q f)
+driver_sync W J F g o q f s t u =
+    search (
+      helm_send,
+      witnessed_send,
+      posted.the_send,
+      slotted.the_sync,
+      mutex.the_sync,
+      crosses,
+      sendable,
+    )
+    depth 60 fits 20000
+
+-- an executor with its side of the queue
+pub member_send : (W J : RattleType) (g : naming.Ghosts W.Denot) (q : queued.Ghosts J.Denot)
+    → IsSend W → IsSend J → IsSend (member.the_row W J g q)
+member_send W J g q s t =
+    search (entry_send, witnessed_send, posted.the_send, seat.the_send, crosses, sendable)
+    depth 60 fits 20000
 
 pub stores_sync : (W : RattleType) (g : naming.Ghosts W.Denot) → IsSend W
     → IsSync (stores.the_row W g)

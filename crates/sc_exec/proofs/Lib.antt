@@ -1,13 +1,15 @@
+pub mod CrewLemmas
 pub mod Crossing
-pub mod HelmLemmas
+pub mod DrainLemmas
+pub mod JobDeskLemmas
 pub mod HinderLemmas
 pub mod JobsCross
 pub mod LogLemmas
 pub mod OwedLemmas
 pub mod PartLemmas
 pub mod ReadingLemmas
+pub mod ReceiptLemmas
 pub mod TurnLemmas
 pub mod Unread
 pub mod VerdictLemmas
-pub mod WorkerLemmas
 pub mod WorksCross

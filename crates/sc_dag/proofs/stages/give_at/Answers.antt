@@ -30,12 +30,12 @@ returns-then-stage-len c =
     let at = c.index_mut.ensures.value in
     let is = c.give.ensures in
     record {
-      ok = on_ok_weaker c.give.result
+      given = on_ok_weaker c.give.result
           (λ e. view_changed (λ r. r.state) rows a.stage old new
           (changed_newest (λ set. handed set a.partition c.args.exec c.args.now)) there at e)
-          is.ok;
-      err = on_err_weaker c.give.result
-          (λ e. view_kept (λ r. r.state) rows a.stage old new there at e) is.err;
+          is.given;
+      refused = on_err_weaker c.give.result
+          (λ e. view_kept (λ r. r.state) rows a.stage old new there at e) is.refused;
       stages = view_kept (λ r. r.stage) rows a.stage old new there at is.stage;
       ready = view_kept (λ r. r.is_ready) rows a.stage old new there at is.ready;
     }
