@@ -7,3 +7,4 @@ pub mod PairLemmas
 pub mod BoundLemmas
 mod RangeLemmas
 mod SelectLemmas
+pub mod LevelLemmas

@@ -15,6 +15,7 @@
 mod ends;
 mod fronts;
 mod laws;
+mod levels;
 mod ranges;
 mod selecting;
 mod sorting;
