@@ -5,6 +5,7 @@ pub mod SideLemmas
 pub mod FirstLemmas
 pub mod SpanLemmas
 pub mod GroupLemmas
+pub mod RunLemmas
 pub mod CrossLemmas
 pub mod MeetLemmas
 pub mod FoldLemmas
