@@ -10,3 +10,4 @@ pub mod JoinLemmas
 pub mod FlatLemmas
 pub mod PrintLemmas
 pub mod FindingLemmas
+pub mod GatherLemmas

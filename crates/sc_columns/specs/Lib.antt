@@ -4,3 +4,4 @@ pub mod Flat
 pub mod Prints
 pub mod Runs
 pub mod Parts
+pub mod Gathers

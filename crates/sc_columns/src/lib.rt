@@ -20,6 +20,7 @@ mod chains;
 mod columns;
 mod filters;
 mod flats;
+mod gathers;
 mod gets;
 mod growing;
 mod joins;
@@ -37,5 +38,6 @@ mod text_runs;
 mod views;
 
 pub use builder::RowsBuilder;
+pub use gathers::{RowRange, push_range, rows_of_ranges};
 pub use rows::Rows;
 pub use views::{Both, Lists};

@@ -132,3 +132,19 @@ barred_hinders exec h (Err lefts.JobEnded) barred = absurd barred
 barred_hinders exec h (Err (lefts.Stopped first)) barred = absurd barred
 barred_hinders exec h (Err lefts.Lost) barred = absurd barred
 barred_hinders exec h (Err (lefts.Busy held)) barred = absurd barred
+
+-- a store that an attempt has no use of, and that its next block is to lie in, hinders its reading
+pub barred_unread : {T : Type 0} (next : Next) (block : BlockId) (loc : Loc) (r : Result T Left)
+    → next ≡ Fetch block loc → IfErr r (IsBarred loc.exec) → IfErr r (IsUnread next)
+barred_unread next block loc (Ok x) is barred = barred
+barred_unread next block loc (Err (lefts.Stranger (strangers.Store m))) is barred =
+    subst (IsNextSo (λ b l. IsMisplaced l.exec m)) (sym is) barred
+barred_unread next block loc (Err lefts.NoMemory) is barred = tt
+barred_unread next block loc (Err (lefts.Stranger (strangers.Report refused))) is barred =
+    absurd barred
+barred_unread next block loc (Err (lefts.Absent absence)) is barred = absurd barred
+barred_unread next block loc (Err (lefts.Early early)) is barred = absurd barred
+barred_unread next block loc (Err lefts.JobEnded) is barred = absurd barred
+barred_unread next block loc (Err (lefts.Stopped first)) is barred = absurd barred
+barred_unread next block loc (Err lefts.Lost) is barred = absurd barred
+barred_unread next block loc (Err (lefts.Busy held)) is barred = absurd barred

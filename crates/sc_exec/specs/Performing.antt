@@ -1,5 +1,5 @@
 -- How far an executor comes with a task by stores alone.
-use Rattle.std.specs.Prelude.{ℕ, ◌≡◌, ◌+◌, Contains}
+use Rattle.std.specs.Prelude.{ℕ, ◌≡◌, ◌≤◌, ◌+◌, Contains}
 use Rattle.sc_lineage.specs.ScriptData.{WorkData}
 use Rattle.sc_tracker.specs.declared.outputs.Location.TheVariants.{Here}
 use Rattle.sc_core.specs.HandOuts.{HandOutData}
@@ -38,6 +38,10 @@ IsOfReading finding = ⊥
 abbrev pub Gets : {W : _} → AssignedData → Got W → Type 0
 Gets a (got.Next next) = next ≡ assigned_data a.task (a.got + 1)
 Gets a (got.Report report) = (report.task ≡ a.task) × IsOfReading report.finding
+
+-- an attempt of the same task has read further, or is where it was
+abbrev pub IsFurther : AssignedData → AssignedData → Type 0
+IsFurther a after = (after.task ≡ a.task) × (a.got ≤ after.got)
 
 -- what the attempt of a task gets that goes for all its blocks: it has read all, or reports of one
 abbrev pub IsGathered : {W : _} → TaskData → Gathered W → Type 0

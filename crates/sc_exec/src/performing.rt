@@ -1,7 +1,7 @@
 //! What an executor does with a task, store by store.
 #![tactic(auto)]
 
-ghost use Rattle.std.specs.Prelude.{◌≡◌, ◌≢◌, ◌<◌, All, IfErr, IfOk, false};
+ghost use Rattle.std.specs.Prelude.{◌≡◌, ◌≢◌, ◌<◌, All, IfErr, IfOk, false, true};
 ghost use Rattle.sc_net.specs.Tasks.{is_map_task};
 ghost use Rattle.sc_task.specs.Nexts.{next_of};
 ghost use Rattle.sc_task.specs.declared.next.Next.{Next};
@@ -84,12 +84,37 @@ fn gather<W: Naming, R: Wait>(
 {
     let mut state = assign(alloc, task);
     while state.next() != Next::Complete {
+        if read_next(rt, stores, exec, &mut state)? {
+            continue;
+        }
         match get_next(rt, stores, exec, state)? {
             Got::Next(next) => state = next,
             Got::Report(report) => return Ok(Gathered::Report(report)),
         }
     }
     Ok(Gathered::Read(state.ready(alloc)))
+}
+
+/// An executor reads the next blocks of its attempt at the store where the first of them lies, as
+/// long as they are there, and answers whether it has read any. Where it hasn't, nothing changes.
+fn read_next<W: Naming, R: Wait>(
+    rt: &R,
+    stores: &Stores<W>,
+    exec: ExecId,
+    state: &mut Assigned<W>,
+) -> Result<bool, Left>
+    requires lay { All (LiesOrLay W.work.limits.executors) state.old.task.hand_out.inputs }
+    ensures same { state.new.task ≡ state.old.task }
+    ensures some { IfOk result (λ some. some ≡ true → state.old.got < state.new.got) }
+    ensures none { IfOk result (λ some. some ≡ false → state.new ≡ state.old) }
+    ensures hinders { IfErr result (Hinders exec state.old.task.hand_out) }
+{
+    let Next::Fetch { loc, .. } = state.next() else {
+        return Ok(false);
+    };
+    let before = state.count();
+    stores.read_more(rt, loc.exec, state)?;
+    Ok(before < state.count())
 }
 
 /// An executor goes for the next block of its attempt, which lies on some executor, or had no

@@ -6,12 +6,12 @@ ghost use Rattle.std.specs.Sync.Mutex.{mutex_guard_value};
 ghost use Rattle.sc_task.specs.Nexts.{FetchesFrom, next_of};
 ghost use Rattle.sc_exec.specs.Fetching.{IsBarred, IsUnread};
 ghost use Rattle.sc_exec.specs.Lefts.{IsDue};
-ghost use Rattle.sc_exec.specs.Performing.{Gets, IsPrepared};
+ghost use Rattle.sc_exec.specs.Performing.{Gets, IsFurther, IsPrepared};
 ghost use Rattle.sc_exec.specs.Places.{IsMisplaced};
 
 use crate::lefts::Left;
 use crate::performing::{Got, Prepared, hand_over, is_map};
-use crate::visits::{cached_from, carry_out_at, fetch_from, keep_made, put_block};
+use crate::visits::{cached_from, carry_out_at, fetch_from, keep_made, put_block, read_from};
 use sc_ids::ExecId;
 use sc_plan::Order;
 use sc_store::Store;
@@ -104,6 +104,21 @@ impl<W: Naming> Stores<W> {
     {
         let store = self.open_store(rt, exec)?;
         fetch_from(&store, state)
+    }
+
+    /// An attempt reads the blocks that are next, as long as they lie in the store of an executor.
+    pub(crate) fn read_more<R: Wait>(
+        &self,
+        rt: &R,
+        exec: ExecId,
+        state: &mut Assigned<W>,
+    ) -> Result<(), Left>
+        requires known { exec < W.work.limits.executors }
+        ensures further { IsFurther state.old state.new }
+        ensures barred { IfErr result (IsBarred exec) }
+    {
+        let store = self.open_store(rt, exec)?;
+        read_from(&store, state)
     }
 
     /// Takes the partitions of cache nodes that an attempt needs from the store of its executor.

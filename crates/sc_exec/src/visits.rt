@@ -7,7 +7,7 @@ ghost use Rattle.sc_net.specs.Tasks.{is_map_task, target_of_task};
 ghost use Rattle.sc_task.specs.Caches.{KeepsEach, TakesCached};
 ghost use Rattle.sc_task.specs.Nexts.{FetchesFrom, next_of};
 ghost use Rattle.sc_task.specs.States.{computed_data, read_data};
-ghost use Rattle.sc_task.specs.Steps.{PutsOwn};
+ghost use Rattle.sc_task.specs.Steps.{PutsOwn, ReadsMore};
 ghost use Rattle.sc_exec.specs.Fetching.{GetsFrom, IsBarred, IsOfNoStore, LacksFrom};
 ghost use Rattle.sc_exec.specs.Performing.{IsPrepared};
 ghost use Rattle.sc_exec.specs.Places.{IsCarriedOut, IsWantOfMemory};
@@ -89,6 +89,17 @@ pub(crate) fn fetch_from<W: Naming>(store: &Store<W>, state: Assigned<W>) -> Res
         Ok(Took::Next(next)) => Ok(Got::Next(next)),
         Ok(Took::Gone(report)) => Ok(Got::Report(Witnessed { report })),
         Ok(Took::Absent { loc, .. }) => Err(Left::Absent(Absence { loc })),
+        Err(_) => Err(Left::NoMemory),
+    }
+}
+
+/// An attempt reads the blocks that are next, as long as they lie in a store.
+pub(crate) fn read_from<W: Naming>(store: &Store<W>, state: &mut Assigned<W>) -> Result<(), Left>
+    ensures more { ReadsMore state.old store.now state.new }
+    ensures none { IfErr result IsWantOfMemory }
+{
+    match state.read_more(store) {
+        Ok(()) => Ok(()),
         Err(_) => Err(Left::NoMemory),
     }
 }

@@ -1,12 +1,13 @@
 //! Rows cut into ranges.
 #![tactic(auto)]
 
-ghost use Rattle.std.specs.Prelude.{◌≡◌, ◌<◌, ◌++◌, [], IfOk, List, get_or, if◌then◌else◌, is_ok, length, slice_range};
+ghost use Rattle.std.specs.Prelude.{◌≡◌, ◌<◌, [], IfOk, List, get_or, length, slice_range};
 ghost use Rattle.sc_base.specs.Lists.{at_or};
+ghost use Rattle.sc_columns.specs.Gathers.{range_rows};
 ghost use Rattle.sc_keys.specs.Splits.{AreEnds, begin_of, cut_from};
 ghost use Rattle.sc_value.specs.Datum.{Datum};
 
-use sc_columns::{Rows, RowsBuilder};
+use sc_columns::{RowRange, Rows};
 use std::alloc::{AllocError, Global};
 use std::marker::Model;
 
@@ -23,7 +24,8 @@ pub struct CutRows {
 impl Model for CutRows {
     ghost use Rattle.std.specs.Prelude.{List, length};
     ghost use Rattle.std.specs.Coded.{coded_list};
-    ghost use Rattle.sc_keys.specs.Splits.{AreEnds, cut_from};
+    ghost use Rattle.sc_columns.specs.Gathers.{range_rows};
+ghost use Rattle.sc_keys.specs.Splits.{AreEnds, cut_from};
     ghost use Rattle.sc_value.specs.Datum.{Datum};
     ghost use Rattle.sc_value.specs.DatumCode.{datum_code};
 
@@ -60,18 +62,16 @@ impl CutRows {
         self.rows.part(alloc, from, to)
     }
 
-    /// Adds the rows of a number behind others; past the last number there are none.
-    pub fn add_to(
-        &self,
-        alloc: Global,
-        number: usize,
-        out: &mut RowsBuilder,
-    ) -> Result<(), AllocError>
-        ensures { out.new
-            ≡ (if is_ok result then out.old ++ at_or self.now number [] else out.old) }
+    /// The rows of a number as a range of all; past the last number there are none.
+    pub fn range(&self, number: usize) -> RowRange<'_>
+        ensures { range_rows result ≡ at_or self.now number [] }
     {
         let (from, to) = range_of(self.ends.as_slice(), number);
-        out.append_part(alloc, &self.rows, from, to)
+        RowRange {
+            rows: &self.rows,
+            from,
+            to,
+        }
     }
 }
 

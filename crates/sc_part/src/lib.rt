@@ -16,6 +16,7 @@ mod ends;
 mod fronts;
 mod laws;
 mod ranges;
+mod rooms;
 mod selecting;
 mod sorting;
 

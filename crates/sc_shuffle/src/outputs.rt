@@ -1,12 +1,13 @@
 //! Map outputs.
 #![tactic(auto)]
 
-ghost use Rattle.std.specs.Prelude.{◌≡◌, ◌<◌, ◌++◌, [], IfOk, if◌then◌else◌, is_ok, length};
+ghost use Rattle.std.specs.Prelude.{◌≡◌, ◌<◌, [], IfOk, length};
 ghost use Rattle.std.specs.List.{All, flat_map};
 ghost use Rattle.sc_base.specs.Lists.{at_or};
+ghost use Rattle.sc_columns.specs.Gathers.{range_rows};
 ghost use Rattle.sc_shuffle.specs.Buckets.{by_bucket};
 
-use sc_columns::{Rows, RowsBuilder};
+use sc_columns::{RowRange, Rows, push_range, rows_of_ranges};
 use sc_keys::{CutRows, Split};
 use std::alloc::{AllocError, Global};
 use std::marker::Model;
@@ -66,12 +67,11 @@ impl MapOutput {
         self.buckets.rows(alloc, bucket)
     }
 
-    /// Adds the rows of a bucket behind others; past the last bucket there are none.
-    fn add_to(&self, alloc: Global, bucket: usize, out: &mut RowsBuilder) -> Result<(), AllocError>
-        ensures { out.new
-            ≡ (if is_ok result then out.old ++ at_or self.now bucket [] else out.old) }
+    /// The rows of a bucket as a range of all; past the last bucket there are none.
+    fn range(&self, bucket: usize) -> RowRange<'_>
+        ensures { range_rows result ≡ at_or self.now bucket [] }
     {
-        self.buckets.add_to(alloc, bucket, out)
+        self.buckets.range(bucket)
     }
 
     /// The same output again, which copies nothing of it.
@@ -96,9 +96,9 @@ pub fn rows_of_bucket(
     if let [only] = outputs {
         return only.rows(alloc, bucket);
     }
-    let mut out = RowsBuilder::new(alloc);
+    let mut ranges = Vec::with_capacity(alloc, outputs.len())?;
     for output in outputs {
-        output.add_to(alloc, bucket, &mut out)?;
+        push_range(&mut ranges, output.range(bucket))?;
     }
-    out.finish(alloc)
+    rows_of_ranges(alloc, &ranges)
 }

@@ -8,3 +8,4 @@ pub mod FetchLemmas
 pub mod OrderLemmas
 pub mod CacheLemmas
 pub mod KeepingLemmas
+pub mod MoreLemmas

@@ -1,5 +1,5 @@
 -- What the steps of an attempt do.
-use Rattle.std.specs.Prelude.{◌≡◌, ◌≤◌, ◌<◌, ◌+◌, All, false, List, Some, None, is_some, true}
+use Rattle.std.specs.Prelude.{ℕ, ◌≡◌, ◌≤◌, ◌<◌, ◌+◌, All, false, List, Some, None, is_some, true}
 use Rattle.sc_ids.specs.declared.blocks.BlockId.{BlockId}
 use Rattle.sc_ids.specs.declared.blocks.Loc.{Loc}
 use Rattle.sc_lineage.specs.ScriptData.{WorkData}
@@ -16,6 +16,7 @@ use Rattle.sc_net.specs.Reports.{report_data}
 use Rattle.sc_net.specs.Tasks.{TaskData, block_of_task, is_planned, target_of_task}
 use Rattle.sc_net.specs.declared.findings.Finding.{Finding}
 use Rattle.sc_net.specs.declared.findings.Finding.TheVariants as findings
+use Rattle.sc_task.specs.Nexts.{next_of}
 use Rattle.sc_task.specs.States.{AssignedData, assigned_data}
 use Rattle.sc_task.specs.declared.next.Next.{Next}
 use Rattle.sc_task.specs.declared.next.Next.TheVariants.{Fetch, Missing, Complete}
@@ -44,6 +45,20 @@ abbrev pub Reads : {W : _} → AssignedData → StoreData → Next → Took W �
 Reads a store (Fetch block loc) took = Fetches a store block loc took
 Reads a store (Missing last) took = ⊥
 Reads a store Complete took = ⊥
+
+-- a block that is next lies on the executor of a store that isn't past its generation and has it
+abbrev pub IsThere : StoreData → Next → Type 0
+IsThere store (Fetch block loc) =
+    (loc.exec ≡ store.exec) × (store.generation ≤ loc.generation)
+    × (is_some (output_in store block) ≡ true)
+IsThere store (Missing last) = ⊥
+IsThere store Complete = ⊥
+
+-- An attempt has read further, or is where it was: each block that it read since is in the store.
+pub record ReadsMore (a : AssignedData) (store : StoreData) (after : AssignedData) : Type 0 where
+  pub same : after.task ≡ a.task
+  pub more : a.got ≤ after.got
+  pub there : (k : ℕ) → a.got ≤ k → k < after.got → IsThere store (next_of a.task k)
 
 -- What a failed attempt reports in place of what it computes: that the plan fails it, exactly where
 -- it does; and else its own raise.

@@ -1,13 +1,13 @@
 //! Attempts that read.
 #![tactic(auto)]
 
-ghost use Rattle.std.specs.Prelude.{◌≡◌, ◌<◌, ◌+◌, [], IfErr, IfOk, Some, slice_get, vec_len};
+ghost use Rattle.std.specs.Prelude.{◌≡◌, ◌<◌, ◌+◌, [], IfErr, IfOk, OnErr, OnOk, Some, slice_get, vec_len};
 ghost use Rattle.sc_net.specs.Reports.{WasGiven, loc_at, report_data};
 ghost use Rattle.sc_net.specs.Tasks.{blocks_of_task};
 ghost use Rattle.sc_net.specs.declared.findings.Finding.{Finding};
 ghost use Rattle.sc_task.specs.Nexts.{FetchesFrom, LaySomewhere, Misses, next_of};
 ghost use Rattle.sc_task.specs.States.{HasReadAll, assigned_data, read_data};
-ghost use Rattle.sc_task.specs.Steps.{Reads};
+ghost use Rattle.sc_task.specs.Steps.{Reads, ReadsMore};
 ghost use Rattle.sc_task.specs.declared.next.Next.{Next};
 ghost use Rattle.sc_tracker.specs.declared.outputs.Location.{Location};
 
@@ -65,6 +65,13 @@ impl<W: Naming> Assigned<W> {
         ensures { result.now ≡ self.now.task }
     {
         &self.task
+    }
+
+    /// How many blocks it has read.
+    pub fn count(&self) -> usize
+        ensures { result ≡ self.now.got }
+    {
+        self.got.len()
     }
 
     /// What is to be done next.
@@ -128,23 +135,62 @@ impl<W: Naming> Assigned<W> {
         ensures more { IfOk result (λ a. a ≡ assigned_data self.task (self.got + 1)) }
         ensures back { IfErr result (λ failed. failed.value ≡ self) }
     {
-        let Assigned {
-            task,
-            mut got,
-            cursor,
-        } = self;
+        let mut state = self;
+        match state.add(block) {
+            Ok(()) => Ok(state),
+            Err(_) => Err(AllocFailed { value: state }),
+        }
+    }
+
+    /// Takes in the next block. A refused call changes nothing.
+    fn add(&mut self, block: Block<W>) -> Result<(), AllocError>
+        requires next { slice_get (blocks_of_task self.old.task) self.old.got ≡ Some block.id }
+        ensures more { OnOk result (self.new ≡ assigned_data self.old.task (self.old.got + 1)) }
+        ensures refused { OnErr result (self.new ≡ self.old) }
+    {
         let (_, output) = block.into_parts();
-        match got.push(output) {
-            Ok(()) => {
-                let cursor = match cursor {
-                    Some(cursor) => cursor.next(&task),
-                    None => None,
-                };
-                Ok(Assigned { task, got, cursor })
+        self.got.push(output)?;
+        let cursor = match self.cursor {
+            Some(cursor) => cursor.next(&self.task),
+            None => None,
+        };
+        self.cursor = cursor;
+        Ok(())
+    }
+
+    /// Reads the blocks that are next, as long as they lie on the executor of a store and it has
+    /// them: so a store is opened once for many. Why the next one isn't read then is told by
+    /// [`Assigned::read`]. A refused call may have read some.
+    #[tactic(auto, using(crate::proofs::MoreLemmas::more_none, crate::proofs::MoreLemmas::more_more))]
+    pub fn read_more(&mut self, store: &Store<W>) -> Result<(), AllocError>
+        ensures { ReadsMore self.old store.now self.new }
+    {
+        for _ in self.got.len()..self.task.hand_out().inputs().len() {
+            if !self.read_there(store)? {
+                return Ok(());
             }
-            Err(_) => Err(AllocFailed {
-                value: Assigned { task, got, cursor },
-            }),
+        }
+        Ok(())
+    }
+
+    /// Reads the next block, and answers whether it lies on the executor of a store that has it.
+    /// Where it doesn't, and where the call is refused, nothing changes.
+    #[tactic(auto, using(crate::proofs::MoreLemmas::more_none, crate::proofs::MoreLemmas::more_one))]
+    fn read_there(&mut self, store: &Store<W>) -> Result<bool, AllocError>
+        ensures { ReadsMore self.old store.now self.new }
+    {
+        let Next::Fetch { block, loc } = self.next() else {
+            return Ok(false);
+        };
+        if loc.exec != store.exec() {
+            return Ok(false);
+        }
+        match store.fetch(block, loc)? {
+            FetchAnswer::Found(block) => {
+                self.add(block)?;
+                Ok(true)
+            }
+            FetchAnswer::Gone { .. } | FetchAnswer::Absent => Ok(false),
         }
     }
 
