@@ -7,6 +7,7 @@ ghost use Rattle.sc_gen.specs.Script.{Gives, gen_script, new_files, shown_files}
 
 use crate::lines::workload;
 use sc_input::{ReadAnswer, Source};
+use sc_rope::Rope;
 use sc_value::{Name, Octets};
 use std::alloc::{AllocError, Global};
 use std::marker::Model;
@@ -15,8 +16,8 @@ use std::marker::Model;
 /// it goes over, which it calls `gen`. A read of any other name misses.
 #[derive(Drop)]
 pub struct Generated {
-    script: (Name, Octets),
-    lines: (Name, Octets),
+    script: (Name, Rope),
+    lines: (Name, Rope),
     misses: u64,
 }
 
@@ -35,12 +36,11 @@ impl Generated {
         ensures { IfOk result (λ g. g ≡ new_files script seed size) }
     {
         let lines = workload(alloc, seed, size)?;
+        let lines = Octets::copy_of(alloc, lines.as_bytes())?;
+        let text = Octets::copy_of(alloc, gen_script().as_bytes())?;
         Ok(Generated {
-            script: (script, Octets::copy_of(alloc, gen_script().as_bytes())?),
-            lines: (
-                Name::new(alloc, "gen")?,
-                Octets::copy_of(alloc, lines.as_bytes())?,
-            ),
+            script: (script, Rope::of(alloc, text)?),
+            lines: (Name::new(alloc, "gen")?, Rope::of(alloc, lines)?),
             misses: 0,
         })
     }
@@ -53,7 +53,7 @@ impl Source for Generated {
 
     ghost state = { shown_files };
 
-    fn read(&mut self, name: &Name) -> ReadAnswer
+    fn read(&mut self, name: &Name, _threads: u32) -> ReadAnswer
         ensures later { IsLaterSource (shown_files self.old) (shown_files self.new) }
         ensures asked { AsksOnce (shown_files self.old) (shown_files self.new) name.now result }
         ensures cause { IsReadCause (shown_files self.old) (shown_files self.new) name.now result }
@@ -70,7 +70,7 @@ impl Source for Generated {
 }
 
 /// The bytes of a file, once more.
-fn given(bytes: &Octets) -> ReadAnswer
+fn given(bytes: &Rope) -> ReadAnswer
     ensures { Gives bytes.now result }
 {
     match bytes.share() {

@@ -46,6 +46,13 @@ TakesIn before after reader reader' Failed =
 TakesIn before after reader reader' OutOfMemory =
     (after ≡ before) × (reader'.faults ≡ reader.faults)
 
+-- Takes in a file in parts, by the answer: at most so many bytes, or one more fault.
+abbrev pub TakesApart : SourceState → SourceState → ReadAnswer → Type 0
+TakesApart before after (Bytes bytes) = (after ≡ before) × (length bytes ≤ most_bytes)
+TakesApart before after NoFile = ⊥
+TakesApart before after Failed = after ≡ with_fault before
+TakesApart before after OutOfMemory = after ≡ before
+
 -- Refuses a file that couldn't be opened, by the answer, which tells the kind of the error: there
 -- is no such file, memory ran out, or any other kind.
 abbrev pub Refuses : SourceState → SourceState → ErrorKind → ReadAnswer → Type 0

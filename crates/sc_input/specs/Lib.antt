@@ -1,3 +1,4 @@
+pub mod Apart
 pub mod Host
 pub mod Memory
 pub mod Readers

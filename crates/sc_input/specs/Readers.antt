@@ -74,3 +74,18 @@ abbrev pub ReadsAll :
 ReadsAll limit before after (Ok bytes) = GivesAll limit before after bytes
 ReadsAll limit before after (Err (Fault fault)) = IsReadFault limit before after fault
 ReadsAll limit before after (Err OutOfMemory) = after.faults ≡ before.faults
+
+-- a reader gave its next bytes, no more than so many, and fewer only at the end
+pub record GivesFront (most : ℕ) (before after : ReaderState) (bytes : List ℕ) : Type 0 where
+  pub within : length bytes ≤ most
+  pub given : Consumes before.left after.left bytes
+  pub ended : length bytes < most → IsAtEnd after.left
+  pub faults : after.faults ≡ before.faults
+
+-- Reads the next bytes, by the answer. Where memory ran out no read failed.
+abbrev pub ReadsFront :
+    ℕ → ReaderState → ReaderState → Result (List ℕ) (OrMemory ReadFault) → Type 0
+ReadsFront most before after (Ok bytes) = GivesFront most before after bytes
+ReadsFront most before after (Err (Fault TooLarge)) = ⊥
+ReadsFront most before after (Err (Fault Failed)) = after.faults ≡ counted before.faults
+ReadsFront most before after (Err OutOfMemory) = after.faults ≡ before.faults

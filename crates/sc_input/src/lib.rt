@@ -8,11 +8,14 @@
 //!
 //! What no contract can say is which bytes a path of the system has. So reading is
 //! [`read_limited`], over any reader: all that it has left up to the limit, or why not. A
-//! [`CountedReader`] counts the reads that failed, so that these can be told from want of memory.
+//! [`CountedReader`] counts reads that failed, so that these can be told from want of memory.
+//! [`read_apart`] gives what can be opened at any place in parts that threads read, each into its
+//! own memory.
 //! [`slice`] says where a slice of a list begins and where it ends, and [`slices_cover`] that the
 //! slices are the whole list. Names and bytes come from `sc_value`, counts from `sc_base`.
 #![tactic(auto)]
 
+mod apart;
 mod host;
 mod memory;
 mod readers;
@@ -20,6 +23,7 @@ mod slices;
 mod source;
 mod whole;
 
+pub use apart::{Opens, read_apart};
 pub use host::HostSource;
 pub use memory::MemSource;
 pub use readers::{CountedReader, ReadFailed};

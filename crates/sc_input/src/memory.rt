@@ -1,13 +1,14 @@
 //! A source in memory.
 #![tactic(auto)]
 
-ghost use Rattle.std.specs.Prelude.{◌≡◌, Some, if◌then◌else◌, is_ok};
+ghost use Rattle.std.specs.Prelude.{◌≡◌, IfOk, Some, if◌then◌else◌, is_ok};
 ghost use Rattle.std.specs.Option.{option_copied};
 ghost use Rattle.sc_base.specs.Lists.{content_of};
 ghost use Rattle.sc_base.specs.Outside.{IsLaterSource};
 ghost use Rattle.sc_input.specs.Memory.{no_files, shown_files, with_failing_call, with_file};
 
 use crate::source::{ReadAnswer, Source};
+use sc_rope::Rope;
 use sc_value::{Name, Octets};
 use std::alloc::{AllocError, Global};
 use std::marker::Model;
@@ -49,7 +50,7 @@ impl Source for MemSource {
 
     ghost state = { shown_files };
 
-    fn read(&mut self, name: &Name) -> ReadAnswer
+    fn read(&mut self, name: &Name, _threads: u32) -> ReadAnswer
         ensures later { IsLaterSource (shown_files self.old) (shown_files self.new) }
         ensures asked { AsksOnce (shown_files self.old) (shown_files self.new) name.now result }
         ensures cause { IsReadCause (shown_files self.old) (shown_files self.new) name.now result }
@@ -75,7 +76,7 @@ impl Source for MemSource {
                 self.misses = self.misses.saturating_add(1);
                 ReadAnswer::NoFile
             }
-            Some(bytes) => match bytes.share() {
+            Some(bytes) => match in_one_part(*self.asked.allocator(), bytes) {
                 Ok(bytes) => {
                     self.asked.push_reserved(asked);
                     self.calls = call;
@@ -124,6 +125,13 @@ impl MemSource {
     {
         &self.asked
     }
+}
+
+/// The same bytes again, in one part.
+fn in_one_part(alloc: Global, bytes: &Octets) -> Result<Rope, AllocError>
+    ensures { IfOk result (λ r. r ≡ bytes.now) }
+{
+    Rope::of(alloc, bytes.share()?)
 }
 
 /// The bytes of the first file of this name.

@@ -4,13 +4,14 @@
 ghost use Rattle.sc_base.specs.Outside.{SourceState, IsLaterSource};
 ghost use Rattle.sc_input.specs.Reading.{AsksOnce, IsReadCause};
 
-use sc_value::{Name, Octets};
+use sc_rope::Rope;
+use sc_value::Name;
 
 /// What a read gives.
 #[derive(Debug, Drop)]
 pub enum ReadAnswer {
     /// The bytes of the file.
-    Bytes(Octets),
+    Bytes(Rope),
     /// There is no file of this name.
     NoFile,
     /// The file couldn't be read.
@@ -29,11 +30,11 @@ pub trait Source {
     /// reads failed or missed.
     ghost state: { Self → SourceState };
 
-    /// Reads a file whole.
+    /// Reads a file whole, by at most so many threads.
     ///
     /// `NoFile` and `Failed` come exactly where their count rose in this call, and no call raises
     /// both. Where the files are shown, a name that is there gives its bytes.
-    fn read(&mut self, name: &Name) -> ReadAnswer
+    fn read(&mut self, name: &Name, threads: u32) -> ReadAnswer
         ensures later { IsLaterSource (state self.old) (state self.new) }
         ensures asked { AsksOnce (state self.old) (state self.new) name.now result }
         ensures cause { IsReadCause (state self.old) (state self.new) name.now result };

@@ -1,8 +1,8 @@
 //! Reading to the end, up to a limit.
 #![tactic(auto)]
 
-ghost use Rattle.std.specs.Prelude.{◌≡◌};
-ghost use Rattle.sc_input.specs.Readers.{ReadsAll, ReadsMore};
+ghost use Rattle.std.specs.Prelude.{◌≡◌, ◌^◌, ◌<◌, ◌≤◌, IfOk};
+ghost use Rattle.sc_input.specs.Readers.{ReadsAll, ReadsFront, ReadsMore};
 
 use crate::readers::CountedReader;
 use sc_base::OrMemory;
@@ -38,23 +38,45 @@ pub fn read_limited<R: Read + Drop>(
     let room = awaited.min(limit).saturating_add(SPARE_ROOM);
     let mut bytes = Vec::with_capacity(alloc, room)?;
     while bytes.len() <= limit {
-        if read_more(reader, &mut bytes)? == 0 {
+        let room = bytes.capacity() - bytes.len();
+        if read_more(reader, &mut bytes, room.max(SPARE_ROOM).min(MOST_AT_ONCE))? == 0 {
             return Ok(Octets::new(alloc, bytes)?);
         }
     }
     Err(OrMemory::Fault(ReadFault::TooLarge))
 }
 
-/// Puts what one more read gives behind the bytes, and tells how many these were: none only at the
-/// end.
+/// The next bytes of a reader, so many, or all that it has left where these are fewer.
+pub(crate) fn read_front<R: Read + Drop>(
+    alloc: Global,
+    reader: &mut CountedReader<R>,
+    count: usize,
+) -> Result<Octets, OrMemory<ReadFault>>
+    ensures { ReadsFront count reader.old reader.new result }
+{
+    let mut bytes = Vec::with_capacity(alloc, count)?;
+    while bytes.len() < count {
+        let room = (count - bytes.len()).min(MOST_AT_ONCE);
+        if read_more(reader, &mut bytes, room)? == 0 {
+            return Ok(Octets::new(alloc, bytes)?);
+        }
+    }
+    Ok(Octets::new(alloc, bytes)?)
+}
+
+/// Puts what one more read into so much room gives behind the bytes, and tells how many these were:
+/// none only at the end.
 fn read_more<R: Read + Drop>(
     reader: &mut CountedReader<R>,
     bytes: &mut Vec<u8>,
+    room: usize,
 ) -> Result<usize, OrMemory<ReadFault>>
-    ensures { ReadsMore reader.old reader.new bytes.old.items bytes.new.items result }
+    requires some { 0 < room }
+    requires fits { room < 2 ^ 32 }
+    ensures more { ReadsMore reader.old reader.new bytes.old.items bytes.new.items result }
+    ensures within { IfOk result (λ n. n ≤ room) }
 {
     let len = bytes.len();
-    let room = (bytes.capacity() - len).max(SPARE_ROOM).min(MOST_AT_ONCE);
     bytes.resize(len + room, 0)?;
     match reader.read_some(&mut bytes[len..]) {
         Ok(count) => {

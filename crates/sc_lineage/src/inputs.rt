@@ -1,11 +1,14 @@
 //! Inputs.
 #![tactic(auto)]
 
-ghost use Rattle.std.specs.Prelude.{◌≡◌};
+ghost use Rattle.std.specs.Prelude.{◌≡◌, map};
 ghost use Rattle.std.specs.Str.{IsUtf8};
+ghost use Rattle.sc_value.specs.Datum.{text};
 ghost use Rattle.sc_value.specs.Lines.{text_lines};
 
-use sc_value::{Name, Octets, Texts};
+use sc_columns::Rows;
+use sc_rope::Rope;
+use sc_value::Name;
 use std::marker::Model;
 
 /// A text that a script reads, with its lines, which are found once.
@@ -14,27 +17,29 @@ use std::marker::Model;
 #[derive(Drop)]
 pub struct Input {
     name: Name,
-    bytes: Octets,
-    lines: Texts,
+    bytes: Rope,
+    lines: Rows,
 }
 
 impl Model for Input {
-    ghost use Rattle.std.specs.Prelude.{◌≡◌, ℕ, List};
+    ghost use Rattle.std.specs.Prelude.{◌≡◌, ℕ, List, map};
     ghost use Rattle.std.specs.Str.{IsUtf8};
+    ghost use Rattle.sc_value.specs.Datum.{text};
     ghost use Rattle.sc_value.specs.Lines.{text_lines};
 
     ghost Value = { List ℕ × List ℕ };
 
     ghost view = { λ i. (i.name, i.bytes) };
 
-    ghost invariant = { λ i. (i.lines ≡ text_lines i.bytes) × IsUtf8 i.bytes };
+    ghost invariant = { λ i.
+        (i.lines ≡ map text (text_lines i.bytes)) × IsUtf8 i.bytes };
 }
 
 impl Input {
     /// An input of these bytes, which are text, with its lines.
-    pub fn new(name: Name, bytes: Octets, lines: Texts) -> Input
-        requires lines { lines ≡ text_lines bytes }
-        requires text { IsUtf8 bytes }
+    pub fn new(name: Name, bytes: Rope, lines: Rows) -> Input
+        requires lines { lines ≡ map text (text_lines bytes) }
+        requires utf8 { IsUtf8 bytes }
         ensures { result ≡ (name, bytes) }
     {
         Input { name, bytes, lines }
@@ -48,7 +53,7 @@ impl Input {
     }
 
     /// Its bytes.
-    pub fn bytes(&self) -> &Octets
+    pub fn bytes(&self) -> &Rope
         ensures { result.now ≡ self.now.1 }
     {
         &self.bytes
@@ -61,9 +66,9 @@ impl Input {
         let _ = &self.lines;
     }
 
-    /// Its lines.
-    pub fn lines(&self) -> &Texts
-        ensures { result.now ≡ text_lines self.now.1 }
+    /// Its lines, as rows.
+    pub fn lines(&self) -> &Rows
+        ensures { result.now ≡ map text (text_lines self.now.1) }
     {
         &self.lines
     }

@@ -4,6 +4,7 @@
 ghost use Rattle.std.specs.Prelude.{◌≡◌, IfOk, map};
 ghost use Rattle.std.specs.Option.{option_map};
 ghost use Rattle.sc_base.specs.Lists.{content_of};
+ghost use Rattle.sc_value.specs.Datum.{text};
 ghost use Rattle.sc_value.specs.Lines.{text_lines};
 ghost use Rattle.sc_ids.specs.LimitRanges.{AreLimits};
 ghost use Rattle.sc_lineage.specs.Dependencies.{parents_at};
@@ -19,7 +20,8 @@ use crate::partitioners::{Partitioner, known_at};
 use crate::scripts::Script;
 use sc_ids::Limits;
 use sc_plan::Plan;
-use sc_value::{Name, Texts};
+use sc_columns::Rows;
+use sc_value::Name;
 use std::alloc::{AllocError, Global};
 use std::marker::Model;
 
@@ -89,10 +91,10 @@ impl Work {
         &self.script
     }
 
-    /// The lines of the input of a name, where the script names it.
-    pub fn lines(&self, name: &Name) -> Option<&Texts>
-        ensures { option_map (λ t. t.now) result
-            ≡ option_map text_lines (content_of self.now.inputs name.now) }
+    /// The lines of the input of a name as rows, where the script names it.
+    pub fn lines(&self, name: &Name) -> Option<&Rows>
+        ensures { option_map (λ r. r.now) result
+            ≡ option_map (λ b. map text (text_lines b)) (content_of self.now.inputs name.now) }
     {
         find(&self.inputs, name)
     }
@@ -123,9 +125,9 @@ impl Work {
 }
 
 /// The lines of the first input of a name.
-fn find<'a>(inputs: &'a [Input], name: &Name) -> Option<&'a Texts>
-    ensures { option_map (λ t. t.now) result
-        ≡ option_map text_lines (content_of inputs.now name.now) }
+fn find<'a>(inputs: &'a [Input], name: &Name) -> Option<&'a Rows>
+    ensures { option_map (λ r. r.now) result
+        ≡ option_map (λ b. map text (text_lines b)) (content_of inputs.now name.now) }
 {
     for input in inputs {
         if input.name() == name {

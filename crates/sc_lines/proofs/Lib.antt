@@ -1,1 +1,2 @@
 mod HalfLemmas
+mod PartLemmas

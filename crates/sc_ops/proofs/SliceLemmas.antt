@@ -1,13 +1,14 @@
 -- Slices, also past the last.
-use Rattle.std.proofs.Common.{◌≡◌, ◌∙◌, ℕ, zero, suc, ◌+◌, ◌-◌, ◌*◌, ◌<◌, ◌≤◌, List, [], Option, Some, None, unwrap_or, length, take, drop, refl, ap, sym, arith, ⊎_elim}
+use Rattle.std.proofs.Common.{◌≡◌, ◌∙◌, ℕ, zero, suc, ◌+◌, ◌-◌, ◌*◌, ◌<◌, ◌≤◌, List, [], Option, Some, None, unwrap_or, length, map, take, drop, refl, ap, sym, arith, ⊎_elim}
 use Rattle.std.proofs.Math.Nat.{div-zero}
 use Rattle.std.proofs.lemmas.Bool.{cases_lt}
-use Rattle.std.proofs.lemmas.List.{drop_all}
+use Rattle.std.proofs.lemmas.List.{drop_all, drop-map, length-map, take-map}
 use Rattle.std.proofs.lemmas.Nat.{le-div, mul-le}
 use Rattle.std.specs.List.{slice_range}
 use Rattle.std.specs.Option.{option_map}
 use Rattle.sc_base.specs.Lists.{content_of}
 use Rattle.sc_base.specs.Outside.{Files}
+use Rattle.sc_value.specs.Datum.{Datum, text}
 use Rattle.sc_value.specs.Lines.{text_lines}
 use Rattle.sc_lineage.specs.Narrow.{lines_in}
 use Rattle.sc_input.specs.Slices.{slice_start, slice_of}
@@ -48,12 +49,24 @@ slice_of-bounds xs n p from to are =
     (λ (past : n ≤ p). empty_range xs from to (are.past past) ∙ sym (slice_of-past xs n p past))
     (cases_lt p n)
 
--- the lines of an input that is there
-pub lines_known : (inputs : Files) (name : List ℕ) (lines : List (List ℕ))
-    → Some lines ≡ option_map text_lines (content_of inputs name) → lines ≡ lines_in inputs name
-lines_known inputs name lines is = found (content_of inputs name) is
+-- a slice of what is made of each item is made of the slice
+pub slice_of-map : {A B : Type 0} (f : A → B) (xs : List A) (n p : ℕ)
+    → slice_of (map f xs) n p ≡ map f (slice_of xs n p)
+slice_of-map f xs n p =
+    let from = slice_start (length xs) n p in
+    let to = slice_start (length xs) n (p + 1) in
+    ap (λ len. slice_range (map f xs) (slice_start len n p) (slice_start len n (p + 1)))
+    (length-map xs f)
+    ∙ ap (take (to - from)) (drop-map f from xs)
+    ∙ take-map f (to - from) (drop from xs)
+
+-- the lines of an input that is there, as rows
+pub lines_known : (inputs : Files) (name : List ℕ) (rows : List Datum)
+    → Some rows ≡ option_map (λ b. map text (text_lines b)) (content_of inputs name)
+    → rows ≡ map text (lines_in inputs name)
+lines_known inputs name rows is = found (content_of inputs name) is
   where
-    found : (o : Option (List ℕ)) → Some lines ≡ option_map text_lines o
-        → lines ≡ text_lines (unwrap_or o [])
+    found : (o : Option (List ℕ)) → Some rows ≡ option_map (λ b. map text (text_lines b)) o
+        → rows ≡ map text (text_lines (unwrap_or o []))
     found (Some bytes) same = cc
     found None same = cc

@@ -32,7 +32,7 @@ pub fn text_slice(
     };
     let (from, to) = bounds(lines.len(), slices, p);
     Ok(Stream {
-        rows: Rows::of_texts(alloc, lines.part(from, to)?)?,
+        rows: lines.part(alloc, from, to)?,
         raise: None,
     })
 }

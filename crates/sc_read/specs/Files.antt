@@ -4,7 +4,7 @@ use Rattle.sc_base.specs.Counts.{Rose}
 use Rattle.sc_base.specs.Outside.{SourceState, HasAsked, IsQuietSource}
 use Rattle.sc_base.specs.declared.refusals.OrMemory.{OrMemory}
 use Rattle.sc_base.specs.declared.refusals.OrMemory.TheVariants.{Fault, OutOfMemory}
-use Rattle.sc_value.specs.declared.octets.Octets.{Octets}
+use Rattle.sc_rope.specs.declared.rope.Rope.{Rope}
 use Rattle.sc_read.specs.declared.stops.Unreadable.{Unreadable}
 use Rattle.sc_read.specs.declared.stops.Unreadable.TheVariants.{Missing, Failed}
 use Rattle.sc_read.specs.Reads.{IsShown, IsMissing}
@@ -30,7 +30,7 @@ pub record MissesFile (before after : SourceState) (name : List ℕ) (why : Unre
 
 -- what the reading of one file answers; where memory ran out nothing was asked or counted
 abbrev pub ReadsFile :
-    SourceState → SourceState → List ℕ → Result Octets (OrMemory Unreadable) → Type 0
+    SourceState → SourceState → List ℕ → Result Rope (OrMemory Unreadable) → Type 0
 ReadsFile before after name (Ok bytes) = TakesFile before after name bytes
 ReadsFile before after name (Err (Fault why)) = MissesFile before after name why
 ReadsFile before after name (Err OutOfMemory) = after ≡ before

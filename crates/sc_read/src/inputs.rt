@@ -12,12 +12,13 @@ use sc_base::OrMemory;
 use sc_input::Source;
 use sc_lineage::Input;
 use sc_lines::lines_by;
-use sc_value::{Name, Octets};
+use sc_rope::Rope;
+use sc_value::Name;
 use std::alloc::Global;
 use std::thread::Threads;
 
-/// Reads the input of a name, and keeps what was read. Its lines are found by at most so many
-/// threads.
+/// Reads the input of a name, and keeps what was read. It is read, and its lines are found, by at
+/// most so many threads.
 pub(crate) fn read_input<S: Source, R: Threads + Sync>(
     rt: &R,
     alloc: Global,
@@ -34,7 +35,7 @@ pub(crate) fn read_input<S: Source, R: Threads + Sync>(
     let own = name.copy(alloc)?;
     let named = name.copy(alloc)?;
     reads.reserve(1)?;
-    match read_file(source, name) {
+    match read_file(source, name, threads) {
         Ok(bytes) => {
             let input = as_input(rt, alloc, own, named, &bytes, threads);
             reads.push(Read { role, bytes }).unwrap();
@@ -56,7 +57,7 @@ fn as_input<R: Threads + Sync>(
     alloc: Global,
     own: Name,
     named: Name,
-    bytes: &Octets,
+    bytes: &Rope,
     threads: u32,
 ) -> Result<Input, OrMemory<InputStop>>
     requires { named ≡ own }

@@ -1,9 +1,11 @@
 //! The fault plan of a run.
 #![tactic(auto)]
 
-ghost use Rattle.std.specs.Prelude.{◌≡◌, IfOk};
+ghost use Rattle.std.specs.Prelude.{◌≡◌, IfErr, IfOk};
 ghost use Rattle.sc_base.specs.Outside.{IsLaterSource};
+ghost use Rattle.sc_plan.specs.Faults.{IsParseCause};
 ghost use Rattle.sc_plan.specs.PlanLines.{AreBelow};
+ghost use Rattle.sc_plan.specs.Plans.{ReadsPlan};
 ghost use Rattle.sc_read.specs.Plans.{TakesAsNamedPlan, TakesAsPlan, plan_stop};
 
 use crate::files::read_file;
@@ -12,6 +14,7 @@ use crate::stops::PlanStop;
 use sc_base::OrMemory;
 use sc_input::Source;
 use sc_plan::{Plan, PlanError, parse_plan};
+use sc_rope::Rope;
 use sc_value::Name;
 use std::alloc::Global;
 
@@ -53,9 +56,9 @@ fn read_named<S: Source>(
     ensures known { IfOk result (AreBelow executors) }
 {
     reads.reserve(1)?;
-    match read_file(source, &name) {
+    match read_file(source, &name, 1) {
         Ok(bytes) => {
-            let parsed = parse_plan(alloc, &bytes, executors);
+            let parsed = parsed_plan(alloc, &bytes, executors);
             let role = Role::Plan;
             reads.push(Read { role, bytes }).unwrap();
             as_plan(parsed)
@@ -65,6 +68,15 @@ fn read_named<S: Source>(
             OrMemory::OutOfMemory => Err(OrMemory::OutOfMemory),
         },
     }
+}
+
+/// What the parser gives of bytes, which are put into one piece for it.
+fn parsed_plan(alloc: Global, bytes: &Rope, executors: u32) -> Result<Plan, PlanError>
+    ensures plan { IfOk result (ReadsPlan executors bytes.now) }
+    ensures known { IfOk result (AreBelow executors) }
+    ensures fault { IfErr result (IsParseCause executors bytes.now) }
+{
+    parse_plan(alloc, &bytes.joined()?, executors)
 }
 
 /// What the parser gave, as the end of a reading.

@@ -1,7 +1,8 @@
 //! What was read.
 #![tactic(auto)]
 
-use sc_value::{Name, Octets};
+use sc_rope::Rope;
+use sc_value::Name;
 
 /// What bytes were read as.
 #[derive(Drop)]
@@ -20,5 +21,5 @@ pub struct Read {
     /// What they were read as.
     pub role: Role,
     /// The bytes.
-    pub bytes: Octets,
+    pub bytes: Rope,
 }

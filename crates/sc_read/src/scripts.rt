@@ -1,9 +1,11 @@
 //! The script of a run.
 #![tactic(auto)]
 
-ghost use Rattle.std.specs.Prelude.{◌≡◌};
+ghost use Rattle.std.specs.Prelude.{◌≡◌, IfErr, IfOk};
 ghost use Rattle.sc_base.specs.Outside.{IsLaterSource};
 ghost use Rattle.sc_read.specs.Scripts.{TakesAsScript, script_stop};
+ghost use Rattle.sc_script.specs.Parsing.{IsParseCause};
+ghost use Rattle.sc_script.specs.Scripts.{ReadsScript};
 
 use crate::files::read_file;
 use crate::reads::{Read, Role};
@@ -12,6 +14,7 @@ use sc_base::OrMemory;
 use sc_input::Source;
 use sc_lineage::Script;
 use sc_script::{ParseError, parse};
+use sc_rope::Rope;
 use sc_value::Name;
 use std::alloc::Global;
 
@@ -31,9 +34,9 @@ pub fn read_script<S: Source>(
         reads.old.items reads.new.items result }
 {
     reads.reserve(1)?;
-    match read_file(source, name) {
+    match read_file(source, name, 1) {
         Ok(bytes) => {
-            let parsed = parse(alloc, &bytes);
+            let parsed = parsed_script(alloc, &bytes);
             let role = Role::Script;
             reads.push(Read { role, bytes }).unwrap();
             as_script(parsed)
@@ -43,6 +46,14 @@ pub fn read_script<S: Source>(
             OrMemory::OutOfMemory => Err(OrMemory::OutOfMemory),
         },
     }
+}
+
+/// What the parser gives of bytes, which are put into one piece for it.
+fn parsed_script(alloc: Global, bytes: &Rope) -> Result<Script, ParseError>
+    ensures script { IfOk result (ReadsScript bytes.now) }
+    ensures fault { IfErr result (IsParseCause bytes.now) }
+{
+    parse(alloc, &bytes.joined()?)
 }
 
 /// What the parser gave, as the end of a reading.

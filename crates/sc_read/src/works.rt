@@ -20,8 +20,8 @@ use std::thread::Threads;
 
 /// A script with its inputs, each of which is asked for once, in the order in which the script
 /// names them first, under this plan and these limits. What was read is kept behind what was kept
-/// before. The lines of an input are found by as many threads as there are executors, where it is
-/// long.
+/// before. An input is read, and its lines are found, by as many threads as there are executors,
+/// where it is long.
 ///
 /// # Errors
 ///

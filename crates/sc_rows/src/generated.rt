@@ -31,9 +31,10 @@ fn a_seed_and_a_size_name_lines(rt: HostRuntime) {
 fn given<R: Abort + AllocGlobal>(rt: &R, files: &mut Generated, name: &str) -> String {
     let alloc = rt.alloc();
     let name = Name::new(alloc, name).expect(rt, "memory");
-    match files.read(&name) {
+    match files.read(&name, 1) {
         ReadAnswer::Bytes(bytes) => {
-            let text = str::from_utf8(bytes.as_slice()).unwrap_or("(no text)");
+            let whole = bytes.joined().expect(rt, "memory");
+            let text = str::from_utf8(whole.as_slice()).unwrap_or("(no text)");
             String::from_str(alloc, text).expect(rt, "memory")
         }
         ReadAnswer::NoFile => String::from_str(alloc, "no file").expect(rt, "memory"),

@@ -81,6 +81,8 @@ mod raises;
 #[cfg(test)]
 mod readers;
 #[cfg(test)]
+mod ropes;
+#[cfg(test)]
 mod saved_runs;
 #[cfg(test)]
 mod saves;

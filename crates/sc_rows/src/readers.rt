@@ -2,7 +2,9 @@
 #![tactic(auto)]
 
 use sc_base::OrMemory;
-use sc_input::{CountedReader, HostSource, ReadAnswer, ReadFault, Source, read_limited};
+use sc_input::{
+    CountedReader, HostSource, Opens, ReadAnswer, ReadFault, Source, read_apart, read_limited,
+};
 use sc_value::Name;
 use std::fs;
 use std::io::{self, ErrorKind, Read};
@@ -120,9 +122,12 @@ fn a_folder_is_a_fault_and_a_missing_file_is_none(rt: HostRuntime) {
     let mut source = HostSource::new(rt.clone().expect(&rt, "memory"));
     for (name, want) in &ON_THE_SYSTEM {
         let asked = Name::new(rt.alloc(), *name).expect(&rt, "memory");
-        let answer = source.read(&asked);
+        let answer = source.read(&asked, 4);
         let bytes = match &answer {
-            ReadAnswer::Bytes(bytes) => bytes.as_slice(),
+            ReadAnswer::Bytes(bytes) => match bytes.whole() {
+                Some(whole) => whole.as_slice(),
+                None => b"parts",
+            },
             ReadAnswer::NoFile => b"no file",
             ReadAnswer::Failed => b"failed",
             ReadAnswer::OutOfMemory => b"out of memory",
@@ -130,4 +135,63 @@ fn a_folder_is_a_fault_and_a_missing_file_is_none(rt: HostRuntime) {
         assert!(rt; bytes == *want, "by the name {name:?}");
     }
     fs::remove_file(&rt, "read_by_a_test.txt").expect(&rt, "a file");
+}
+
+/// Bytes that can be opened at any place, of which each reader gives a few at a time.
+#[derive(Drop)]
+struct Openable<'a> {
+    bytes: &'a [u8],
+    failing: u64,
+}
+
+impl<'a> Opens<FewAtOnce<'a>> for Openable<'a> {
+    ghost use Rattle.std.specs.Prelude.{None};
+
+    ghost content = { λ _. None };
+
+    fn open_at(&self, from: usize) -> io::Result<FewAtOnce<'a>> {
+        let bytes: &'a [u8] = self.bytes;
+        Ok(FewAtOnce {
+            rest: &bytes[from.min(bytes.len())..],
+            most: 1000,
+            calls: 0,
+            failing: self.failing,
+            kind: ErrorKind::Other,
+        })
+    }
+}
+
+/// How many bytes are awaited, in how many parts they are to be read, which read of each part
+/// fails, how many bytes there may be in the last, and in how many parts 9,000 bytes of three a
+/// line come; 0 where they don't.
+const PARTS: [(usize, u32, u64, usize, usize); 8] = [
+    (9000, 4, 0, 100_000, 4),
+    (9000, 1, 0, 100_000, 1),
+    (9000, 0, 0, 100_000, 1),
+    (8000, 4, 0, 100_000, 4),
+    (50_000, 4, 0, 100_000, 1),
+    (9000, 3, 2, 100_000, 0),
+    (9000, 4, 0, 2000, 0),
+    (9000, 4, 0, 2250, 4),
+];
+
+#[test]
+fn bytes_come_in_parts_that_end_with_line_feeds(rt: HostRuntime) {
+    let text = "ab\n".repeat(rt.alloc(), 3000).expect(&rt, "memory");
+    for (awaited, parts, failing, limit, want) in PARTS {
+        let bytes = Openable {
+            bytes: text.as_bytes(),
+            failing,
+        };
+        let read = read_apart(&rt, rt.alloc(), &bytes, limit, awaited, parts);
+        let count = match &read {
+            Ok(rope) => {
+                let whole = rope.joined().expect(&rt, "memory");
+                assert!(rt; whole.as_slice() == text.as_bytes(), "{awaited} in {parts} parts");
+                rope.parts().len()
+            }
+            Err(_) => 0,
+        };
+        assert_eq!(rt; count, want, "{awaited} in {parts} parts");
+    }
 }

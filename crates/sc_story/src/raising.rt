@@ -10,7 +10,8 @@ use sc_expr::Raise;
 use sc_lineage::NodeId;
 use sc_pieces::write_excerpt;
 use sc_read::{Read, Role};
-use sc_value::{Name, Octets, Text, Texts, Value, lines};
+use sc_rope::Rope;
+use sc_value::{Name, Text, Texts, Value, lines};
 use std::alloc::{AllocError, Global};
 
 /// A row that raises: its place among all of its source, from 0, and the raise.
@@ -73,7 +74,7 @@ fn rows_of<'a>(
 /// The lines of the input of a name, where it was read.
 fn lines_of(alloc: Global, read: &[Read], name: &Name) -> Result<Option<Texts>, AllocError> {
     match bytes_of(read, name) {
-        Some(bytes) => match lines(alloc, bytes) {
+        Some(bytes) => match lines(alloc, &bytes.joined()?) {
             Ok(lines) => Ok(Some(lines)),
             Err(OrMemory::Fault(_)) => Ok(None),
             Err(OrMemory::OutOfMemory) => Err(AllocError),
@@ -83,7 +84,7 @@ fn lines_of(alloc: Global, read: &[Read], name: &Name) -> Result<Option<Texts>, 
 }
 
 /// The bytes that were read as the input of a name.
-fn bytes_of<'a>(read: &'a [Read], name: &Name) -> Option<&'a Octets> {
+fn bytes_of<'a>(read: &'a [Read], name: &Name) -> Option<&'a Rope> {
     for one in read {
         if is_input(&one.role, name) {
             return Some(&one.bytes);

@@ -13,7 +13,7 @@ use std::alloc::{AllocError, Global};
 pub(crate) fn script_bytes(read: &[Read]) -> Option<&Octets> {
     for one in read {
         if is_script(&one.role) {
-            return Some(&one.bytes);
+            return one.bytes.whole();
         }
     }
     None
@@ -23,7 +23,7 @@ pub(crate) fn script_bytes(read: &[Read]) -> Option<&Octets> {
 pub(crate) fn plan_bytes(read: &[Read]) -> Option<&Octets> {
     for one in read {
         if is_plan(&one.role) {
-            return Some(&one.bytes);
+            return one.bytes.whole();
         }
     }
     None

@@ -13,6 +13,7 @@ use sc_input::HostSource;
 use sc_sink::StdSink;
 use std::process::ExitCode;
 use std::rt::Runtime;
+use std::thread::Threads;
 use std::{env, io};
 
 fn main(rt: HostRuntime) -> ExitCode {
@@ -45,7 +46,7 @@ fn main(rt: HostRuntime) -> ExitCode {
 
 /// What a run is given of the system.
 #[derive(Drop)]
-struct System<R: Runtime + AllocGlobal> {
+struct System<R: Runtime + AllocGlobal + Threads + Sync> {
     /// The words of the process, behind its name.
     words: Vec<String>,
     source: HostSource<R>,
@@ -54,7 +55,7 @@ struct System<R: Runtime + AllocGlobal> {
     clock: HostClock<R>,
 }
 
-impl<R: Runtime + AllocGlobal> System<R> {
+impl<R: Runtime + AllocGlobal + Threads + Sync> System<R> {
     /// The system that this handle reaches.
     fn reach(rt: &R) -> io::Result<System<R>> {
         let mut words = Vec::new(rt.alloc());

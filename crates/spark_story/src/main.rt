@@ -32,6 +32,7 @@ use sc_value::Octets;
 use std::io::IsTerminal;
 use std::process::ExitCode;
 use std::rt::Runtime;
+use std::thread::Threads;
 use std::{env, io};
 
 fn main(rt: HostRuntime) -> ExitCode {
@@ -69,7 +70,7 @@ fn main(rt: HostRuntime) -> ExitCode {
 
 /// What a run is given of the system.
 #[derive(Drop)]
-struct System<R: Runtime + AllocGlobal> {
+struct System<R: Runtime + AllocGlobal + Threads + Sync> {
     /// The words for the run, and which files the rest name.
     asked: Asked,
     source: HostSource<R>,
@@ -79,7 +80,7 @@ struct System<R: Runtime + AllocGlobal> {
     clock: HostClock<R>,
 }
 
-impl<R: Runtime + AllocGlobal> System<R> {
+impl<R: Runtime + AllocGlobal + Threads + Sync> System<R> {
     /// The system that this handle reaches, with a terminal as its standard error or not; or an
     /// exit status, where no run is to begin.
     fn reach(rt: &R, has_terminal: bool) -> Result<System<R>, u8> {

@@ -27,11 +27,13 @@ impl<'a, S: Source + Drop, R: Eprint + AllocGlobal> ScriptSource<'a, S, R> {
 impl<S: Source + Drop, R: Eprint + AllocGlobal> Source for ScriptSource<'_, S, R> {
     ghost state = { λ s. S.state s.source };
 
-    fn read(&mut self, name: &Name) -> ReadAnswer {
-        let answer = self.source.read(name);
+    fn read(&mut self, name: &Name, threads: u32) -> ReadAnswer {
+        let answer = self.source.read(name, threads);
         if let ReadAnswer::Bytes(bytes) = &answer {
-            if !self.was_asked {
-                self.gate.foresee(bytes);
+            if let Some(script) = bytes.whole() {
+                if !self.was_asked {
+                    self.gate.foresee(script);
+                }
             }
         }
         self.was_asked = true;
