@@ -1,4 +1,0 @@
-CREATE TABLE rows (key TEXT, value INTEGER);
-.separator " "
-.import keys.txt rows
-SELECT key, value FROM rows ORDER BY key, rowid;

@@ -1,6 +1,0 @@
-use Rattle.std.proofs.Common.{◌≡◌, map, take}
-use Rattle.sc_expr.specs.Heads.{truth_in}
-use Rattle.sc_batch.proofs.choices.each_mark.Given as goal
-
-abbrev pub invariant-loop-i : goal.invariant-loop-i
-invariant-loop-i l = l.out.items ≡ map truth_in (take l.i l.rows)

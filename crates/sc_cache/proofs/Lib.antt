@@ -1,2 +1,0 @@
-pub mod CacheLemmas
-pub mod LawLemmas

@@ -1,3 +1,0 @@
-pub mod Caches
-pub mod CacheLaws
-pub mod CacheLends

@@ -1,4 +1,0 @@
-mod ReadLemmas
-mod RaiseLemmas
-mod LossLemmas
-pub mod InputLemmas

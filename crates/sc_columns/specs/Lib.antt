@@ -1,6 +1,0 @@
-pub mod Columns
-pub mod Finding
-pub mod Flat
-pub mod Prints
-pub mod Runs
-pub mod Parts

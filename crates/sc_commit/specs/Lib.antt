@@ -1,4 +1,0 @@
-pub mod CommitFacts
-pub mod CommitLaws
-pub mod Committers
-pub mod Committing

@@ -1,9 +1,0 @@
-pub mod Apart
-pub mod ApartLaws
-pub mod Between
-pub mod Desks
-pub mod Found
-pub mod Laws
-pub mod Serial
-pub mod Surviving
-pub mod Worlds

@@ -1,9 +1,0 @@
-use Rattle.std.proofs.Common.{◌≡◌, []}
-use Rattle.sc_exec.specs.Lefts.{IsAtWork}
-use Rattle.sc_exec.specs.Logging.{HasRoom}
-use Rattle.sc_exec.proofs.work.work_loop.Given as goal
-
-abbrev pub invariant-loop : goal.invariant-loop
-invariant-loop g l =
-    (goal.iterator-loop g).can_next l.iterator' × (goal.iterator-loop g).is_finite l.iterator'
-    × (l.log.exec ≡ l.fn.log.exec) × IsAtWork [] l.log × HasRoom l.log

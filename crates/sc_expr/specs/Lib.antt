@@ -1,9 +1,0 @@
-pub mod ExprData
-pub mod ExprCode
-pub mod Heads
-pub mod HeadGroups
-pub mod Meaning
-pub mod RaiseTexts
-pub mod Schemes
-pub mod Views
-pub mod BoundViews

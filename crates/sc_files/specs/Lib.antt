@@ -1,4 +1,0 @@
-pub mod Calls
-pub mod Host
-pub mod Listed
-pub mod Memory

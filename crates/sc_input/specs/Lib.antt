@@ -1,5 +1,0 @@
-pub mod Host
-pub mod Memory
-pub mod Readers
-pub mod Reading
-pub mod Slices

@@ -1,6 +1,0 @@
-pub mod Keyed
-pub mod Codes
-pub mod Groups
-pub mod Splits
-pub mod Laws
-pub mod Lent

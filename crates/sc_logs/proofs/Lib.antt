@@ -1,7 +1,0 @@
-pub mod FoldLemmas
-mod WalkLemmas
-mod FirstLemmas
-mod ForwardLemmas
-mod StepLemmas
-mod LeaveLemmas
-mod EndLemmas

@@ -1,4 +1,0 @@
-pub mod Shelves
-pub mod Tasks
-pub mod Equality
-pub mod Reports

@@ -1,4 +1,0 @@
-pub mod Chains
-pub mod Folds
-pub mod Given
-pub mod Slices

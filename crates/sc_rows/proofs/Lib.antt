@@ -1,4 +1,0 @@
-pub mod CrewLemmas
-pub mod JobLemmas
-pub mod RoomLemmas
-pub mod WorldLemmas

@@ -1,6 +1,0 @@
-use Rattle.std.proofs.Common.{◌≡◌, drop}
-use Rattle.sc_script.specs.Lines.{is_skipped}
-use Rattle.sc_script.proofs.lines.is_skipped.Given as goal
-
-abbrev pub invariant-loop-byte : goal.invariant-loop-byte
-invariant-loop-byte l = is_skipped (drop l.byte-index l.line) ≡ is_skipped l.line

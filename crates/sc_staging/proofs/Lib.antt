@@ -1,6 +1,0 @@
-pub mod DoneLemmas
-mod OpeningLemmas
-mod PartLemmas
-mod RenewalLemmas
-pub mod SaveLemmas
-pub mod WayLemmas

@@ -1,4 +1,0 @@
-pub mod OwnBlocks
-pub mod BlockData
-pub mod StoreData
-pub mod Storing

@@ -1,9 +1,0 @@
-use Rattle.std.proofs.Common.{◌≡◌, take}
-use Rattle.sc_store.specs.StoreData.{with_cache}
-use Rattle.sc_task.specs.Caches.{with_each_used}
-use Rattle.sc_task.proofs.keeping.mark_used.Given as goal
-
-abbrev pub invariant-loop-part : goal.invariant-loop-part
-invariant-loop-part g l =
-    l.store ≡ with_cache l.initial.store
-    (with_each_used l.initial.store.cache (take l.part-index l.used))

@@ -1,4 +1,0 @@
-pub mod ProgramLemmas
-pub mod GetterLemmas
-pub mod TakenLemmas
-pub mod PlainLemmas
