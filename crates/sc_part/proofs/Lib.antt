@@ -7,3 +7,6 @@ pub mod PairLemmas
 pub mod BoundLemmas
 mod RangeLemmas
 mod SelectLemmas
+pub mod SplitLemmas
+pub mod TieLemmas
+pub mod LevelLemmas

@@ -5,7 +5,8 @@
 //! divides keys into ranges of about the same number of rows, made of all keys by
 //! [`bounds_of_keys`], or straight of a column by [`bounds_of_ints`] and [`bounds_of_texts`]. They
 //! are shared by all tasks of a sort. [`range_bucket`] finds the range of a key by a binary search,
-//! and [`range_of_int`] and [`range_of_text`] do with no key made.
+//! and [`range_of_int`] and [`range_of_text`] do with no key made. [`room_for`] is where a sort,
+//! and whoever gathers its keys, puts what is held for a while.
 //!
 //! `specs/Sorts.antt` and `specs/Bounds.antt` have the definitions, `specs/Laws.antt` what holds of
 //! them: [`rows_are_sorted`] and [`bounds_are_lawful`]. Row numbers have 32 bits, so more rows than
@@ -15,11 +16,14 @@
 mod ends;
 mod fronts;
 mod laws;
+mod levels;
 mod ranges;
+mod rooms;
 mod selecting;
 mod sorting;
 
 pub use ends::{bounds_of_ints, bounds_of_keys, bounds_of_texts};
 pub use laws::{bounds_are_lawful, rows_are_sorted};
 pub use ranges::{Bounds, range_bucket, range_of_int, range_of_text};
+pub use rooms::room_for;
 pub use sorting::{sort_ints, sort_texts};
