@@ -5,6 +5,10 @@ pub mod SideLemmas
 pub mod FirstLemmas
 pub mod SpanLemmas
 pub mod GroupLemmas
+pub mod NewLemmas
+pub mod TwinLemmas
+pub mod PlaceLemmas
+pub mod RunLemmas
 pub mod CrossLemmas
 pub mod MeetLemmas
 pub mod FoldLemmas

@@ -14,6 +14,7 @@ ghost use Rattle.sc_combine.specs.declared.combining.Taken.TheVariants.{Rows as 
 
 use crate::grouping::group;
 use crate::int_folds::fold_as_ints;
+use crate::runs::pairs_of_runs;
 use sc_base::OrMemory;
 use sc_batch::{halves, put_next};
 use sc_columns::{Both, Rows, RowsBuilder};
@@ -38,10 +39,12 @@ pub enum Taken {
 pub fn combined(alloc: Global, expr: &Expr, rows: &Rows) -> Result<Rows, OrMemory<Raise>>
     ensures { Answers (λ r. r) (λ r. r) result (combined_of (expr_data_of expr.now) rows.now) }
 {
-    let rows = rows.joined(alloc)?;
-    match rows.as_pairs(alloc)? {
+    match pairs_of_runs(alloc, rows)? {
         Some(both) => combined_columns(alloc, expr, both),
-        None => combined_rows(alloc, expr, &rows),
+        None => {
+            let rows = rows.joined(alloc)?;
+            combined_rows(alloc, expr, &rows)
+        }
     }
 }
 
@@ -88,13 +91,14 @@ fn combined_values(
     }
 }
 
-/// The same values, where a number that is held once for all rows is written out for each.
+/// The same values in one run, where a number that is held once for all rows is written out for
+/// each.
 fn written_out(alloc: Global, values: &Rows) -> Result<Rows, AllocError>
     ensures { IfOk result (λ rows. rows ≡ values.now) }
 {
     match repeated_number(values) {
         Some(n) => Rows::of_ints(alloc, vec![in alloc; n; values.len()]?),
-        None => values.share(),
+        None => values.joined(alloc),
     }
 }
 

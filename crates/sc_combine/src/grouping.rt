@@ -1,19 +1,27 @@
 //! Values gathered under their keys.
 #![tactic(auto)]
 
-ghost use Rattle.std.specs.Prelude.{◌≡◌, ◌<◌, ◌≤◌, IfOk, List, length, map};
+ghost use Rattle.std.specs.Prelude.{◌≡◌, ◌<◌, ◌≤◌, ◌+◌, ◌++◌, IfOk, OnOk, List, length, map};
+ghost use Rattle.std.specs.List.{flat_map};
 ghost use Rattle.sc_base.specs.Limits.{count_limit};
 ghost use Rattle.sc_expr.specs.Heads.{first_of};
 ghost use Rattle.sc_lineage.specs.Keyed.{grouped as grouped_of};
 ghost use Rattle.sc_value.specs.Datum.{Datum};
-ghost use Rattle.sc_combine.specs.Groupings.{IsGrouping, firsts_from};
+ghost use Rattle.sc_combine.specs.Groupings.{AreLed, IsGrouping, firsts_from};
 
 use crate::sides::Side;
 use sc_base::COUNT_LIMIT;
 use sc_batch::halves;
-use sc_columns::Rows;
+use sc_columns::{Rows, RowsBuilder};
 use sc_keys::Keys;
+use sc_value::picked_items;
 use std::alloc::{AllocError, Global};
+
+/// How many rows of a run are looked at to find out whether few keys recur.
+const SAMPLES: usize = 1024;
+
+/// How many rows of these there are at least for each key, where few do.
+const SAMPLES_EACH: usize = 16;
 
 /// The groups of rows of one key, in order of first appearance.
 #[derive(Drop)]
@@ -39,7 +47,96 @@ pub fn grouped(alloc: Global, rows: &Rows) -> Result<Rows, AllocError>
 }
 
 /// The groups of rows, by what stands as key in each.
+///
+/// Where few keys recur, rows in several runs are grouped run by run, and then what stands first in
+/// the groups of all runs is: so no more keys are copied than those.
 pub fn group(alloc: Global, firsts: &Rows) -> Result<Grouping, AllocError>
+    ensures { IfOk result
+        (λ g. (rows : List Datum) → firsts.now ≡ map first_of rows → IsGrouping rows g) }
+{
+    let runs = firsts.runs(alloc)?;
+    if recur(alloc, &runs)? {
+        group_runs(alloc, &runs, firsts.len())
+    } else {
+        let firsts = firsts.joined(alloc)?;
+        group_run(alloc, &firsts)
+    }
+}
+
+/// Whether few keys recur in several runs, by some rows of the first: a guess, by which no answer
+/// is wrong.
+fn recur(alloc: Global, runs: &[Rows]) -> Result<bool, AllocError> {
+    match runs {
+        [first, _, ..] => {
+            let some = first.part(alloc, 0, SAMPLES)?;
+            let groups = group_run(alloc, &some)?;
+            Ok(groups.count as usize <= some.len() / SAMPLES_EACH)
+        }
+        _ => Ok(false),
+    }
+}
+
+/// The groups of rows in several runs, of so many rows in all.
+fn group_runs(alloc: Global, runs: &[Rows], len: usize) -> Result<Grouping, AllocError>
+    ensures { IfOk result (λ g. (rows : List Datum)
+        → flat_map (λ run. run) runs.now ≡ map first_of rows → IsGrouping rows g) }
+{
+    let led = led_of_runs(alloc, runs, len)?;
+    let groups = group_run(alloc, &led.firsts)?;
+    let numbers = picked_items(alloc, &groups.numbers, &led.numbers)?;
+    Ok(Grouping {
+        keys: groups.keys,
+        numbers,
+        count: groups.count,
+    })
+}
+
+/// What stands first in the groups of several runs of rows, and among these the place of what
+/// stands first in the group of each row.
+#[derive(Drop)]
+struct Led {
+    firsts: Rows,
+    numbers: Vec<u32>,
+}
+
+/// What stands first in the groups of each run, one run after another, of so many rows in all.
+fn led_of_runs(alloc: Global, runs: &[Rows], len: usize) -> Result<Led, AllocError>
+    ensures { IfOk result (λ led. AreLed runs.now led.firsts led.numbers.items) }
+{
+    let mut firsts = RowsBuilder::new(alloc);
+    let mut numbers = Vec::with_capacity(alloc, len)?;
+    let mut count: u32 = 0;
+    for i in 0..runs.len() {
+        let groups = group_run(alloc, &runs[i])?;
+        add_behind(&groups.numbers, count, &mut numbers)?;
+        firsts.append(alloc, &groups.keys)?;
+        count = sum(count, groups.count)?;
+    }
+    let firsts = firsts.finish(alloc)?;
+    let firsts = firsts.joined(alloc)?;
+    Ok(Led { firsts, numbers })
+}
+
+/// Adds numbers that are counted from another one on.
+fn add_behind(numbers: &[u32], from: u32, out: &mut Vec<u32>) -> Result<(), AllocError>
+    ensures { OnOk result (out.new.items ≡ out.old.items ++ map (λ n. from + n) numbers.now) }
+{
+    for i in 0..numbers.len() {
+        let number = sum(from, numbers[i])?;
+        out.push(number)?;
+    }
+    Ok(())
+}
+
+#[inline(always)]
+fn sum(a: u32, b: u32) -> Result<u32, AllocError>
+    ensures { IfOk result (λ n. n ≡ a + b) }
+{
+    a.checked_add(b).ok_or(AllocError)
+}
+
+/// The groups of rows in one run, by what stands as key in each.
+fn group_run(alloc: Global, firsts: &Rows) -> Result<Grouping, AllocError>
     ensures { IfOk result
         (λ g. (rows : List Datum) → firsts.now ≡ map first_of rows → IsGrouping rows g) }
 {

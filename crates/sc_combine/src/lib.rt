@@ -22,6 +22,7 @@ mod dealing;
 mod grouping;
 mod int_folds;
 mod meeting;
+mod runs;
 mod shuffles;
 mod sides;
 mod sorting;

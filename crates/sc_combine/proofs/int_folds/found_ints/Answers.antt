@@ -1,4 +1,4 @@
-use Rattle.std.proofs.Common.{rules, ◌≡◌, ◌∙◌, [], ℤ, List, Ok, Some, Vec, length, map, get_or, ap, sym, subst, pos, w64, SFits}
+use Rattle.std.proofs.Common.{rules, ◌≡◌, ◌∙◌, [], ℤ, Some, Vec, length, map, get_or, ap, sym, pos, w64, SFits}
 use Rattle.std.proofs.lemmas.Int.{to_z-of_z}
 use Rattle.std.proofs.lemmas.List.{length-map}
 use Rattle.std.proofs.lemmas.Option.{slice_get-get_or, slice_get-map}
@@ -9,7 +9,6 @@ use Rattle.std.specs.declared.alloc.Global.{Global}
 use Rattle.sc_expr.specs.Views.{expr_data_of}
 use Rattle.sc_value.specs.Datum.{number}
 use Rattle.sc_combine.specs.Combining.{folded_by, put_at, step_of}
-use Rattle.sc_combine.specs.IntFolds.{AreFound}
 use Rattle.sc_combine.specs.declared.combining.Taken.TheVariants.{Values}
 use Rattle.sc_combine.proofs.FoldLemmas.{folded_more, folded_raised, found_refused}
 use Rattle.sc_combine.proofs.int_folds.found_ints.Goals as goal

@@ -1,6 +1,5 @@
 use Rattle.std.proofs.Common.{◌∙◌, ap, sym}
 use Rattle.sc_lineage.specs.Keyed.{met}
-use Rattle.sc_lineage.specs.declared.nodes.Meeting.TheVariants.{Join}
 use Rattle.sc_combine.proofs.MeetLemmas.{crossed_is, left_level, right_level}
 use Rattle.sc_combine.proofs.meeting.meet.Goals as goal
 

@@ -8,7 +8,7 @@ use Rattle.sc_value.specs.Picked.{ArePlaces}
 use Rattle.sc_combine.specs.Groupings.{firsts_from}
 use Rattle.sc_combine.proofs.FirstLemmas.{firsts_inside}
 use Rattle.sc_combine.proofs.GroupLemmas.{count_is, keys_are, numbers_are}
-use Rattle.sc_combine.proofs.grouping.group.Goals as goal
+use Rattle.sc_combine.proofs.grouping.group_run.Goals as goal
 
 pub picked-requires : goal.picked-requires
 picked-requires c =
