@@ -1,0 +1,4 @@
+pub mod PassLemmas
+pub mod PopLemmas
+pub mod PushLemmas
+pub mod ViewLemmas
