@@ -1,7 +1,6 @@
 -- An executor that leaves, at the desk.
-use Rattle.std.proofs.Common.{◌≡◌, ℕ, length, refl, subst, sym}
+use Rattle.std.proofs.Common.{◌≡◌, ℕ, length, refl, subst}
 use Rattle.sc_ids.specs.declared.attempts.Mark.TheVariants.{Exec}
-use Rattle.sc_ids.specs.declared.limits.Limits.{Limits}
 use Rattle.sc_core.specs.Sides.{StepsAside}
 use Rattle.sc_core.specs.declared.answers.Answer.{Answer}
 use Rattle.sc_core.specs.declared.events.Event.TheVariants.{Side}

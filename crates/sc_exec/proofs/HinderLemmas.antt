@@ -1,6 +1,7 @@
 -- What keeps an executor from going on, as its log tells.
-use Rattle.std.proofs.Common.{ℕ, ◌≡◌, ◌∙◌, inl, inr, None, Result, ap, sym, subst}
+use Rattle.std.proofs.Common.{ℕ, ◌≡◌, ◌∙◌, inl, inr, None, Option, Result, Ok, Err, IfErr, ap, sym, subst}
 use Rattle.sc_lineage.specs.ScriptData.{WorkData}
+use Rattle.sc_ids.specs.declared.attempts.AttemptId.{AttemptId}
 use Rattle.sc_core.specs.HandOuts.{HandOutData}
 use Rattle.sc_core.specs.declared.answers.Answer.TheVariants as says
 use Rattle.sc_net.specs.Reports.{IsTrueReport, ReportData, loc_at}
@@ -10,8 +11,10 @@ use Rattle.sc_net.specs.declared.findings.Finding.TheVariants as findings
 use Rattle.sc_desk.specs.DeskData.{DeskData}
 use Rattle.sc_logs.specs.Folds.{last_take}
 use Rattle.sc_logs.specs.declared.logs.ExecLog.{ExecLog}
-use Rattle.sc_exec.specs.Lefts.{IsHindrance, IsSentWith, IsToldTheSame, ReadsAt, WasSent, WasTold}
+use Rattle.sc_exec.specs.Lefts.{HasDrained, IsHindrance, IsSentWith, IsToldTheSame, ReadsAt, WasSent, WasTold}
 use Rattle.sc_exec.specs.Logging.{IsSameLog, PostsBoth, TellsEarly}
+use Rattle.sc_exec.specs.Receipts.{IsUnheard}
+use Rattle.sc_exec.specs.Working.{IsReasonToLeave}
 use Rattle.sc_exec.specs.declared.calls.Delivery.{Delivery}
 use Rattle.sc_exec.specs.declared.calls.Delivery.TheVariants as deliveries
 use Rattle.sc_exec.specs.declared.calls.Refused.{Refused}
@@ -69,6 +72,50 @@ early_hinders {W = W} work d after log then report back delivery early is told t
       why.before,
     )
 
+-- ---- the queue was drained
+
+-- what keeps who drained it from going on
+pub drained_hinders : {T : Type 0} (work : WorkData) (log : ExecLog) (r : Result T Left)
+    → IfErr r HasDrained → IfErr r (IsHindrance work log)
+drained_hinders work log (Ok x) met = met
+drained_hinders work log (Err (lefts.Drained strange)) met = met
+drained_hinders work log (Err lefts.NoMemory) met = tt
+drained_hinders work log (Err (lefts.Stranger stranger)) met = absurd met
+drained_hinders work log (Err (lefts.Absent absence)) met = absurd met
+drained_hinders work log (Err (lefts.Early early)) met = absurd met
+drained_hinders work log (Err lefts.JobEnded) met = absurd met
+drained_hinders work log (Err (lefts.Stopped first)) met = absurd met
+drained_hinders work log (Err lefts.Lost) met = absurd met
+drained_hinders work log (Err (lefts.Busy held)) met = absurd met
+
+-- so it leaves
+pub drained_reason : {T : Type 0} (work : WorkData) (log : ExecLog) (r : Result T Left)
+    → IfErr r HasDrained → IfErr r (IsReasonToLeave work log)
+drained_reason work log (Ok x) met = met
+drained_reason work log (Err (lefts.Drained strange)) met = met
+drained_reason work log (Err lefts.NoMemory) met = tt
+drained_reason work log (Err (lefts.Stranger stranger)) met = absurd met
+drained_reason work log (Err (lefts.Absent absence)) met = absurd met
+drained_reason work log (Err (lefts.Early early)) met = absurd met
+drained_reason work log (Err lefts.JobEnded) met = absurd met
+drained_reason work log (Err (lefts.Stopped first)) met = absurd met
+drained_reason work log (Err lefts.Lost) met = absurd met
+drained_reason work log (Err (lefts.Busy held)) met = absurd met
+
+-- and so does who doesn't hear of its report
+pub unheard_reason : {T : Type 0} (work : WorkData) (log : ExecLog) (sent : Option AttemptId)
+    (r : Result T Left) → IfErr r (IsUnheard sent log) → IfErr r (IsReasonToLeave work log)
+unheard_reason work log sent (Ok x) unheard = unheard
+unheard_reason work log sent (Err (lefts.Busy held)) unheard = inr unheard.1
+unheard_reason work log sent (Err (lefts.Drained strange)) unheard = absurd unheard
+unheard_reason work log sent (Err lefts.NoMemory) unheard = absurd unheard
+unheard_reason work log sent (Err (lefts.Stranger stranger)) unheard = absurd unheard
+unheard_reason work log sent (Err (lefts.Absent absence)) unheard = absurd unheard
+unheard_reason work log sent (Err (lefts.Early early)) unheard = absurd unheard
+unheard_reason work log sent (Err lefts.JobEnded) unheard = absurd unheard
+unheard_reason work log sent (Err (lefts.Stopped first)) unheard = absurd unheard
+unheard_reason work log sent (Err lefts.Lost) unheard = absurd unheard
+
 -- ---- later on
 
 reads_for : (P : HandOutData → Type 0) (log then : ExecLog) → IsToldTheSame log then
@@ -99,3 +146,4 @@ hinders_still work log then lefts.JobEnded exec same why = absurd why
 hinders_still work log then (lefts.Stopped first) exec same why = absurd why
 hinders_still work log then lefts.Lost exec same why = absurd why
 hinders_still work log then (lefts.Busy held) exec same why = absurd why
+hinders_still work log then (lefts.Drained strange) exec same met = met

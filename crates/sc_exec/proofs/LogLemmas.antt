@@ -27,8 +27,8 @@ use Rattle.sc_desk.specs.Saving.{MovesPart, StagesPart}
 use Rattle.sc_desk.specs.declared.posts.Posted.{Posted}
 use Rattle.sc_desk.specs.declared.posts.Posted.TheVariants as posteds
 use Rattle.sc_desk.specs.declared.receipts.Noted.{Noted}
-use Rattle.sc_exec.specs.Helms.{helm_data}
-use Rattle.sc_exec.specs.Logging.{IsDelivered, IsEarlyFor, IsLogged, IsLoggedLast, IsPossible, IsSameLog, LeavesBoth, MovesBoth, PostsBoth, StagesBoth, TellsEarly, leave_answer, leave_answer_if}
+use Rattle.sc_exec.specs.JobDesks.{job_desk_data}
+use Rattle.sc_exec.specs.Logging.{IsDelivered, IsEarlyFor, IsLogged, IsLoggedLast, IsPossible, IsSaid, IsSameLog, LeavesBoth, MovesBoth, PostsAs, PostsBoth, StagesBoth, TellsEarly, leave_answer, leave_answer_if}
 use Rattle.sc_exec.specs.declared.calls.Delivery.{Delivery}
 use Rattle.sc_exec.specs.declared.calls.Delivery.TheVariants as deliveries
 use Rattle.sc_exec.specs.declared.calls.TooEarly.{TooEarly}
@@ -52,8 +52,8 @@ pub log_stage : (d : DeskData) (log mid : ExecLog) (a : AttemptId) (text : List 
     → (answer : SideAnswer) → noted.answer ≡ answer → IsLoggedLast mid entries answer then
     → entries ≡ after.journal.entries → mid.exec ≡ log.exec
     → mid.entries.items ≡ log.entries.items
-    → StagesBoth (helm_data d (Some before.dir) before.files) log a text answer
-    (helm_data after (Some behind.dir) behind.files) then
+    → StagesBoth (job_desk_data d (Some before.dir) before.files) log a text answer
+    (job_desk_data after (Some behind.dir) behind.files) then
 log_stage d log mid a text before behind noted after then entries stages answer same
     (said, last, logged) is exec items =
     record {
@@ -79,8 +79,8 @@ pub log_move : (d : DeskData) (log mid : ExecLog) (a : AttemptId)
     → (answer : SideAnswer) → noted.answer ≡ answer → IsLoggedLast mid entries answer then
     → entries ≡ after.journal.entries → mid.exec ≡ log.exec
     → mid.entries.items ≡ log.entries.items
-    → MovesBoth (helm_data d (Some before.dir) before.files) log a answer
-    (helm_data after (Some behind.dir) behind.files) then
+    → MovesBoth (job_desk_data d (Some before.dir) before.files) log a answer
+    (job_desk_data after (Some behind.dir) behind.files) then
 log_move d log mid a before behind noted after then entries moves answer same
     (said, last, logged) is exec items =
     record {
@@ -135,6 +135,26 @@ possible work d by report (posteds.Early back due) after (known, early, back_is,
   (core_of d).told,
   subst (λ (r : ReportData). IsEarly work (core_of d).told r.finding due) (sym back_is) early,
 )
+
+-- what is said of a report that was posted, where nothing is logged of it yet
+pub said_post : {W : _} (work : WorkData) (d : DeskData) (exec : ℕ) (report : ReportData)
+    (p : Posted W) (delivery : Delivery W) (after : DeskData)
+    → Posts work d (Exec exec) report p after → IsSaid p delivery
+    → PostsAs work d exec report delivery after
+said_post work d exec report (posteds.Receipt receipt) deliveries.Received after h said =
+    (receipt, h)
+said_post work d exec report (posteds.Stranger back) (deliveries.Stranger given refused) after
+    (unknown, back_is, stays) (same, attempt) =
+    (unknown, attempt ∙ ap attempt_of back_is, same ∙ back_is, stays)
+said_post work d exec report (posteds.Early back due) (deliveries.Early given early) after
+    (known, is_early, back_is, stays) (same, tells) = (
+      known,
+      early_for work (core_of d).told report.finding due early is_early
+          (subst (λ (r : ReportData). TellsEarly r.finding due early) back_is tells),
+      same ∙ back_is,
+      stays,
+    )
+said_post work d exec report p delivery after h bad = absurd bad
 
 pub log_post : {W : _} (work : WorkData) (d : DeskData) (log mid : ExecLog)
     (report : ReportData) (attempt : AttemptId) (outcome : Outcome) (p : Posted W)

@@ -1,5 +1,5 @@
 -- What is owed a report once an executor did something for its attempt.
-use Rattle.std.proofs.Common.{ℕ, ◌≡◌, ◌∙◌, List, [], ◌∷◌, Bool, None, false, true, refl, ap, subst}
+use Rattle.std.proofs.Common.{ℕ, ◌≡◌, ◌∙◌, List, [], ◌∷◌, Bool, None, false, true, inl, inr, refl, ap, subst}
 use Rattle.sc_ids.specs.declared.attempts.AttemptId.{AttemptId}
 use Rattle.sc_ids.specs.declared.attempts.Mark.TheVariants.{Exec}
 use Rattle.sc_lineage.specs.ScriptData.{WorkData}
@@ -17,7 +17,7 @@ use Rattle.sc_desk.specs.Posts.{attempt_of}
 use Rattle.sc_logs.proofs.FoldLemmas.{last_take_more, owed_more}
 use Rattle.sc_logs.specs.Folds.{has_asked_as, has_left, last_take, owed_after, over, without}
 use Rattle.sc_logs.specs.declared.logs.ExecLog.{ExecLog}
-use Rattle.sc_exec.specs.Helms.{HelmData}
+use Rattle.sc_exec.specs.JobDesks.{JobDeskData}
 use Rattle.sc_exec.specs.Lefts.{IsAtWork, IsCause, IsHindrance, IsToldTheSame}
 use Rattle.sc_exec.specs.Logging.{AsksBoth, IsLogged, LeavesBoth, MovesBoth, PostsBoth, StagesBoth}
 use Rattle.sc_exec.specs.Working.{IsReasonToLeave, owed_by}
@@ -29,7 +29,7 @@ use Rattle.sc_exec.proofs.HinderLemmas.{hinders_still}
 use Rattle.sc_exec.proofs.TurnLemmas.{works_on}
 
 -- nothing is owed any more where one attempt was
-none_owed : (a : AttemptId) → without a (a ∷ []) ≡ []
+pub none_owed : (a : AttemptId) → without a (a ∷ []) ≡ []
 none_owed a = rw (is_itself a) refl
 
 over_owed : (a : AttemptId) (said : SideAnswer) → over a (says.Side said) (a ∷ []) ≡ owed_by a said
@@ -45,7 +45,7 @@ over_owed a (sides.Fault fault) = refl
 
 -- ---- calls for an attempt
 
-pub stages_owed : (h after : HelmData) (log then : ExecLog) (a : AttemptId) (text : List ℕ)
+pub stages_owed : (h after : JobDeskData) (log then : ExecLog) (a : AttemptId) (text : List ℕ)
     (said : SideAnswer) → IsAtWork (a ∷ []) log → StagesBoth h log a text said after then
     → IsAtWork (owed_by a said) then
 stages_owed h after log then a text said works both =
@@ -59,7 +59,7 @@ asks_owed d after log then a said works (noted, is, notes, logged) =
     subst (λ (owed : List AttemptId). IsAtWork owed then) (over_owed a said)
     (works_on log then (events.Side (Ask a)) (says.Side said) (a ∷ []) logged refl refl works)
 
-pub moves_owed : (h after : HelmData) (log then : ExecLog) (a : AttemptId) (said : SideAnswer)
+pub moves_owed : (h after : JobDeskData) (log then : ExecLog) (a : AttemptId) (said : SideAnswer)
     → IsAtWork (a ∷ []) log → MovesBoth h log a said after then → IsAtWork (owed_by a said) then
 moves_owed h after log then a said works both =
     subst (λ (owed : List AttemptId). IsAtWork owed then) (over_owed a said)
@@ -87,7 +87,7 @@ aside_told log then event said logged =
     ∙ last_take_more None log.entries.items
     (entry (Exec log.exec) (events.Side event) (says.Side said))
 
-pub stages_told : (h after : HelmData) (log then : ExecLog) (a : AttemptId) (text : List ℕ)
+pub stages_told : (h after : JobDeskData) (log then : ExecLog) (a : AttemptId) (text : List ℕ)
     (said : SideAnswer) → StagesBoth h log a text said after then → IsToldTheSame log then
 stages_told h after log then a text said both =
     aside_told log then (Stage a both.stages.wrote) said both.logged
@@ -97,7 +97,7 @@ pub asks_told : (d after : DeskData) (log then : ExecLog) (a : AttemptId) (said 
 asks_told d after log then a said (noted, is, notes, logged) =
     aside_told log then (Ask a) said logged
 
-pub moves_told : (h after : HelmData) (log then : ExecLog) (a : AttemptId) (said : SideAnswer)
+pub moves_told : (h after : JobDeskData) (log then : ExecLog) (a : AttemptId) (said : SideAnswer)
     → MovesBoth h log a said after then → IsToldTheSame log then
 moves_told h after log then a said both =
     aside_told log then (Move a both.moves.renamed) said both.logged
@@ -122,6 +122,11 @@ leaves_exec : (d after : DeskData) (log then : ExecLog) (left : Bool)
 leaves_exec d after log then true (stayed, noted, notes, logged) = logged.exec
 leaves_exec d after log then false (left, stays, same) = same.0
 
+-- who leaves was told the same before
+pub leaves_told : (d after : DeskData) (log then : ExecLog) (gone : Bool)
+    → LeavesBoth d log gone after then → IsToldTheSame log then
+leaves_told d after log then gone leaves = (told_still d after log then gone leaves).0
+
 -- who leaves has its cause
 pub leaves_cause : (work : WorkData) (d after : DeskData) (log then : ExecLog) (gone : Bool)
     (left : Left) → IsReasonToLeave work log left → LeavesBoth d log gone after then
@@ -137,7 +142,10 @@ leaves_cause work d after log then gone left reason leaves = by left reason
         hinders_still work log then left (leaves_exec d after log then gone leaves) still.0
 
     by : (left : Left) → IsReasonToLeave work log left → IsCause work then left
-    by (lefts.Busy held) (told, owes) = (still.0 ∙ told, still.1 ∙ owes)
+    by (lefts.Busy held) (inl (told, owes)) = inl (still.0 ∙ told, still.1 ∙ owes)
+    by (lefts.Busy held) (inr ((h, told, of), owes)) =
+        inr ((h, still.0 ∙ told, of), still.1 ∙ owes)
+    by (lefts.Drained strange) reason = hinders (lefts.Drained strange) reason
     by (lefts.Early early) reason = hinders (lefts.Early early) reason
     by (lefts.Stranger stranger) reason = hinders (lefts.Stranger stranger) reason
     by (lefts.Absent absence) reason = hinders (lefts.Absent absence) reason

@@ -93,6 +93,7 @@ so_unread store a (Err lefts.JobEnded) lacks = absurd lacks
 so_unread store a (Err (lefts.Stopped first)) lacks = absurd lacks
 so_unread store a (Err lefts.Lost) lacks = absurd lacks
 so_unread store a (Err (lefts.Busy held)) lacks = absurd lacks
+so_unread store a (Err (lefts.Drained strange)) lacks = absurd lacks
 
 -- ---- what keeps an executor from going on
 
@@ -117,6 +118,7 @@ unread_hinders exec t n (Err lefts.JobEnded) unread = absurd unread
 unread_hinders exec t n (Err (lefts.Stopped first)) unread = absurd unread
 unread_hinders exec t n (Err lefts.Lost) unread = absurd unread
 unread_hinders exec t n (Err (lefts.Busy held)) unread = absurd unread
+unread_hinders exec t n (Err (lefts.Drained strange)) unread = absurd unread
 
 -- what keeps it from its own store
 pub barred_hinders : {T : Type 0} (exec : ℕ) (h : HandOutData) (r : Result T Left)
@@ -132,3 +134,4 @@ barred_hinders exec h (Err lefts.JobEnded) barred = absurd barred
 barred_hinders exec h (Err (lefts.Stopped first)) barred = absurd barred
 barred_hinders exec h (Err lefts.Lost) barred = absurd barred
 barred_hinders exec h (Err (lefts.Busy held)) barred = absurd barred
+barred_hinders exec h (Err (lefts.Drained strange)) barred = absurd barred

@@ -88,6 +88,7 @@ worked_out work w cause = by w.left cause
     by (lefts.Busy held) why memory stays = absurd (true≢false stays)
     by (lefts.Stranger stranger) why memory stays = absurd (true≢false stays)
     by (lefts.Early early) why memory stays = absurd (true≢false stays)
+    by (lefts.Drained strange) why memory stays = absurd (true≢false stays)
     by (lefts.Absent absence) why memory stays = absurd (true≢false stays)
     by lefts.NoMemory why memory stays = absurd (true≢false memory)
 

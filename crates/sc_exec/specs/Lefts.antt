@@ -1,5 +1,5 @@
 -- Why an executor takes no more tasks, as its log tells.
-use Rattle.std.specs.Prelude.{ℕ, ◌≡◌, ◌<◌, ◌⊎◌, true, false, List, [], Contains, Some, None}
+use Rattle.std.specs.Prelude.{ℕ, ◌≡◌, ◌<◌, ◌⊎◌, true, false, List, [], ◌∷◌, Contains, Some, None}
 use Rattle.sc_ids.specs.declared.attempts.AttemptId.{AttemptId}
 use Rattle.sc_ids.specs.declared.blocks.Loc.{Loc}
 use Rattle.sc_lineage.specs.ScriptData.{WorkData}
@@ -10,6 +10,7 @@ use Rattle.sc_core.specs.declared.answers.Answer.{Answer}
 use Rattle.sc_core.specs.declared.answers.Answer.TheVariants as says
 use Rattle.sc_desk.specs.Orders.{IsDueOrder}
 use Rattle.sc_logs.specs.Folds.{has_asked_as, has_left, last_take, owed_after}
+use Rattle.sc_exec.specs.Draining.{IsMet}
 use Rattle.sc_exec.specs.Places.{IsMisplaced}
 use Rattle.sc_exec.specs.declared.lefts.Left.{Left}
 use Rattle.sc_exec.specs.declared.lefts.Left.TheVariants as lefts
@@ -26,6 +27,10 @@ WasTold answer log = last_take None log.entries.items ≡ Some answer
 abbrev pub IsToldTheSame : ExecLog → ExecLog → Type 0
 IsToldTheSame log then =
     last_take None then.entries.items ≡ last_take None log.entries.items
+
+-- the last Take of a log was answered with a task of this attempt
+abbrev pub HasTask : AttemptId → ExecLog → Type 0
+HasTask a log = (h : HandOutData) × WasTold (says.Task h) log × (h.attempt ≡ a)
 
 -- An executor is at work: it asked for itself alone and didn't leave, and these attempts are owed a
 -- report.
@@ -59,10 +64,21 @@ WasSent work log place =
 
 -- ---- why it takes no more tasks
 
+-- it has pushed the report of its task, and the desk has no receipt of it
+abbrev pub IsUnheardOf : AttemptId → ExecLog → Type 0
+IsUnheardOf held log = HasTask held log × (owed_after [] log.entries.items ≡ held ∷ [])
+
+-- it has this attempt out: it was told so that asked for a task, though none of its attempts was
+-- owed a report; or the report of its task was pushed, and no receipt came of it
+abbrev pub IsBusy : AttemptId → ExecLog → Type 0
+IsBusy held log =
+    (WasTold (says.Busy held) log × (owed_after [] log.entries.items ≡ []))
+    ⊎ IsUnheardOf held log
+
 -- What keeps an executor from going on. Where it was sent is another one's store; or the desk
 -- refused the report of its task; or a store was found past the wipes that are due, or without its
--- block, at a place where the task reads; or memory ran out. All but the last only the call makes
--- that meets it.
+-- block, at a place where the task reads; or the desk refused a report that was drained, whoever
+-- posted it; or memory ran out. All but the last only the call makes that meets it.
 abbrev pub IsHindrance : WorkData → ExecLog → Left → Type 0
 IsHindrance work log (lefts.Stranger (strangers.Store misplaced)) =
     IsMisplaced misplaced.place misplaced × WasSent work log misplaced.place
@@ -71,17 +87,23 @@ IsHindrance work log (lefts.Stranger (strangers.Report refused)) =
 IsHindrance work log (lefts.Early early) =
     (h : HandOutData) × WasTold (says.Task h) log × ReadsAt h early.exec
     × (early.due < early.found)
+IsHindrance work log (lefts.Drained strange) = IsMet strange
 IsHindrance work log (lefts.Absent absence) =
     (h : HandOutData) × WasTold (says.Task h) log × Contains h.inputs (Here absence.loc)
 IsHindrance work log lefts.NoMemory = Unit {0}
 IsHindrance work log left = ⊥
 
+-- what keeps who drained the queue of reports from going on
+abbrev pub HasDrained : Left → Type 0
+HasDrained (lefts.Drained strange) = IsMet strange
+HasDrained lefts.NoMemory = Unit {0}
+HasDrained left = ⊥
+
 -- The cause of each end. There was no more to do for it, and it stayed to the end; or it had a task
--- out, though none of its attempts was owed a report; or something kept it from going on.
+-- out that it had reported; or something kept it from going on.
 abbrev pub IsCause : WorkData → ExecLog → Left → Type 0
 IsCause work log lefts.JobEnded = WasTold says.Ended log × IsAtWork [] log
 IsCause work log (lefts.Stopped exec) = WasTold (says.Stopped exec) log × IsAtWork [] log
 IsCause work log lefts.Lost = WasTold says.Lost log × IsAtWork [] log
-IsCause work log (lefts.Busy held) =
-    WasTold (says.Busy held) log × (owed_after [] log.entries.items ≡ [])
+IsCause work log (lefts.Busy held) = IsBusy held log
 IsCause work log left = IsHindrance work log left

@@ -1,10 +1,14 @@
+pub mod Crews
+pub mod Draining
 pub mod Fetching
-pub mod Helms
+pub mod JobDesks
 pub mod Lefts
 pub mod Logging
 pub mod Openings
 pub mod Performing
 pub mod Places
+pub mod Receipts
+pub mod Sending
 pub mod Turns
 pub mod Verdicts
 pub mod Workers

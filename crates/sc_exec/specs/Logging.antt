@@ -31,7 +31,7 @@ use Rattle.sc_desk.specs.declared.posts.Posted.TheVariants as posteds
 use Rattle.sc_desk.specs.declared.receipts.Noted.{Noted}
 use Rattle.sc_desk.specs.declared.receipts.Receipt.{Receipt}
 use Rattle.sc_desk.specs.declared.takes.Taken.{Taken}
-use Rattle.sc_exec.specs.Helms.{HelmData}
+use Rattle.sc_exec.specs.JobDesks.{JobDeskData}
 use Rattle.sc_exec.specs.declared.calls.Delivery.{Delivery}
 use Rattle.sc_exec.specs.declared.calls.Delivery.TheVariants as deliveries
 use Rattle.sc_exec.specs.declared.calls.TooEarly.{TooEarly}
@@ -100,6 +100,29 @@ IsDelivered log event (posteds.Early report due) (deliveries.Early back early) t
     (back ≡ report) × TellsEarly report.finding due early × IsSameLog log then
 IsDelivered log event posted delivery then = ⊥
 
+-- what becomes of a report that was posted, where nothing is logged of it yet
+abbrev pub IsSaid : {W : _} → Posted W → Delivery W → Type 0
+IsSaid (posteds.Receipt receipt) deliveries.Received = Unit {0}
+IsSaid (posteds.Stranger report) (deliveries.Stranger back refused) =
+    (back ≡ report) × (refused.attempt ≡ attempt_of report)
+IsSaid (posteds.Early report due) (deliveries.Early back early) =
+    (back ≡ report) × TellsEarly report.finding due early
+IsSaid posted delivery = ⊥
+
+-- ---- reports that were on their way
+
+-- a report comes, and is received under the mark of this executor, or is handed back with no entry
+abbrev pub PostsAs : {W : _} → WorkData → DeskData → ℕ → ReportData → Delivery W → DeskData
+    → Type 0
+PostsAs work d exec report deliveries.Received after =
+    (receipt : Receipt) × Receives work d (Exec exec) report receipt after
+PostsAs work d exec report (deliveries.Stranger back refused) after =
+    (IsKnown d report → ⊥) × (refused.attempt ≡ attempt_of report) × (back ≡ report)
+    × (after ≡ d)
+PostsAs work d exec report (deliveries.Early back early) after =
+    IsKnown d report × IsEarlyFor work (core_of d).told report.finding early × (back ≡ report)
+    × (after ≡ d)
+
 -- ---- calls: each makes one entry, which the log has too
 
 -- the executor asks for a task
@@ -153,8 +176,8 @@ AsksBoth d log attempt answer after then =
     × IsLogged log (events.Side (Ask attempt)) (says.Side answer) then
 
 -- its attempt, where it comes next, writes its part, which has this text
-pub record StagesBoth (h : HelmData) (log : ExecLog) (attempt : AttemptId) (text : List ℕ)
-    (answer : SideAnswer) (after : HelmData) (then : ExecLog) : Type 0 where
+pub record StagesBoth (h : JobDeskData) (log : ExecLog) (attempt : AttemptId) (text : List ℕ)
+    (answer : SideAnswer) (after : JobDeskData) (then : ExecLog) : Type 0 where
   pub dir : Path
   pub saves_to : h.dir ≡ Some dir
   pub stays : after.dir ≡ Some dir
@@ -165,8 +188,8 @@ pub record StagesBoth (h : HelmData) (log : ExecLog) (attempt : AttemptId) (text
   pub logged : IsLogged log (events.Side (Stage attempt stages.wrote)) (says.Side answer) then
 
 -- its attempt, where it comes next, gives its part the name of a committed one
-pub record MovesBoth (h : HelmData) (log : ExecLog) (attempt : AttemptId) (answer : SideAnswer)
-    (after : HelmData) (then : ExecLog) : Type 0 where
+pub record MovesBoth (h : JobDeskData) (log : ExecLog) (attempt : AttemptId) (answer : SideAnswer)
+    (after : JobDeskData) (then : ExecLog) : Type 0 where
   pub dir : Path
   pub saves_to : h.dir ≡ Some dir
   pub stays : after.dir ≡ Some dir

@@ -21,6 +21,7 @@ abbrev pub gives_up : Left → Bool
 gives_up (lefts.Busy held) = true
 gives_up (lefts.Stranger stranger) = true
 gives_up (lefts.Early early) = true
+gives_up (lefts.Drained strange) = true
 gives_up (lefts.Absent absence) = true
 gives_up left = false
 

@@ -2,13 +2,12 @@
 use Rattle.std.specs.Prelude.{ℕ, ◌≡◌, ◌<◌, List, [], ◌∷◌}
 use Rattle.sc_ids.specs.declared.attempts.AttemptId.{AttemptId}
 use Rattle.sc_lineage.specs.ScriptData.{WorkData}
-use Rattle.sc_core.specs.declared.answers.Answer.TheVariants as says
 use Rattle.sc_core.specs.declared.answers.SideAnswer.{SideAnswer}
 use Rattle.sc_core.specs.declared.answers.SideAnswer.TheVariants.{Over}
-use Rattle.sc_logs.specs.Folds.{owed_after}
 use Rattle.sc_logs.specs.declared.logs.ExecLog.{ExecLog}
-use Rattle.sc_exec.specs.Lefts.{IsAtWork, IsCause, IsHindrance, WasTold}
+use Rattle.sc_exec.specs.Lefts.{IsBusy, IsCause, IsHindrance}
 use Rattle.sc_exec.specs.Logging.{HasRoom}
+use Rattle.sc_exec.specs.Receipts.{Awaits}
 use Rattle.sc_exec.specs.Workers.{HasCause}
 use Rattle.sc_exec.specs.declared.lefts.Left.{Left}
 use Rattle.sc_exec.specs.declared.lefts.Left.TheVariants as lefts
@@ -26,16 +25,16 @@ owed_by a said = a ∷ []
 
 -- ---- turns
 
--- what an executor says that leaves of its own accord: it was told that it has a task out, though
--- no report is owed, or something keeps it from going on
+-- what an executor says that leaves of its own accord: it has a task out that it reported, or
+-- something keeps it from going on
 abbrev pub IsReasonToLeave : WorkData → ExecLog → Left → Type 0
-IsReasonToLeave work log (lefts.Busy held) =
-    WasTold (says.Busy held) log × (owed_after [] log.entries.items ≡ [])
+IsReasonToLeave work log (lefts.Busy held) = IsBusy held log
 IsReasonToLeave work log left = IsHindrance work log left
 
--- how a turn ends: the executor is at work still, owes no report and can leave, or has its cause
+-- how a turn ends: the executor is at work still, and waits to hear of its report, if it pushed
+-- one, or has its cause
 abbrev pub IsTurn : WorkData → Turn → ExecLog → Type 0
-IsTurn work turns.Again log = IsAtWork [] log × HasRoom log
+IsTurn work (turns.Again sent) log = Awaits sent log
 IsTurn work (turns.Over left) log = IsCause work log left
 
 -- ---- executors
@@ -45,6 +44,8 @@ pub record IsFresh (executors : ℕ) (w : Worker) : Type 0 where
   pub entries : w.log.entries.items ≡ []
   pub room : HasRoom w.log
   pub known : w.log.exec < executors
+  -- where it doesn't come to work, that is for want of memory
+  pub left : w.left ≡ lefts.NoMemory
 
 -- it has worked since
 abbrev pub HasWorked : WorkData → Worker → Worker → Type 0

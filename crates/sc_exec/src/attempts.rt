@@ -1,29 +1,33 @@
 //! One attempt, from its task to its report.
 #![tactic(auto)]
 
-ghost use Rattle.std.specs.Prelude.{◌≡◌, ◌<◌, ◌∷◌, [], All, IfErr, IfOk, OnOk, true};
+ghost use Rattle.std.specs.Prelude.{◌≡◌, ◌<◌, ◌∷◌, [], All, IfErr, IfOk, true};
+ghost use Rattle.crossbeam_queue.specs.Passes.{view};
+ghost use Rattle.sc_queue.specs.Rule.{pushed_of};
 ghost use Rattle.sc_core.specs.declared.answers.Answer.TheVariants as says;
 ghost use Rattle.sc_jobs.specs.JobData.{saves};
-ghost use Rattle.sc_desk.specs.Saving.{IsEvidentAnswer};
 ghost use Rattle.sc_task.specs.States.{IsOfPart};
-ghost use Rattle.sc_exec.specs.Lefts.{IsAtWork, IsHindrance, IsToldTheSame, WasTold};
+ghost use Rattle.sc_exec.specs.Lefts.{IsAtWork, IsHindrance, WasTold};
 ghost use Rattle.sc_exec.specs.Logging.{HasRoom};
+ghost use Rattle.sc_exec.specs.Receipts.{Awaits};
+ghost use Rattle.sc_exec.specs.Sending.{Sends};
 ghost use Rattle.sc_exec.specs.Turns.{LiesOrLay};
-ghost use Rattle.sc_exec.specs.Working.{owed_by};
 
-use crate::calls::Delivery;
 use crate::driver::Driver;
 use crate::gates::Gate;
-use crate::lefts::{Left, Stranger};
+use crate::lefts::Left;
 use crate::openings::Opening;
 use crate::performing::{Prepared, prepare};
 use crate::places::Stores;
+use crate::posting::post;
+use crate::saving::{ask, move_part, stage};
 use crate::visits::Witnessed;
 use sc_core::SideAnswer;
 use sc_files::Files;
 use sc_ids::AttemptId;
 use sc_logs::ExecLog;
 use sc_net::Task;
+use sc_queue::Poster;
 use sc_task::{Computed, Staged};
 use sc_work::Naming;
 use std::alloc::Global;
@@ -31,6 +35,7 @@ use std::sync::Wait;
 
 /// An executor does a task that it was handed, once its gate lets it, and posts what its attempt
 /// reports. An attempt of a save has its part written and moved before.
+#[tactic(auto, using(crate::proofs::SendLemmas::pushes_sends))]
 pub(crate) fn perform<W: Naming, J: Opening, F: Files, G: Gate, R: Wait>(
     rt: &R,
     alloc: Global,
@@ -38,124 +43,121 @@ pub(crate) fn perform<W: Naming, J: Opening, F: Files, G: Gate, R: Wait>(
     stores: &Stores<W>,
     gate: &G,
     log: &mut ExecLog,
+    poster: &mut Poster<Witnessed<W>, J>,
     task: Task<W>,
-) -> Result<(), Left>
+) -> Result<Option<AttemptId>, Left>
     requires told { WasTold (says.Task task.hand_out) log.old }
     requires works { IsAtWork (task.hand_out.attempt ∷ []) log.old }
     requires job { task.job ≡ J.opening.job }
     requires lay { All (LiesOrLay W.work.limits.executors) task.hand_out.inputs }
     requires known { log.old.exec < W.work.limits.executors }
     requires room { HasRoom log.old }
-    ensures works { OnOk result (IsAtWork [] log.new) }
+    ensures sends { Sends result
+        (pushed_of (view poster.old.pass)) (pushed_of (view poster.new.pass)) }
+    ensures awaits { IfOk result (λ sent. Awaits sent log.new) }
     ensures hinders { IfErr result (IsHindrance W.work log.new) }
     ensures exec { log.new.exec ≡ log.old.exec }
     ensures room { HasRoom log.new }
 {
     gate.enter(rt, log.exec, task.attempt());
     match prepare(rt, alloc, stores, log.exec, task)? {
-        Prepared::Report(report) => post(rt, driver, log, report),
-        Prepared::Part(computed) => save(rt, alloc, driver, log, computed),
-    }
-}
-
-/// An executor posts what its attempt reports.
-#[tactic(auto, using(crate::proofs::OwedLemmas::posts_owed))]
-fn post<W: Naming, J: Opening, F: Files, R: Wait>(
-    rt: &R,
-    driver: &Driver<W, J, F>,
-    log: &mut ExecLog,
-    report: Witnessed<W>,
-) -> Result<(), Left>
-    requires told { WasTold (says.Task report.task.hand_out) log.old }
-    requires job { report.task.job ≡ J.opening.job }
-    requires works { IsAtWork (report.task.hand_out.attempt ∷ []) log.old }
-    requires room { HasRoom log.old }
-    ensures works { OnOk result (IsAtWork [] log.new) }
-    ensures hinders { IfErr result (IsHindrance W.work log.new) }
-    ensures exec { log.new.exec ≡ log.old.exec }
-    ensures room { HasRoom log.new }
-{
-    report.is_true();
-    let posted = driver.helm.lock(rt).post(log, report);
-    driver.bell.notify_all();
-    let Ok(delivery) = posted else {
-        return Err(Left::NoMemory);
-    };
-    match delivery {
-        Delivery::Received => Ok(()),
-        Delivery::Stranger { refused, .. } => Err(Left::Stranger(Stranger::Report(refused))),
-        Delivery::Early { early, .. } => Err(Left::Early(early)),
+        Prepared::Report(report) => post(rt, driver, log, poster, report),
+        Prepared::Part(computed) => save(rt, alloc, driver, log, poster, computed),
     }
 }
 
 /// An attempt of a save has its part written, and commits it, unless it is over before; else it
 /// reports that it can't.
+#[tactic(auto, using(crate::proofs::SendLemmas::pushes_sends))]
 fn save<W: Naming, J: Opening, F: Files, R: Wait>(
     rt: &R,
     alloc: Global,
     driver: &Driver<W, J, F>,
     log: &mut ExecLog,
+    poster: &mut Poster<Witnessed<W>, J>,
     computed: Computed<W>,
-) -> Result<(), Left>
+) -> Result<Option<AttemptId>, Left>
     requires told { WasTold (says.Task computed.task.hand_out) log.old }
     requires works { IsAtWork (computed.task.hand_out.attempt ∷ []) log.old }
     requires part { IsOfPart W.work computed.task }
     requires job { computed.task.job ≡ J.opening.job }
     requires room { HasRoom log.old }
-    ensures works { OnOk result (IsAtWork [] log.new) }
+    ensures sends { Sends result
+        (pushed_of (view poster.old.pass)) (pushed_of (view poster.new.pass)) }
+    ensures awaits { IfOk result (λ sent. Awaits sent log.new) }
     ensures hinders { IfErr result (IsHindrance W.work log.new) }
     ensures exec { log.new.exec ≡ log.old.exec }
     ensures room { HasRoom log.new }
 {
     match stage(rt, alloc, driver, log, &computed)? {
-        SideAnswer::Staged => commit(rt, alloc, driver, log, computed.staged()),
-        SideAnswer::Fault(fault) => post(rt, driver, log, Witnessed::of(computed.device(fault))),
-        SideAnswer::Over => Ok(()),
+        SideAnswer::Staged => commit(rt, alloc, driver, log, poster, computed.staged()),
+        SideAnswer::Fault(fault) => post(
+            rt,
+            driver,
+            log,
+            poster,
+            Witnessed::of(computed.device(fault)),
+        ),
+        SideAnswer::Over => Ok(None),
         // the job has ended, and nothing may be committed any more
-        _ => post(rt, driver, log, Witnessed::of(computed.staged().denied())),
+        _ => post(
+            rt,
+            driver,
+            log,
+            poster,
+            Witnessed::of(computed.staged().denied()),
+        ),
     }
 }
 
 /// An attempt of a save whose part was written asks whether it may commit, and has its part moved
 /// where it may.
+#[tactic(auto, using(crate::proofs::SendLemmas::pushes_sends))]
 fn commit<W: Naming, J: Opening, F: Files, R: Wait>(
     rt: &R,
     alloc: Global,
     driver: &Driver<W, J, F>,
     log: &mut ExecLog,
+    poster: &mut Poster<Witnessed<W>, J>,
     staged: Staged<W>,
-) -> Result<(), Left>
+) -> Result<Option<AttemptId>, Left>
     requires told { WasTold (says.Task staged.task.hand_out) log.old }
     requires job { staged.task.job ≡ J.opening.job }
     requires works { IsAtWork (staged.task.hand_out.attempt ∷ []) log.old }
     requires saves { saves W.work J.opening.job.goal ≡ true }
     requires room { HasRoom log.old }
-    ensures works { OnOk result (IsAtWork [] log.new) }
+    ensures sends { Sends result
+        (pushed_of (view poster.old.pass)) (pushed_of (view poster.new.pass)) }
+    ensures awaits { IfOk result (λ sent. Awaits sent log.new) }
     ensures hinders { IfErr result (IsHindrance W.work log.new) }
     ensures exec { log.new.exec ≡ log.old.exec }
     ensures room { HasRoom log.new }
 {
     match ask(rt, driver, log, staged.task().attempt())? {
-        SideAnswer::Granted => finish(rt, alloc, driver, log, staged),
-        SideAnswer::Over => Ok(()),
-        _ => post(rt, driver, log, Witnessed::of(staged.denied())),
+        SideAnswer::Granted => finish(rt, alloc, driver, log, poster, staged),
+        SideAnswer::Over => Ok(None),
+        _ => post(rt, driver, log, poster, Witnessed::of(staged.denied())),
     }
 }
 
 /// An attempt of a save that may commit has its part moved, and reports it.
+#[tactic(auto, using(crate::proofs::SendLemmas::pushes_sends))]
 fn finish<W: Naming, J: Opening, F: Files, R: Wait>(
     rt: &R,
     alloc: Global,
     driver: &Driver<W, J, F>,
     log: &mut ExecLog,
+    poster: &mut Poster<Witnessed<W>, J>,
     staged: Staged<W>,
-) -> Result<(), Left>
+) -> Result<Option<AttemptId>, Left>
     requires told { WasTold (says.Task staged.task.hand_out) log.old }
     requires job { staged.task.job ≡ J.opening.job }
     requires works { IsAtWork (staged.task.hand_out.attempt ∷ []) log.old }
     requires saves { saves W.work J.opening.job.goal ≡ true }
     requires room { HasRoom log.old }
-    ensures works { OnOk result (IsAtWork [] log.new) }
+    ensures sends { Sends result
+        (pushed_of (view poster.old.pass)) (pushed_of (view poster.new.pass)) }
+    ensures awaits { IfOk result (λ sent. Awaits sent log.new) }
     ensures hinders { IfErr result (IsHindrance W.work log.new) }
     ensures exec { log.new.exec ≡ log.old.exec }
     ensures room { HasRoom log.new }
@@ -165,102 +167,18 @@ fn finish<W: Naming, J: Opening, F: Files, R: Wait>(
             rt,
             driver,
             log,
+            poster,
             Witnessed::of(staged.granted().moved().report()),
         ),
         SideAnswer::Fault(fault) => post(
             rt,
             driver,
             log,
+            poster,
             Witnessed::of(staged.granted().device(fault)),
         ),
-        SideAnswer::Over => Ok(()),
+        SideAnswer::Over => Ok(None),
         // the job has ended, and the grant counts no more
-        _ => post(rt, driver, log, Witnessed::of(staged.denied())),
-    }
-}
-
-/// An attempt of a save has its part written at the desk.
-#[tactic(auto, using(crate::proofs::OwedLemmas::stages_owed))]
-fn stage<W: Naming, J: Opening, F: Files, R: Wait>(
-    rt: &R,
-    alloc: Global,
-    driver: &Driver<W, J, F>,
-    log: &mut ExecLog,
-    computed: &Computed<W>,
-) -> Result<SideAnswer, Left>
-    requires works { IsAtWork (computed.now.task.hand_out.attempt ∷ []) log.old }
-    requires part { IsOfPart W.work computed.now.task }
-    requires job { computed.now.task.job ≡ J.opening.job }
-    requires room { HasRoom log.old }
-    ensures works { IfOk result
-        (λ said. IsAtWork (owed_by computed.now.task.hand_out.attempt said) log.new) }
-    ensures told { OnOk result (IsToldTheSame log.old log.new) }
-    ensures evident { IfOk result IsEvidentAnswer }
-    ensures hinders { IfErr result (IsHindrance W.work log.new) }
-    ensures exec { log.new.exec ≡ log.old.exec }
-    ensures room { HasRoom log.new }
-{
-    let attempt = computed.task().attempt();
-    let Ok(text) = computed.part_text(alloc) else {
-        return Err(Left::NoMemory);
-    };
-    let said = driver
-        .helm
-        .lock(rt)
-        .stage_part(alloc, log, attempt, text.as_slice());
-    driver.bell.notify_all();
-    match said {
-        Ok(said) => Ok(said),
-        Err(_) => Err(Left::NoMemory),
-    }
-}
-
-/// An attempt of a save asks at the desk whether it may commit.
-fn ask<W: Naming, J: Opening, F: Files, R: Wait>(
-    rt: &R,
-    driver: &Driver<W, J, F>,
-    log: &mut ExecLog,
-    attempt: AttemptId,
-) -> Result<SideAnswer, Left>
-    requires works { IsAtWork (attempt ∷ []) log.old }
-    requires room { HasRoom log.old }
-    ensures works { IfOk result (λ said. IsAtWork (owed_by attempt said) log.new) }
-    ensures told { OnOk result (IsToldTheSame log.old log.new) }
-    ensures hinders { IfErr result (IsHindrance W.work log.new) }
-    ensures exec { log.new.exec ≡ log.old.exec }
-    ensures room { HasRoom log.new }
-{
-    let said = driver.helm.lock(rt).ask(log, attempt);
-    driver.bell.notify_all();
-    match said {
-        Ok(said) => Ok(said),
-        Err(_) => Err(Left::NoMemory),
-    }
-}
-
-/// An attempt of a save has its part moved at the desk.
-#[tactic(auto, using(crate::proofs::OwedLemmas::moves_owed))]
-fn move_part<W: Naming, J: Opening, F: Files, R: Wait>(
-    rt: &R,
-    alloc: Global,
-    driver: &Driver<W, J, F>,
-    log: &mut ExecLog,
-    attempt: AttemptId,
-) -> Result<SideAnswer, Left>
-    requires works { IsAtWork (attempt ∷ []) log.old }
-    requires saves { saves W.work J.opening.job.goal ≡ true }
-    requires room { HasRoom log.old }
-    ensures works { IfOk result (λ said. IsAtWork (owed_by attempt said) log.new) }
-    ensures told { OnOk result (IsToldTheSame log.old log.new) }
-    ensures evident { IfOk result IsEvidentAnswer }
-    ensures hinders { IfErr result (IsHindrance W.work log.new) }
-    ensures exec { log.new.exec ≡ log.old.exec }
-    ensures room { HasRoom log.new }
-{
-    let said = driver.helm.lock(rt).move_part(alloc, log, attempt);
-    driver.bell.notify_all();
-    match said {
-        Ok(said) => Ok(said),
-        Err(_) => Err(Left::NoMemory),
+        _ => post(rt, driver, log, poster, Witnessed::of(staged.denied())),
     }
 }

@@ -2,10 +2,10 @@
 #![tactic(auto)]
 
 ghost use Rattle.std.specs.Prelude.{◌≡◌, ◌<◌, ◌+◌, IfErr, IfOk, OnErr, vec_capacity, vec_len};
-ghost use Rattle.sc_exec.specs.Helms.{KeepsFiles};
-ghost use Rattle.sc_exec.specs.Logging.{HasRoom, IsDelivered, IsPossible, IsSameLog, IsTooEarly, PostsBoth, TakesBoth, TellsEarly};
+ghost use Rattle.sc_exec.specs.JobDesks.{KeepsFiles};
+ghost use Rattle.sc_exec.specs.Logging.{HasRoom, IsDelivered, IsPossible, IsSaid, IsSameLog, IsTooEarly, PostsAs, PostsBoth, TakesBoth, TellsEarly};
 
-use crate::helms::Helm;
+use crate::job_desks::JobDesk;
 use crate::openings::Opening;
 use crate::visits::Witnessed;
 use sc_core::{Entry, Event};
@@ -18,7 +18,7 @@ use sc_work::Naming;
 use std::alloc::{AllocError, AllocFailed};
 
 /// The desk refused a report as not of the task that was given to its attempt. Only who posted it
-/// makes one ([`Helm::post`]).
+/// makes one ([`JobDesk::post`]).
 #[derive(Clone, Copy, Debug, PartialEq, Eq)]
 pub struct Refused {
     attempt: AttemptId,
@@ -34,7 +34,7 @@ impl Refused {
 }
 
 /// The desk refused a report as speaking of a generation that no wipe has brought yet. Only who
-/// posted it makes one ([`Helm::post`]).
+/// posted it makes one ([`JobDesk::post`]).
 #[derive(Clone, Copy, Debug, PartialEq, Eq)]
 pub struct TooEarly {
     exec: ExecId,
@@ -86,9 +86,9 @@ pub enum Delivery<W: Naming> {
     },
 }
 
-impl<W: Naming, J: Opening, F: Files> Helm<W, J, F> {
+impl<W: Naming, J: Opening, F: Files> JobDesk<W, J, F> {
     /// An executor asks for a task, and logs what it was answered. A refused call changes nothing.
-    #[tactic(auto, using(crate::proofs::HelmLemmas::job_same))]
+    #[tactic(auto, using(crate::proofs::JobDeskLemmas::job_same))]
     pub fn take(&mut self, log: &mut ExecLog) -> Result<Taken<W>, AllocError>
         requires room { HasRoom log.old }
         ensures taken { IfOk result
@@ -110,9 +110,27 @@ impl<W: Naming, J: Opening, F: Files> Helm<W, J, F> {
         Ok(taken)
     }
 
+    /// A report that was on its way comes, and is entered under the mark of the executor that
+    /// posted it. A refused call changes nothing and hands the report back.
+    #[tactic(auto, using(crate::proofs::Rules::says_post))]
+    pub(crate) fn receive(
+        &mut self,
+        exec: ExecId,
+        report: Witnessed<W>,
+    ) -> Result<Delivery<W>, AllocFailed<Witnessed<W>>>
+        ensures posted { IfOk result
+            (λ p. PostsAs W.work self.old.desk exec report p self.new.desk) }
+        ensures files { KeepsFiles self.old self.new }
+        ensures refused { OnErr result (self.new ≡ self.old) }
+        ensures back { IfErr result (λ failed. failed.value ≡ report) }
+    {
+        let posted = report.come_to(&mut self.desk, Mark::Exec(exec))?;
+        Ok(delivery_of(posted))
+    }
+
     /// An executor posts a report, and logs what it was answered. One that is handed back isn't
     /// logged. A refused call changes nothing and hands the report back.
-    #[tactic(auto, using(crate::proofs::LogLemmas::log_post, crate::proofs::HelmLemmas::job_same))]
+    #[tactic(auto, using(crate::proofs::Rules::logs_post))]
     pub fn post(
         &mut self,
         log: &mut ExecLog,
@@ -155,6 +173,26 @@ fn delivered<W: Naming>(log: &mut ExecLog, event: Event, posted: Posted<W>) -> D
             });
             Delivery::Received
         }
+        Posted::Stranger(report) => Delivery::Stranger {
+            refused: Refused {
+                attempt: report.attempt(),
+            },
+            report,
+        },
+        Posted::Early { report, due } => Delivery::Early {
+            early: too_early(&report, due),
+            report,
+        },
+    }
+}
+
+/// What becomes of a report that was posted, where nothing is logged of it yet.
+fn delivery_of<W: Naming>(posted: Posted<W>) -> Delivery<W>
+    requires possible { IsPossible W.work posted }
+    ensures { IsSaid posted result }
+{
+    match posted {
+        Posted::Receipt(_) => Delivery::Received,
         Posted::Stranger(report) => Delivery::Stranger {
             refused: Refused {
                 attempt: report.attempt(),

@@ -3,10 +3,10 @@
 
 ghost use Rattle.std.specs.Prelude.{◌≡◌, ◌<◌};
 ghost use Rattle.sc_desk.specs.Dues.{IsOrdered};
-ghost use Rattle.sc_exec.specs.Helms.{KeepsFiles};
+ghost use Rattle.sc_exec.specs.JobDesks.{KeepsFiles};
 ghost use Rattle.sc_exec.specs.Logging.{HasRoom, LeavesBoth, leave_answer};
 
-use crate::helms::Helm;
+use crate::job_desks::JobDesk;
 use crate::openings::Opening;
 use sc_core::{Answer, Core, Entry, Event, JobState, SideAnswer, SideEvent};
 use sc_files::Files;
@@ -15,10 +15,10 @@ use sc_logs::ExecLog;
 use sc_plan::Order;
 use sc_work::Naming;
 
-impl<W: Naming, J: Opening, F: Files> Helm<W, J, F> {
+impl<W: Naming, J: Opening, F: Files> JobDesk<W, J, F> {
     /// An executor of the work that can't go on leaves the job, and logs what it was answered. It
     /// takes no memory. False comes exactly where it left before, and then nothing changes.
-    #[tactic(auto, using(crate::proofs::LogLemmas::log_leave, crate::proofs::HelmLemmas::job_same))]
+    #[tactic(auto, using(crate::proofs::Rules::logs_leave))]
     pub fn leave(&mut self, log: &mut ExecLog) -> bool
         requires known { log.old.exec < W.work.limits.executors }
         requires room { HasRoom log.old }
@@ -40,7 +40,7 @@ impl<W: Naming, J: Opening, F: Files> Helm<W, J, F> {
 
     /// The order of the fault plan that comes next, if one is due while the job runs. It counts as
     /// handed out from now on.
-    #[tactic(auto, using(crate::proofs::HelmLemmas::job_ordered))]
+    #[tactic(auto, using(crate::proofs::JobDeskLemmas::job_ordered))]
     pub fn due_order(&mut self) -> Option<Order>
         ensures ordered { IsOrdered W.work self.old.desk result self.new.desk }
         ensures files { KeepsFiles self.old self.new }

@@ -2,6 +2,7 @@
 #![tactic(auto)]
 
 use crate::calls::{Refused, TooEarly};
+use crate::drains::Strange;
 use crate::places::Misplaced;
 use crate::visits::Absence;
 use sc_ids::{AttemptId, ExecId};
@@ -19,7 +20,8 @@ pub enum Left {
     },
     /// It was told lost.
     Lost,
-    /// It asked for a task while it had one out.
+    /// It has a task out, though it reported: it was told so that asked for one, or the desk had no
+    /// receipt of what it had pushed.
     Busy {
         /// Its attempt.
         held: AttemptId,
@@ -28,6 +30,8 @@ pub enum Left {
     Stranger(Stranger),
     /// The desk refused what it reported as not possible yet.
     Early(TooEarly),
+    /// It drained the queue of reports, and the desk refused one, its own or another one's.
+    Drained(Strange),
     /// A block that it was sent to isn't there.
     Absent(Absence),
     /// Memory ran out.

@@ -3,10 +3,11 @@
 
 ghost use Rattle.sc_exec.specs.Openings.{OpeningData, no_opening};
 
+use sc_queue::Queued;
 use std::marker::Brand;
 
-/// A type that stands for how a job began. It has no bytes.
-pub trait Opening {
+/// A type that stands for how a job began, and for the queue of its reports. It has no bytes.
+pub trait Opening: Queued {
     ghost opening: { OpeningData };
 }
 

@@ -6,10 +6,10 @@ ghost use Rattle.sc_desk.specs.Files.{part_texts};
 ghost use Rattle.sc_desk.specs.Saving.{IsEvidentAnswer};
 ghost use Rattle.sc_jobs.specs.JobData.{saves};
 ghost use Rattle.sc_staging.specs.Done.{text_of};
-ghost use Rattle.sc_exec.specs.Helms.{KeepsFiles};
+ghost use Rattle.sc_exec.specs.JobDesks.{KeepsFiles};
 ghost use Rattle.sc_exec.specs.Logging.{AsksBoth, HasRoom, IsLastEvent, IsLoggedLast, IsSameLog, MovesBoth, StagesBoth};
 
-use crate::helms::Helm;
+use crate::job_desks::JobDesk;
 use crate::openings::Opening;
 use sc_core::{Answer, Entry, Event, SideAnswer, SideEvent};
 use sc_files::Files;
@@ -20,10 +20,10 @@ use sc_staging::Output;
 use sc_work::Naming;
 use std::alloc::{AllocError, Global};
 
-impl<W: Naming, J: Opening, F: Files> Helm<W, J, F> {
+impl<W: Naming, J: Opening, F: Files> JobDesk<W, J, F> {
     /// An attempt of an executor asks whether it may commit, and what it was answered is logged. A
     /// refused call changes nothing.
-    #[tactic(auto, using(crate::proofs::HelmLemmas::job_same))]
+    #[tactic(auto, using(crate::proofs::JobDeskLemmas::job_same))]
     pub fn ask(&mut self, log: &mut ExecLog, attempt: AttemptId) -> Result<SideAnswer, AllocError>
         requires room { HasRoom log.old }
         ensures asked { IfOk result

@@ -7,10 +7,10 @@ ghost use Rattle.sc_core.specs.Releases.{has_no_shelved};
 ghost use Rattle.sc_core.specs.declared.answers.NotEnabled.{NotEnabled};
 ghost use Rattle.sc_base.specs.declared.refusals.OrMemory.TheVariants as OrMemory;
 ghost use Rattle.sc_desk.specs.DeskData.{core_of};
-ghost use Rattle.sc_exec.specs.Helms.{KeepsFiles};
+ghost use Rattle.sc_exec.specs.JobDesks.{KeepsFiles};
 ghost use Rattle.sc_exec.specs.Logging.{HasRoom, IsSameLog, LosesBoth, ReleasesBoth};
 
-use crate::helms::Helm;
+use crate::job_desks::JobDesk;
 use crate::openings::Opening;
 use sc_base::OrMemory;
 use sc_core::{Entry, Event, NotEnabled};
@@ -19,10 +19,10 @@ use sc_ids::{ExecId, Mark};
 use sc_logs::ExecLog;
 use sc_work::Naming;
 
-impl<W: Naming, J: Opening, F: Files> Helm<W, J, F> {
+impl<W: Naming, J: Opening, F: Files> JobDesk<W, J, F> {
     /// An executor has the report under a key told, and logs what it was answered. A fault says
     /// that there is no such report. A refused call changes nothing.
-    #[tactic(auto, using(crate::proofs::HelmLemmas::job_same))]
+    #[tactic(auto, using(crate::proofs::JobDeskLemmas::job_same))]
     pub fn release(&mut self, log: &mut ExecLog, key: u32) -> Result<(), OrMemory<NotEnabled>>
         requires room { HasRoom log.old }
         ensures released { OnOk result
@@ -47,7 +47,7 @@ impl<W: Naming, J: Opening, F: Files> Helm<W, J, F> {
 
     /// An executor has another one told lost, or itself, and logs what it was answered. A fault
     /// says that it may not be told so. A refused call changes nothing.
-    #[tactic(auto, using(crate::proofs::HelmLemmas::job_same))]
+    #[tactic(auto, using(crate::proofs::JobDeskLemmas::job_same))]
     pub fn tell_lost(&mut self, log: &mut ExecLog, exec: ExecId) -> Result<(), OrMemory<NotEnabled>>
         requires room { HasRoom log.old }
         ensures lost { OnOk result

@@ -3,11 +3,11 @@
 
 ghost use Rattle.std.specs.Prelude.{◌≡◌, [], OnErr, OnOk};
 ghost use Rattle.sc_desk.specs.DeskData.{core_of};
-ghost use Rattle.sc_exec.specs.Helms.{KeepsFiles};
+ghost use Rattle.sc_exec.specs.JobDesks.{KeepsFiles};
 ghost use Rattle.sc_exec.specs.Lefts.{IsAtWork};
 ghost use Rattle.sc_exec.specs.Logging.{HasRoom, IsSameLog, IsTimed, TicksBoth};
 
-use crate::helms::Helm;
+use crate::job_desks::JobDesk;
 use crate::openings::Opening;
 use sc_clock::Clock;
 use sc_core::{Answer, Entry, Event, SideEvent};
@@ -18,10 +18,10 @@ use sc_work::Naming;
 use std::alloc::AllocError;
 use std::sync::{Mutex, Wait};
 
-impl<W: Naming, J: Opening, F: Files> Helm<W, J, F> {
+impl<W: Naming, J: Opening, F: Files> JobDesk<W, J, F> {
     /// An executor has the time entered, in milliseconds, and logs what it was answered. Of the
     /// time nothing is known. A refused call changes nothing.
-    #[tactic(auto, using(crate::proofs::HelmLemmas::job_same))]
+    #[tactic(auto, using(crate::proofs::JobDeskLemmas::job_same))]
     pub fn tick(&mut self, log: &mut ExecLog, now: u64) -> Result<(), AllocError>
         requires room { HasRoom log.old }
         ensures ticked { OnOk result (TicksBoth self.old.desk log.old now self.new.desk log.new) }

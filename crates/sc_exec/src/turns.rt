@@ -8,7 +8,7 @@ ghost use Rattle.sc_exec.specs.Lefts.{IsAtWork};
 ghost use Rattle.sc_exec.specs.Logging.{HasRoom, LosesBoth, ReleasesBoth, TakesBoth};
 ghost use Rattle.sc_exec.specs.Turns.{BeginsTurn, HasToldAll, IsAsked, IsTold};
 
-use crate::helms::Helm;
+use crate::job_desks::JobDesk;
 use crate::openings::Opening;
 use sc_base::OrMemory;
 use sc_clock::Clock;
@@ -32,7 +32,7 @@ pub(crate) enum Asked<W: Naming> {
     Taken(Taken<W>),
 }
 
-impl<W: Naming, J: Opening, F: Files> Helm<W, J, F> {
+impl<W: Naming, J: Opening, F: Files> JobDesk<W, J, F> {
     /// An executor does what comes next at the desk. A loss that is due is told, or else a report
     /// that is. Where none is, it gets the order of the fault plan that comes next, if one is due;
     /// else it has the time entered, where slow tasks get copies, and asks for a task. All that is

@@ -110,7 +110,7 @@ fn is_no_memory(left: Left) -> bool
     match left {
         Left::NoMemory => true,
         Left::JobEnded | Left::Stopped { .. } | Left::Lost | Left::Busy { .. } => false,
-        Left::Stranger(_) | Left::Early(_) | Left::Absent(_) => false,
+        Left::Stranger(_) | Left::Early(_) | Left::Drained(_) | Left::Absent(_) => false,
     }
 }
 

@@ -2,6 +2,7 @@
 #![tactic(auto)]
 
 ghost use Rattle.std.specs.Prelude.{◌≡◌, [], IfErr, IfOk, OnErr, OnOk, true};
+ghost use Rattle.sc_desk.specs.Posts.{Posts};
 ghost use Rattle.sc_net.specs.Reports.{IsTrueReport};
 ghost use Rattle.sc_net.specs.Tasks.{is_map_task, target_of_task};
 ghost use Rattle.sc_task.specs.Caches.{KeepsEach, TakesCached};
@@ -14,13 +15,14 @@ ghost use Rattle.sc_exec.specs.Places.{IsCarriedOut, IsWantOfMemory};
 
 use crate::lefts::Left;
 use crate::performing::{Got, Prepared};
-use sc_ids::{ExecId, Loc};
+use sc_desk::{Desk, Posted};
+use sc_ids::{AttemptId, ExecId, Loc, Mark};
 use sc_net::Report;
 use sc_plan::{Order, OrderKind};
 use sc_store::Store;
 use sc_task::{Assigned, Computed, Read, Took};
 use sc_work::Naming;
-use std::alloc::Global;
+use std::alloc::{AllocFailed, Global};
 use std::marker::Model;
 
 /// A block isn't in the store at which it was to lie, and no wipe since tells why. Only who goes
@@ -69,6 +71,31 @@ impl<W: Naming> Witnessed<W> {
         ensures { result ≡ self }
     {
         self.report
+    }
+
+    /// Which attempt it is of.
+    pub(crate) fn attempt(&self) -> AttemptId
+        ensures { result ≡ self.now.task.hand_out.attempt }
+    {
+        self.report.attempt()
+    }
+
+    /// It comes to a desk. Where memory ran out it is handed back.
+    pub(crate) fn come_to(
+        self,
+        desk: &mut Desk<W>,
+        by: Mark,
+    ) -> Result<Posted<W>, AllocFailed<Witnessed<W>>>
+        ensures posted { IfOk result (λ p. Posts W.work desk.old by self p desk.new) }
+        ensures refused { OnErr result (desk.new ≡ desk.old) }
+        ensures back { IfErr result (λ failed. failed.value ≡ self) }
+    {
+        match desk.post(by, self.report) {
+            Ok(posted) => Ok(posted),
+            Err(AllocFailed { value: report }) => Err(AllocFailed {
+                value: Witnessed { report },
+            }),
+        }
     }
 
     /// What it is by its type: true of its task. A call does nothing.

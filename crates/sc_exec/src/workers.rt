@@ -12,7 +12,8 @@ use sc_logs::ExecLog;
 pub struct Worker {
     /// Its log.
     pub log: ExecLog,
-    /// Why it takes no more tasks; before it has worked this says nothing.
+    /// Why it takes no more tasks. Before it has worked this says that memory ran out, which is so
+    /// where it never comes to work.
     pub left: Left,
 }
 

@@ -1,5 +1,5 @@
 -- The files of a save where an attempt writes its part, or moves it, in code.
-use Rattle.std.proofs.Common.{◌≡◌, ◌∙◌, ℕ, true, List, Option, Some, None, IfSome, refl, ap, subst, sym}
+use Rattle.std.proofs.Common.{◌≡◌, ◌∙◌, ℕ, true, List, Some, IfSome, refl, ap, subst, sym}
 use Rattle.sc_base.specs.Outside.{FilesState, IsLaterFiles}
 use Rattle.sc_ids.specs.declared.attempts.AttemptId.{AttemptId}
 use Rattle.sc_ids.specs.declared.attempts.Mark.TheVariants.{Driver}

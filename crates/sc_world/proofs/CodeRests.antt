@@ -5,7 +5,6 @@ use Rattle.sc_task.specs.Attempts.{AttemptData, assigned, computed, granted, rep
 use Rattle.sc_task.specs.Nexts.{next_of}
 use Rattle.sc_task.specs.declared.next.Next.{Next}
 use Rattle.sc_task.specs.declared.next.Next.TheVariants.{Complete, Fetch, Missing}
-use Rattle.sc_world.specs.Places.{settled}
 use Rattle.sc_world.specs.Steps.{phase_of, phase_reading}
 use Rattle.sc_world.specs.declared.places.AttemptState.{AttemptState}
 use Rattle.sc_world.specs.declared.places.AttemptState.TheVariants as phases

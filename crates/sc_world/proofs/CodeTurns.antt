@@ -1,5 +1,5 @@
 -- What turns leave: who rests, and how much is left to do.
-use Rattle.std.proofs.Common.{◌≡◌, ◌≢◌, inl, inr, ℕ, ◌+◌, ◌<◌, ◌≤◌, ◌&&◌, Bool, true, false, Contains, List, [], ◌∷◌, Option, Some, None, IfSome, cond, get_or, is_some, length, nat_le, slice_get, refl, ap, sym, subst, ◌∙◌, arith, rules}
+use Rattle.std.proofs.Common.{◌≡◌, ◌≢◌, inl, inr, ℕ, ◌+◌, ◌<◌, ◌≤◌, ◌&&◌, Bool, true, false, Contains, List, [], Option, Some, None, IfSome, get_or, length, slice_get, refl, ap, sym, subst, ◌∙◌, arith, rules}
 use Rattle.std.specs.List.{find}
 use Rattle.std.specs.Option.{option_map}
 use Rattle.std.proofs.lemmas.List.Elements.{All-contains_itself}
@@ -15,10 +15,9 @@ use Rattle.sc_taskset.proofs.FindLemmas.{found_is, found_passes}
 use Rattle.sc_tracker.specs.declared.outputs.Location.{Location}
 use Rattle.sc_dag.specs.Offers.{HasNone}
 use Rattle.sc_dag.proofs.Tests.{clash}
-use Rattle.sc_core.specs.CoreData.{CoreData, has_key, held_by, is_out_on, job_runs, running_of, shelved_of, under_way}
+use Rattle.sc_core.specs.CoreData.{CoreData, held_by, is_out_on, job_runs, running_of, under_way}
 use Rattle.sc_core.specs.Laws.{left_to_do, spends_nothing}
 use Rattle.sc_core.specs.Posts as posting
-use Rattle.sc_core.specs.Releases.{has_no_shelved}
 use Rattle.sc_core.specs.Sound.{IsSoundCore}
 use Rattle.sc_core.specs.Steps.{Steps}
 use Rattle.sc_core.specs.Takes as taking
@@ -28,7 +27,6 @@ use Rattle.sc_core.specs.declared.events.Event.{Event}
 use Rattle.sc_core.specs.declared.events.Event.TheVariants.{Post, Take}
 use Rattle.sc_core.specs.declared.events.Outcome.{Outcome}
 use Rattle.sc_core.specs.declared.running.Running.{Running}
-use Rattle.sc_core.specs.declared.running.Shelved.{Shelved}
 use Rattle.sc_core.proofs.SpendLemmas.{steps_are_spent}
 use Rattle.sc_core.proofs.TakeAgreeLemmas.{no_offer}
 use Rattle.sc_plan.specs.declared.orders.Order.{Order}

@@ -1,12 +1,12 @@
 -- The text of an attempt's part is that of its partition.
-use Rattle.std.proofs.Common.{◌≡◌, ◌∙◌, ℕ, zero, suc, false, List, [], ◌∷◌, Option, Some, None, map, true≢false, refl, ap, sym}
+use Rattle.std.proofs.Common.{◌≡◌, ◌∙◌, ℕ, false, List, [], Option, Some, None, map, true≢false, refl, ap, sym}
 use Rattle.sc_base.specs.Lists.{at_or}
 use Rattle.sc_value.specs.Printing.{printed_lines}
 use Rattle.sc_ids.specs.Graphs.{StageData}
 use Rattle.sc_ids.specs.declared.blocks.Target.{Target}
 use Rattle.sc_ids.specs.declared.blocks.Target.TheVariants as targets
-use Rattle.sc_lineage.specs.Actions.{local_results, result_of}
-use Rattle.sc_lineage.specs.Meaning.{local_stream, local_streams}
+use Rattle.sc_lineage.specs.Actions.{result_of}
+use Rattle.sc_lineage.specs.Meaning.{local_streams}
 use Rattle.sc_lineage.specs.ScriptData.{ActionData, WorkData, collect_action, count_action, node_of_action, reduce_action, save_action}
 use Rattle.sc_lineage.specs.Streams.{ended_stream, whole_stream}
 use Rattle.sc_lineage.specs.Targets.{own_value, result_target}
@@ -16,7 +16,7 @@ use Rattle.sc_dag.specs.Submission.{is_map}
 use Rattle.sc_staging.specs.Done.{text_of}
 use Rattle.sc_jobs.specs.JobData.{goal_action, stage_in, target_among, target_by}
 use Rattle.sc_jobs.specs.declared.goals.Goal.{Goal}
-use Rattle.sc_net.specs.Tasks.{TaskData, is_map_stage, is_map_task, target_of_task}
+use Rattle.sc_net.specs.Tasks.{TaskData, is_map_stage}
 use Rattle.sc_task.specs.States.{IsPartText}
 use Rattle.sc_desk.specs.Files.{part_texts}
 

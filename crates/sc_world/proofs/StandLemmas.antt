@@ -11,7 +11,7 @@ use Rattle.sc_core.specs.declared.answers.Answer.{Answer}
 use Rattle.sc_core.specs.declared.answers.Answer.TheVariants as says
 use Rattle.sc_core.specs.declared.answers.SideAnswer.{SideAnswer}
 use Rattle.sc_core.specs.declared.events.Event.{Event}
-use Rattle.sc_core.specs.declared.events.Event.TheVariants.{Post, Release, Side, Take, TellLost}
+use Rattle.sc_core.specs.declared.events.Event.TheVariants.{Release, Side, Take, TellLost}
 use Rattle.sc_core.specs.declared.events.SideEvent.TheVariants.{Ask, Tick}
 use Rattle.sc_staging.specs.Outputs.{output_dir, output_files}
 use Rattle.sc_staging.specs.declared.outputs.Output.{Output}
@@ -21,7 +21,7 @@ use Rattle.sc_desk.specs.Files.{CountsGoOn, FilesStand, deed_in, deeds_of, fault
 use Rattle.sc_desk.proofs.CountLemmas.{counts_entered, counts_same}
 use Rattle.sc_desk.proofs.FilesLemmas.{files_go_on}
 use Rattle.sc_world.specs.Files.{OutputGoesOn, OutputStands}
-use Rattle.sc_world.specs.Steps.{AsksOne, Computes, Does, EvictsOne, Goes, HandsOrder, LosesOne, Posts, Puts, Reads, ReleasesOne, Takes, TicksOne, WipesOne}
+use Rattle.sc_world.specs.Steps.{AsksOne, Does, Goes, HandsOrder, LosesOne, Posts, ReleasesOne, Takes, TicksOne}
 use Rattle.sc_world.specs.Turns.{AdvancesPlain, CarriesOutAs, DoesDue}
 use Rattle.sc_world.specs.WorldData.{WorldData}
 use Rattle.sc_world.specs.declared.steps.Applied.{Applied}

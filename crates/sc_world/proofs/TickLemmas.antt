@@ -1,7 +1,7 @@
 -- What holds of a world holds on, once the time was entered.
-use Rattle.std.proofs.Common.{◌≡◌, ◌∙◌, ℕ, All, Bool, true, false, List, refl, ap, subst, sym}
+use Rattle.std.proofs.Common.{◌≡◌, ◌∙◌, ℕ, All, Bool, true, false, List, ap, subst, sym}
 use Rattle.sc_core.specs.CoreData.{CoreData, is_running_job, job_runs}
-use Rattle.sc_core.specs.Sides.{IsAside, Sides, TicksIf}
+use Rattle.sc_core.specs.Sides.{IsAside, TicksIf}
 use Rattle.sc_core.specs.declared.answers.Answer.TheVariants as says
 use Rattle.sc_core.specs.declared.answers.SideAnswer.{SideAnswer}
 use Rattle.sc_core.specs.declared.events.SideEvent.TheVariants.{Tick}

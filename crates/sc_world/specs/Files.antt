@@ -1,5 +1,5 @@
 -- The files of a world's job while it goes on.
-use Rattle.std.specs.Prelude.{◌≡◌, ℕ, Option, Some}
+use Rattle.std.specs.Prelude.{◌≡◌, ℕ, Some}
 use Rattle.sc_base.specs.Outside.{FilesState}
 use Rattle.sc_base.specs.Trees.{Path}
 use Rattle.sc_lineage.specs.ScriptData.{WorkData}
