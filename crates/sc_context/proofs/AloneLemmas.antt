@@ -22,7 +22,7 @@ use Rattle.sc_desk.specs.Begins.{Begins, BeginsAgain}
 use Rattle.sc_desk.specs.DeskData.{DeskData, PassedData}
 use Rattle.sc_desk.specs.Files.{AreCounted, CountsGoOn, FilesStand, deeds_of, dir_of_job, faults_of, part_texts}
 use Rattle.sc_desk.specs.declared.orders.Ordered.{Ordered}
-use Rattle.sc_exec.specs.Helms.{HelmData, IsJobOf, helm_data}
+use Rattle.sc_exec.specs.JobDesks.{JobDeskData, IsJobOf, job_desk_data}
 use Rattle.sc_exec.specs.Openings.{OpeningData}
 use Rattle.sc_world.specs.Laws.{DriverEnters}
 use Rattle.sc_world.specs.Runs.{idle_world}
@@ -51,7 +51,7 @@ goes_then (Some dir) a b c x y =
 -- ---- a job that goes on
 
 -- what executors leave comes from where they began
-pub comes_along : (work : WorkData) (o : OpeningData) (h : HelmData) → IsJobOf work o h
+pub comes_along : (work : WorkData) (o : OpeningData) (h : JobDeskData) → IsJobOf work o h
     → ComesFrom work o h
 comes_along work o h is =
     record {
@@ -66,10 +66,10 @@ comes_along work o h is =
 
 -- so does what the driver leaves that goes on alone
 pub comes_on : (work : WorkData) (o : OpeningData) (d after : DeskData) (dir then : Option Path)
-    (before files : FilesState) → ComesFrom work o (helm_data d dir before)
+    (before files : FilesState) → ComesFrom work o (job_desk_data d dir before)
     → after.journal.opening ≡ d.journal.opening → after.job ≡ d.job → after.carried ≡ d.carried
     → then ≡ dir → FilesStand work after then files → IsLaterFiles before files
-    → GoesOnIn dir before files → ComesFrom work o (helm_data after then files)
+    → GoesOnIn dir before files → ComesFrom work o (job_desk_data after then files)
 comes_on work o d after dir then before files from opening job carried same stand later goes =
     record {
       core = opening ∙ from.core;

@@ -1,5 +1,5 @@
 -- A report of a failed call on the files that is heard in a job is of one that an entry tells of.
-use Rattle.std.proofs.Common.{◌≡◌, ◌∙◌, All, true, false, List, [], ◌∷◌, ◌++◌, Contains, Option, Some, None, append_assoc, refl, ap, sym, subst, arith}
+use Rattle.std.proofs.Common.{◌≡◌, ◌∙◌, All, true, List, [], ◌∷◌, ◌++◌, Contains, Option, Some, None, append_assoc, refl, ap, sym, subst, arith}
 use Rattle.std.specs.List.{cons_option}
 use Rattle.std.proofs.lemmas.Bool.{false≢true}
 use Rattle.std.proofs.lemmas.Bool.Decides.{nat_tests}

@@ -25,7 +25,7 @@ use Rattle.sc_desk.specs.declared.orders.Ordered.{Ordered}
 use Rattle.sc_desk.specs.Sound.{AreEvident}
 use Rattle.sc_desk.proofs.AgainLemmas.{again_is_begun}
 use Rattle.sc_desk.proofs.CountLemmas.{counted_then}
-use Rattle.sc_exec.specs.Helms.{IsJobOf, helm_data, opening_of}
+use Rattle.sc_exec.specs.JobDesks.{IsJobOf, job_desk_data, opening_of}
 use Rattle.sc_exec.specs.Openings.{OpeningData, opening_data}
 use Rattle.sc_exec.specs.Verdicts as judging
 use Rattle.sc_exec.specs.Workers.{AreInPlace, lefts_of, logs_of}
@@ -102,12 +102,13 @@ as_many executors before after was is = is.many ∙ sym was.many
 -- A job begins with a desk, and its executors leave another one.
 module _ (work : WorkData) (passed : PassedData) (last : Option CoreData) (goal : Goal)
     (first d : DeskData) (dir then : Option Path) (opened files : FilesState)
-    (is : IsJobOf work (opening_of (helm_data first dir opened)) (helm_data d then files)) where
+    (is : IsJobOf work (opening_of (job_desk_data first dir opened))
+    (job_desk_data d then files)) where
   -- it went so to its end
   pub has_run : (h : JobHistory) (next : PassedData)
       (results : Result (Vec TaskResult Global) (OrMemory JobFault)) (closed : FilesState)
       → Begins work passed last goal first
-      → ((o : OpeningData) → ComesFrom work o (helm_data d then files)
+      → ((o : OpeningData) → ComesFrom work o (job_desk_data d then files)
       → GoesFrom work o h next results closed)
       → ((begun : FilesState)
       → AreCounted begun (faults_of d.journal.entries) files
@@ -122,9 +123,9 @@ module _ (work : WorkData) (passed : PassedData) (last : Option CoreData) (goal 
         was_tried = tt;
         begun = opened;
         began = refl;
-        goes = goes (opening_of (helm_data first dir opened))
-            (comes_along work (opening_of (helm_data first dir opened)) (helm_data d then files)
-            is);
+        goes = goes (opening_of (job_desk_data first dir opened))
+            (comes_along work (opening_of (job_desk_data first dir opened))
+            (job_desk_data d then files) is);
         counted = counts opened is.counted;
       }
 
@@ -167,7 +168,7 @@ module _ (work : WorkData) (passed : PassedData) (last : Option CoreData) (goal 
       (gave_up : GaveUp) → Begins work passed last goal first → orders ≡ first.ordered
       → (after : DeskData) → BeginsAgain work d last orders after → (begun : FilesState)
       → IsRenewedIn then files begun → FilesStand work after then begun
-      → ((o : OpeningData) → ComesFrom work o (helm_data after then begun)
+      → ((o : OpeningData) → ComesFrom work o (job_desk_data after then begun)
       → GoesFrom work o went.history went.passed went.results (state went.files))
       → CountsIn (faults_of went.history.entries.items) begun (state went.files) went.results
       → AreDrivers went.history.entries.items → IsSoFar work d gave_up.history
@@ -275,7 +276,7 @@ renewed_again work state d after last orders dir there files begun gave_up
           renewed,
           stand,
           subst (λ (p : Option Path). (o : OpeningData)
-              → ComesFrom work o (helm_data after p begun)
+              → ComesFrom work o (job_desk_data after p begun)
               → GoesFrom work o went.history went.passed went.results (state went.files)) same
               goes,
           counted,

@@ -8,7 +8,7 @@ use Rattle.sc_core.specs.declared.entries.Entry.{Entry}
 use Rattle.sc_store.specs.StoreData.{StoreData}
 use Rattle.sc_desk.specs.DeskData.{DeskData}
 use Rattle.sc_desk.specs.Files.{AreCounted, FilesStand, faults_of}
-use Rattle.sc_exec.specs.Helms.{helm_data}
+use Rattle.sc_exec.specs.JobDesks.{job_desk_data}
 use Rattle.sc_exec.specs.Openings.{OpeningData}
 use Rattle.sc_world.specs.Files.{OutputGoesOn, OutputStands}
 use Rattle.sc_world.specs.Laws.{DriverEnters}
@@ -40,8 +40,8 @@ module _ {F : Type 0} (work : WorkData) (w after : WorldData) (left : DeskData)
   -- it comes from where the job began
   pub comes_alone : IsSameJob w after → OutputGoesOn work w after state old new
       → (o : OpeningData)
-      → ComesFrom work o (helm_data w.desk (output_dir old) (output_files state old))
-      → ComesFrom work o (helm_data left (output_dir new) (output_files state new))
+      → ComesFrom work o (job_desk_data w.desk (output_dir old) (output_files state old))
+      → ComesFrom work o (job_desk_data left (output_dir new) (output_files state new))
   comes_alone same goes o from =
       comes_on work o w.desk left (output_dir old) (output_dir new) (output_files state old)
       (output_files state new) from
@@ -71,11 +71,11 @@ module _ {F : Type 0} (work : WorkData) (w after : WorldData) (left : DeskData)
 pub comes_idle : {F : Type 0} (work : WorkData) (d : DeskData) (stores : List StoreData)
     (w : WorldData) (state : F → FilesState) (output : Output F) → w ≡ idle_world work d stores
     → (o : OpeningData)
-    → ComesFrom work o (helm_data d (output_dir output) (output_files state output))
-    → ComesFrom work o (helm_data w.desk (output_dir output) (output_files state output))
+    → ComesFrom work o (job_desk_data d (output_dir output) (output_files state output))
+    → ComesFrom work o (job_desk_data w.desk (output_dir output) (output_files state output))
 comes_idle work d stores w state output begun o from =
     subst (λ (x : WorldData). ComesFrom work o
-    (helm_data x.desk (output_dir output) (output_files state output))) (sym begun) from
+    (job_desk_data x.desk (output_dir output) (output_files state output))) (sym begun) from
 
 pub none_before : (work : WorkData) (d : DeskData) (stores : List StoreData) (w : WorldData)
     → w ≡ idle_world work d stores → d.journal.entries ≡ [] → w.desk.journal.entries ≡ []

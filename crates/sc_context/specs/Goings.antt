@@ -19,7 +19,7 @@ use Rattle.sc_desk.specs.DeskData.{DeskData, PassedData}
 use Rattle.sc_desk.specs.Files.{AreCounted, FilesStand, faults_of}
 use Rattle.sc_desk.specs.Sound.{AreEvident}
 use Rattle.sc_desk.specs.declared.orders.Ordered.{Ordered}
-use Rattle.sc_exec.specs.Helms.{HelmData, helm_data}
+use Rattle.sc_exec.specs.JobDesks.{JobDeskData, job_desk_data}
 use Rattle.sc_exec.specs.Openings.{OpeningData, opening_data}
 use Rattle.sc_context.specs.Files.{faults_with}
 use Rattle.sc_context.specs.Histories.{AreDrivers, BeginsBehind}
@@ -49,7 +49,7 @@ pub record CameFrom (work : WorkData) (last : Option CoreData) (orders : List Or
 
 -- a desk with the files of its job comes from a beginning: it is the same job, and a save that was
 -- under way is under way
-pub record ComesFrom (work : WorkData) (o : OpeningData) (h : HelmData) : Type 0 where
+pub record ComesFrom (work : WorkData) (o : OpeningData) (h : JobDeskData) : Type 0 where
   pub core : h.desk.journal.opening ≡ o.core
   pub job : h.desk.job ≡ o.job
   pub carried : h.desk.carried ≡ o.carried
@@ -116,7 +116,7 @@ GivesUp work d gave_up = IsGivenUp work gave_up × IsSoFar work d gave_up.histor
 abbrev pub RunsRenewed : {W F : Type 0} → WorkData → (F → FilesState) → DeskData → Option Path
     → FilesState → GaveUp → Run W F → Type 0
 RunsRenewed work state d dir begun given (runs.Went went logs gave_up stores) =
-    ((o : OpeningData) → ComesFrom work o (helm_data d dir begun)
+    ((o : OpeningData) → ComesFrom work o (job_desk_data d dir begun)
     → GoesFrom work o went.history went.passed went.results (state went.files))
     × CountsIn (faults_of went.history.entries.items) begun (state went.files) went.results
     × AreDrivers went.history.entries.items × IsLogged went.history logs.items
@@ -131,7 +131,7 @@ abbrev pub RunsAgain : {W F : Type 0} → WorkData → (F → FilesState) → De
 RunsAgain work state d last ordered dir files (runs.Went went logs gave_up stores) =
     ((after : DeskData) × BeginsAgain work d last ordered after
     × ((begun : FilesState) × IsRenewedIn dir files begun × FilesStand work after dir begun
-    × ((o : OpeningData) → ComesFrom work o (helm_data after dir begun)
+    × ((o : OpeningData) → ComesFrom work o (job_desk_data after dir begun)
     → GoesFrom work o went.history went.passed went.results (state went.files))
     × CountsIn (faults_of went.history.entries.items) begun (state went.files) went.results))
     × AreDrivers went.history.entries.items

@@ -7,7 +7,7 @@ ghost use Rattle.sc_context.specs.Histories.{AreDrivers};
 ghost use Rattle.sc_context.specs.Outputs.{CountsIn};
 ghost use Rattle.sc_context.specs.Starts.{IsUnregistered};
 ghost use Rattle.sc_desk.specs.Files.{FilesStand, faults_of};
-ghost use Rattle.sc_exec.specs.Helms.{helm_data};
+ghost use Rattle.sc_exec.specs.JobDesks.{job_desk_data};
 ghost use Rattle.sc_exec.specs.Openings.{OpeningData};
 ghost use Rattle.sc_staging.specs.Outputs.{output_dir, output_files};
 ghost use Rattle.sc_store.specs.StoreData.{StoreData};
@@ -54,7 +54,7 @@ pub(crate) fn run_alone<W: Naming, F: Files>(
     requires unregistered { IsUnregistered desk }
     requires stand { FilesStand W.work desk (output_dir output) (output_files F.state output) }
     ensures went { IfOk result (λ a. (o : OpeningData) → ComesFrom W.work o
-        (helm_data desk (output_dir output) (output_files F.state output))
+        (job_desk_data desk (output_dir output) (output_files F.state output))
         → GoesFrom W.work o a.went.history a.went.passed a.went.results
         (F.state a.went.files)) }
     ensures drivers { IfOk result (λ a. AreDrivers a.went.history.entries.items) }
@@ -78,6 +78,7 @@ fn begin_alone<W: Naming>(alloc: Global, desk: Desk<W>) -> Result<Beginning<W>, 
     ensures room { IfOk result (λ b. W.work.limits.executors ≤ vec_capacity b.room) }
 {
     let Ok(room) = room_for(alloc, &desk) else {
+        // by a call, since `?` would have the proof open all that the desk holds
         drop(desk);
         return Err(AllocError);
     };
@@ -108,6 +109,7 @@ fn world_over<W: Naming>(alloc: Global, desk: Desk<W>) -> Result<World<W>, Alloc
         × (w ≡ idle_world W.work desk stores)) }
 {
     let Ok(stores) = stores_at(alloc, &desk) else {
+        // by a call, as above
         drop(desk);
         return Err(AllocError);
     };
@@ -133,7 +135,7 @@ fn run_over<W: Naming, F: Files>(
     requires empty { room.items ≡ [] }
     requires room { W.work.limits.executors ≤ vec_capacity room }
     ensures went { (o : OpeningData) → ComesFrom W.work o
-        (helm_data world.desk (output_dir output) (output_files F.state output))
+        (job_desk_data world.desk (output_dir output) (output_files F.state output))
         → GoesFrom W.work o result.went.history result.went.passed result.went.results
         (F.state result.went.files) }
     ensures drivers { AreDrivers result.went.history.entries.items }
@@ -158,7 +160,7 @@ fn run_world<W: Naming, F: Files>(
     requires none { world.desk.journal.entries ≡ [] }
     requires stand { OutputStands W.work world F.state output }
     ensures went { (o : OpeningData) → ComesFrom W.work o
-        (helm_data world.desk (output_dir output) (output_files F.state output))
+        (job_desk_data world.desk (output_dir output) (output_files F.state output))
         → GoesFrom W.work o result.0.history result.0.passed result.0.results
         (F.state result.0.files) }
     ensures drivers { AreDrivers result.0.history.entries.items }

@@ -106,7 +106,8 @@ impl<W: Naming + Send + Sync, F: Files + Send> Context<W, F> {
     }
 }
 
-/// Lets go of what a job would have begun with.
+/// Lets go of what a job would have begun with. It is a call so that the proof opens what these
+/// hold once, and not at each exit.
 fn let_go<W: Naming>(_work: SharedWork<W>, _passed: Passed, _stores: Stores<W>) {}
 
 /// Room in the records for one job more, and its executors. A refused call changes nothing.

@@ -103,11 +103,11 @@ pub(crate) fn run_begun<
     begun.desk.is_sound();
     let Begun { desk, ordered } = begun;
     let Crew {
-        mut workers,
+        workers,
         logs,
         lefts,
     } = crew;
-    let (desk, output) = work_job(rt, alloc, desk, output, &stores, gate, clock, &mut workers);
+    let (desk, output, workers) = work_job(rt, alloc, desk, output, &stores, gate, clock, workers);
     let how = judge(&desk, workers.as_slice());
     let (logs, lefts) = into_logs(workers, logs, lefts);
     match how {

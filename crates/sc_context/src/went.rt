@@ -8,7 +8,7 @@ ghost use Rattle.sc_context.specs.Results.{AreThere};
 ghost use Rattle.sc_base.specs.Outside.{FilesState};
 ghost use Rattle.sc_core.specs.declared.answers.JobState.TheVariants.{Done};
 ghost use Rattle.sc_desk.specs.Files.{AreCounted, FilesStand, faults_of};
-ghost use Rattle.sc_exec.specs.Helms.{helm_data};
+ghost use Rattle.sc_exec.specs.JobDesks.{job_desk_data};
 ghost use Rattle.sc_exec.specs.Openings.{OpeningData};
 ghost use Rattle.sc_staging.specs.Outputs.{output_dir, output_files};
 
@@ -46,7 +46,7 @@ pub(crate) fn finish<W: Naming, F: Files>(
     requires stand { FilesStand W.work desk (output_dir output) (output_files F.state output) }
     ensures entries { result.history.entries.items ≡ desk.journal.entries }
     ensures went { (o : OpeningData) → ComesFrom W.work o
-        (helm_data desk (output_dir output) (output_files F.state output))
+        (job_desk_data desk (output_dir output) (output_files F.state output))
         → GoesFrom W.work o result.history result.passed result.results
         (F.state result.files) }
     ensures counted { (opened : FilesState)

@@ -1,11 +1,9 @@
 use Rattle.std.proofs.Common.{◌≤◌, ◌∙◌, ℕ, All, List, ap, length, subst, sym, vec_capacity}
 use Rattle.std.specs.Option.{option_map}
-use Rattle.std.proofs.lemmas.List.{with_items_is}
 use Rattle.sc_desk.specs.DeskData.{core_of}
 use Rattle.sc_staging.specs.Outputs.{output_dir, output_files}
 use Rattle.sc_exec.specs.Verdicts.{IsVerdict}
-use Rattle.sc_exec.specs.Workers.{AreInPlace, HasCause, lefts_of, logs_of}
-use Rattle.sc_exec.specs.Working.{IsFresh}
+use Rattle.sc_exec.specs.Workers.{AreInPlace, HasCause}
 use Rattle.sc_exec.specs.declared.workers.Worker.{Worker}
 use Rattle.sc_context.proofs.RunningLemmas.{as_many, came_from, given_by, given_up_so, has_run, has_run_again, logged_by, logged_so}
 use Rattle.sc_context.proofs.StoppedLemmas.{have_stopped}
@@ -19,28 +17,22 @@ work_job-desk-requires-clause-stand g c κs lives = c.requires.stand
 
 pub work_job-desk-requires-clause-fresh : goal.work_job-desk-requires-clause-fresh
 work_job-desk-requires-clause-fresh g c κs lives =
-    subst (λ (ws : List Worker). All (IsFresh g.W.Naming.work.limits.executors) ws)
-    (sym c.deref_mut.ensures.value) c.requires.crew.fresh
+    c.requires.crew.fresh
 
 pub work_job-desk-requires-clause-places : goal.work_job-desk-requires-clause-places
 work_job-desk-requires-clause-places g c κs lives =
-    subst (λ (ws : List Worker). AreInPlace g.W.Naming.work.limits.executors ws)
-    (sym c.deref_mut.ensures.value) c.requires.crew.places
+    c.requires.crew.places
 
 pub judge-how-requires-clause-worked : goal.judge-how-requires-clause-worked
 judge-how-requires-clause-worked g c =
-    let same = with_items_is c.args.crew.workers c.work_job-desk.new.workers
-    (c.work_job-desk.auto.workers ∙ c.deref_mut.ensures.len) in
     subst (λ (ws : List Worker). All (HasCause g.W.Naming.work) ws)
-    (sym (c.as_slice.ensures.value ∙ same))
+    (sym c.as_slice.ensures.value)
     c.work_job-desk.ensures.worked
 
 pub judge-how-requires-clause-places : goal.judge-how-requires-clause-places
 judge-how-requires-clause-places g c =
-    let same = with_items_is c.args.crew.workers c.work_job-desk.new.workers
-    (c.work_job-desk.auto.workers ∙ c.deref_mut.ensures.len) in
     subst (λ (ws : List Worker). AreInPlace g.W.Naming.work.limits.executors ws)
-    (sym (c.as_slice.ensures.value ∙ same)) c.work_job-desk.ensures.places
+    (sym c.as_slice.ensures.value) c.work_job-desk.ensures.places
 
 pub into_logs-logs-requires-clause-no_logs : goal.into_logs-logs-requires-clause-no_logs
 into_logs-logs-requires-clause-no_logs g c = c.requires.crew.no_logs
@@ -50,20 +42,16 @@ into_logs-logs-requires-clause-no_lefts g c = c.requires.crew.no_lefts
 
 pub into_logs-logs-requires-clause-log_room : goal.into_logs-logs-requires-clause-log_room
 into_logs-logs-requires-clause-log_room g c =
-    let same = with_items_is c.args.crew.workers c.work_job-desk.new.workers
-    (c.work_job-desk.auto.workers ∙ c.deref_mut.ensures.len) in
     subst (λ (n : ℕ). n ≤ vec_capacity c.args.crew.logs)
-    (sym (ap length same ∙ as_many g.W.Naming.work.limits.executors c.args.crew.workers.items
-    c.work_job-desk.new.workers c.requires.crew.places c.work_job-desk.ensures.places))
+    (sym (as_many g.W.Naming.work.limits.executors c.args.crew.workers.items
+    c.work_job-desk.result.2.items c.requires.crew.places c.work_job-desk.ensures.places))
     c.requires.crew.log_room
 
 pub into_logs-logs-requires-clause-left_room : goal.into_logs-logs-requires-clause-left_room
 into_logs-logs-requires-clause-left_room g c =
-    let same = with_items_is c.args.crew.workers c.work_job-desk.new.workers
-    (c.work_job-desk.auto.workers ∙ c.deref_mut.ensures.len) in
     subst (λ (n : ℕ). n ≤ vec_capacity c.args.crew.lefts)
-    (sym (ap length same ∙ as_many g.W.Naming.work.limits.executors c.args.crew.workers.items
-    c.work_job-desk.new.workers c.requires.crew.places c.work_job-desk.ensures.places))
+    (sym (as_many g.W.Naming.work.limits.executors c.args.crew.workers.items
+    c.work_job-desk.result.2.items c.requires.crew.places c.work_job-desk.ensures.places))
     c.requires.crew.left_room
 
 pub finish-requires : goal.finish-requires
@@ -91,33 +79,27 @@ run_again-requires-clause-live g c = c.requires.live
 
 pub run_again-requires-clause-stopped : goal.run_again-requires-clause-stopped
 run_again-requires-clause-stopped g c =
-    let workers = c.work_job-desk.new.workers in
-    let same = with_items_is c.args.crew.workers workers
-    (c.work_job-desk.auto.workers ∙ c.deref_mut.ensures.len) in
+    let workers = c.work_job-desk.result.2.items in
     have_stopped g.W.Naming.work workers c.into_logs-logs.result.0.items
-    c.into_logs-logs.result.1.items (c.into_logs-logs.ensures.logs ∙ ap logs_of same)
-    (c.into_logs-logs.ensures.lefts ∙ ap lefts_of same) c.work_job-desk.ensures.places
+    c.into_logs-logs.result.1.items c.into_logs-logs.ensures.logs
+    c.into_logs-logs.ensures.lefts c.work_job-desk.ensures.places
     c.work_job-desk.ensures.worked
 
 pub run_again-requires-clause-cause : goal.run_again-requires-clause-cause
 run_again-requires-clause-cause g c =
     let desk = c.work_job-desk.result.0 in
-    let workers = c.work_job-desk.new.workers in
-    let same = with_items_is c.args.crew.workers workers
-    (c.work_job-desk.auto.workers ∙ c.deref_mut.ensures.len) in
+    let workers = c.work_job-desk.result.2.items in
     given_up_so desk.journal.entries workers c.into_logs-logs.result.0.items
-    c.into_logs-logs.result.1.items (c.into_logs-logs.ensures.logs ∙ ap logs_of same)
-    (c.into_logs-logs.ensures.lefts ∙ ap lefts_of same)
+    c.into_logs-logs.result.1.items c.into_logs-logs.ensures.logs
+    c.into_logs-logs.ensures.lefts
     (given_by (core_of desk) desk.journal.entries workers c.judge-how.result c.in-GivenUp.is
     (subst (λ (ws : List Worker). IsVerdict (core_of desk) desk.journal.entries ws
-    c.judge-how.result) (c.as_slice.ensures.value ∙ same) c.judge-how.ensures))
+    c.judge-how.result) c.as_slice.ensures.value c.judge-how.ensures))
 
 pub returns-in-Ended : goal.returns-in-Ended
 returns-in-Ended g c =
     let desk = c.work_job-desk.result.0 in
-    let workers = c.work_job-desk.new.workers in
-    let same = with_items_is c.args.crew.workers workers
-    (c.work_job-desk.auto.workers ∙ c.deref_mut.ensures.len) in
+    let workers = c.work_job-desk.result.2.items in
     record {
       runs = λ passed goal begins. (
         has_run g.W.Naming.work passed (option_map (λ l. l.now) c.args.last) goal
@@ -129,10 +111,10 @@ returns-in-Ended g c =
             c.finish.ensures.counted,
         logged_so c.finish.result.history desk.journal.entries workers
             c.into_logs-logs.result.0.items c.finish.ensures.entries
-            (c.into_logs-logs.ensures.logs ∙ ap logs_of same)
+            c.into_logs-logs.ensures.logs
             (logged_by (core_of desk) desk.journal.entries workers c.judge-how.result c.in-Ended.is
             (subst (λ (ws : List Worker). IsVerdict (core_of desk) desk.journal.entries ws
-            c.judge-how.result) (c.as_slice.ensures.value ∙ same) c.judge-how.ensures)),
+            c.judge-how.result) c.as_slice.ensures.value c.judge-how.ensures)),
         tt,
       );
     }
