@@ -2,11 +2,14 @@
 //! block where no other one looks, and another one looks where the driver's desk doesn't know of.
 #![tactic(auto)]
 
-ghost use Rattle.std.specs.Prelude.{◌≡◌, ◌<◌, All};
+ghost use Rattle.crossbeam_queue.specs.Passes.{IsPassOf, view};
+ghost use Rattle.std.specs.Prelude.{◌≡◌, ◌<◌, [], All};
 ghost use Rattle.sc_desk.specs.Files.{FilesStand};
-ghost use Rattle.sc_exec.specs.Helms.{IsJobOf, helm_data};
+ghost use Rattle.sc_exec.specs.Crews.{HasWorkedMember, HaveWorked, IsFreshMember};
+ghost use Rattle.sc_exec.specs.JobDesks.{IsJobOf, job_desk_data};
 ghost use Rattle.sc_exec.specs.Workers.{AreInPlace, HasCause};
-ghost use Rattle.sc_exec.specs.Working.{HasWorked, IsFresh};
+ghost use Rattle.sc_exec.specs.Working.{IsFresh};
+ghost use Rattle.sc_queue.specs.declared.rules.Hand.TheVariants as hands;
 ghost use Rattle.sc_rows.specs.Worlds.{IsOfFirst};
 ghost use Rattle.sc_staging.specs.Outputs.{output_dir, output_files};
 
@@ -15,9 +18,12 @@ use crate::gates::{Keeper, Kept};
 use crate::given::STILL;
 use sc_clock::Clock;
 use sc_desk::Desk;
-use sc_exec::{Driver, Gate, Helm, Opening, Stores, Worker, work_loop};
+use sc_exec::{
+    Driver, Gate, Helm, JobDesk, Member, Opening, Stores, Witnessed, Worker, dismiss, enlist,
+    work_loop,
+};
 use sc_files::Files;
-use sc_ids::ExecId;
+use sc_queue::{Queue, QueuePass};
 use sc_staging::Output;
 use sc_work::{Naming, SharedWork};
 use std::alloc::Global;
@@ -26,6 +32,9 @@ use std::process::Abort;
 use std::sync::{Condvar, Mutex, Wait};
 use std::thread::Threads;
 use std::{thread, time};
+
+/// How many reports may be on their way.
+const CAPACITY: usize = 2;
 
 /// How the executors of a job work.
 #[derive(Clone, Copy, Debug, PartialEq, Eq)]
@@ -38,27 +47,19 @@ pub struct Setting {
     pub out: u32,
 }
 
-/// The stores that an executor looks at: its own, or those of all.
-fn looked_at<'a, W: Naming, R: Abort>(rt: &R, all: &'a [Stores<W>], exec: ExecId) -> &'a Stores<W> {
-    match all.get(exec as usize) {
-        Some(stores) => stores,
-        None => all.first().expect(rt, "stores"),
-    }
-}
-
 /// So many executors, from the first on, are handed a task at a desk, which nobody does.
 fn hand_out<W: Naming, J: Opening, F: Files, R: Abort + AllocGlobal>(
     rt: &R,
-    helm: &mut Helm<W, J, F>,
+    desk: &mut JobDesk<W, J, F>,
     many: u32,
 ) {
     for exec in 0..many {
         let mut worker = fresh(rt, exec);
-        helm.take(&mut worker.log).expect(rt, "memory");
+        desk.take(&mut worker.log).expect(rt, "memory");
     }
 }
 
-/// An executor works, over the stores that it looks at.
+/// An executor works, over the stores that it looks at: its own, or those of all.
 fn employ<W: Naming, J: Opening, F: Files, G: Gate, C: Clock, R: Abort + Wait + time::Clock>(
     rt: &R,
     alloc: Global,
@@ -66,17 +67,63 @@ fn employ<W: Naming, J: Opening, F: Files, G: Gate, C: Clock, R: Abort + Wait + 
     all: &[Stores<W>],
     gate: &G,
     clock: &Mutex<C>,
-    worker: &mut Worker,
+    member: &mut Member<W, J>,
 )
-    requires fresh { IsFresh W.work.limits.executors worker.old }
-    ensures { HasWorked W.work worker.old worker.new }
+    requires fresh { IsFreshMember W.work.limits.executors member.old }
+    ensures { HasWorkedMember W.work member.old member.new }
 {
-    let stores = looked_at(rt, all, worker.log.exec);
-    worker.left = work_loop(rt, alloc, driver, stores, gate, clock, &mut worker.log);
+    let stores = match all.get(member.worker.log.exec as usize) {
+        Some(stores) => stores,
+        None => all.first().expect(rt, "stores"),
+    };
+    member.worker.left = work_loop(
+        rt,
+        alloc,
+        driver,
+        stores,
+        gate,
+        clock,
+        &mut member.worker.log,
+        &mut member.poster,
+    );
 }
 
-/// The executors of a job that began as `J` says work, each over the stores that it looks at, until
-/// each takes no more tasks.
+/// Executors work by so many threads, each over the stores that it looks at, until each takes no
+/// more tasks.
+fn employ_apart<
+    W: Naming + Send + Sync,
+    J: Opening + Send + Sync,
+    F: Files + Send,
+    G: Gate + Sync,
+    C: Clock + Send,
+    R: Abort + Threads + Wait + time::Clock + Sync,
+>(
+    rt: &R,
+    alloc: Global,
+    driver: &Driver<W, J, F>,
+    all: &[Stores<W>],
+    gate: &G,
+    clock: &Mutex<C>,
+    threads: usize,
+    members: &mut [Member<W, J>],
+)
+    requires fresh { All (IsFreshMember W.work.limits.executors) members.old }
+    ensures worked { HaveWorked W.work members.old members.new }
+{
+    assert!(rt; 0 < threads, "no thread");
+    thread::for_each_mut(
+        rt,
+        members,
+        threads,
+        &|_, member|
+            requires { IsFreshMember W.work.limits.executors member.now }
+            ensures { HasWorkedMember W.work member.entry.now member.exit.now }
+        { employ(rt, alloc, driver, all, gate, clock, member) },
+    );
+}
+
+/// The executors of a job that began as `J` says, whose reports go through the queue that it says,
+/// work each over the stores that it looks at, until each takes no more tasks.
 fn work_apart<
     W: Naming + Send + Sync,
     J: Opening + Send + Sync,
@@ -86,43 +133,54 @@ fn work_apart<
     R: Abort + AllocGlobal + Threads + Wait + time::Clock + Sync,
 >(
     rt: &R,
-    alloc: Global,
     desk: Desk<W>,
     output: Output<F>,
+    queue: Queue<Witnessed<W>>,
+    mut pass: QueuePass<Witnessed<W>>,
     all: &[Stores<W>],
     gate: &G,
     clock: &Mutex<C>,
     setting: Setting,
-    workers: &mut [Worker],
-) -> (Desk<W>, Output<F>)
+    workers: Vec<Worker>,
+) -> (Desk<W>, Output<F>, Vec<Worker>)
     requires job { IsJobOf W.work J.opening
-        (helm_data desk (output_dir output) (output_files F.state output)) }
-    requires fresh { All (IsFresh W.work.limits.executors) workers.old }
-    requires places { AreInPlace W.work.limits.executors workers.old }
+        (job_desk_data desk (output_dir output) (output_files F.state output)) }
+    requires queue { queue.table.shared.table_id ≡ J.queue }
+    requires pass { IsPassOf queue pass × (view pass ≡ hands.Driver 0 [] []) }
+    requires fresh { All (IsFresh W.work.limits.executors) workers.items }
+    requires places { AreInPlace W.work.limits.executors workers.items }
     ensures job { IsJobOf W.work J.opening
-        (helm_data result.0 (output_dir result.1) (output_files F.state result.1)) }
-    ensures worked { All (HasCause W.work) workers.new }
-    ensures places { AreInPlace W.work.limits.executors workers.new }
+        (job_desk_data result.0 (output_dir result.1) (output_files F.state result.1)) }
+    ensures worked { All (HasCause W.work) result.2.items }
+    ensures places { AreInPlace W.work.limits.executors result.2.items }
 {
-    let mut helm = Helm::<W, J, F>::of(desk, output);
-    hand_out(rt, &mut helm, setting.out);
+    let mut desk = JobDesk::<W, J, F>::of(desk, output);
+    hand_out(rt, &mut desk, setting.out);
+    let members = Vec::with_capacity(rt.alloc(), workers.len()).expect(rt, "memory");
+    let room = Vec::with_capacity(rt.alloc(), workers.len()).expect(rt, "memory");
+    let mut members = enlist(&queue, &mut pass, workers, members);
     let driver = Driver {
-        helm: Mutex::new(helm),
+        helm: Mutex::new(Helm::of(desk, pass)),
         bell: Condvar::new(),
+        queue,
     };
-    let threads = setting.threads;
-    assert!(rt; 0 < threads, "no thread");
-    thread::for_each_mut(
+    employ_apart(
         rt,
-        workers,
-        threads,
-        &|_, worker|
-            requires { IsFresh W.work.limits.executors worker.now }
-            ensures { HasWorked W.work worker.entry.now worker.exit.now }
-        { employ(rt, alloc, &driver, all, gate, clock, worker) },
+        rt.alloc(),
+        &driver,
+        all,
+        gate,
+        clock,
+        setting.threads,
+        &mut members,
     );
-    let Driver { helm, bell: _ } = driver;
-    helm.into_inner().into_parts()
+    let Driver {
+        helm,
+        bell: _,
+        queue: _,
+    } = driver;
+    let (desk, output) = helm.into_inner().into_parts();
+    (desk, output, dismiss(members, room))
 }
 
 /// What executors leave of the first job of a work, each over the stores that it looks at: its
@@ -144,18 +202,19 @@ pub fn worked_apart<
     ensures worked { All (HasCause W.work) result.2.items }
     ensures places { AreInPlace W.work.limits.executors result.2.items }
 {
-    let (desk, output, mut workers) = begun(rt, work, files);
+    let (desk, output, workers) = begun(rt, work, files);
     let all = stores_of(rt, work, stores);
-    let (desk, output) = work_apart::<W, Brand, F, Keeper, _, R>(
+    let (queue, pass) = Queue::<Witnessed<W>>::ruled(rt.alloc(), CAPACITY).expect(rt, "memory");
+    work_apart::<W, Brand, F, Keeper, _, R>(
         rt,
-        rt.alloc(),
         desk,
         output,
+        queue,
+        pass,
         all.as_slice(),
         &Keeper::new(rt.alloc(), Kept::Pairs, setting.pairs),
         &Mutex::new(STILL),
         setting,
-        &mut workers,
-    );
-    (desk, output, workers)
+        workers,
+    )
 }

@@ -75,11 +75,6 @@ impl Keeper {
             Kept::First | Kept::FirstTask | Kept::Pairs => 0,
         }
     }
-
-    /// Whether so many have entered.
-    fn have_entered<R: Wait>(&self, rt: &R, many: usize) -> bool {
-        self.entered.lock(rt).len() >= many
-    }
 }
 
 impl Gate for Keeper {
@@ -87,7 +82,8 @@ impl Gate for Keeper {
         let before = self.note(rt, exec, attempt);
         let awaited = self.awaited(before, attempt);
         for _ in 0..TURNS {
-            if self.have_entered(rt, awaited) {
+            let many = self.entered.lock(rt).len();
+            if many >= awaited {
                 return;
             }
             thread::yield_now();

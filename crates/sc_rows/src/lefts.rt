@@ -366,6 +366,22 @@ fn seen_apart<
     (lefts, seen)
 }
 
+/// Whether these lines are told. Where two executors report at the same moment what is refused as
+/// too early, one of them pushes it: who drains it tells so, and who pushed it may hear nothing.
+fn are_told(told: &str, want: &str) -> bool {
+    let mut lines = told.lines();
+    for wanted in want.lines() {
+        let Some(line) = lines.next() else {
+            return false;
+        };
+        let pushed = line.starts_with("Drained(Early(") || line.starts_with("Busy");
+        if line != wanted && !(pushed && wanted.starts_with("Early(")) {
+            return false;
+        }
+    }
+    lines.next().is_none()
+}
+
 /// Sees that the first job of a work goes so in a way to run it.
 fn assert_way<R: Abort + AllocGlobal + Threads + Wait + time::Clock + Sync>(
     rt: &R,
@@ -396,7 +412,7 @@ fn assert_way<R: Abort + AllocGlobal + Threads + Wait + time::Clock + Sync>(
             "{label}, {way}: {lefts}"
         );
     } else {
-        assert_eq!(rt; lefts.as_str(), left, "{label}, {way}");
+        assert!(rt; are_told(lefts.as_str(), left), "{label}, {way}: {lefts}");
     }
     let Seen {
         mut told,

@@ -1,40 +1,46 @@
-use denote.Exit.{no}
-use denote.Param.Send.{param_sync, arg_sync, shr_sync, shr_slice_sync}
-use Rattle.std.proofs.sync.Mutex.TheSendSync as mutex
-use Rattle.std.proofs.Common.{subst, sym}
-use Rattle.sc_exec.specs.Working.{IsFresh}
+use Rattle.std.proofs.Common.{◌∙◌, ◌≤◌, ℕ, All, List, ap, length, map, rules, subst, sym, vec_capacity}
+use Rattle.std.proofs.lemmas.List.{with_items_is}
+use Rattle.sc_exec.specs.Crews.{IsFreshMember, worker_of}
+use Rattle.sc_exec.specs.Workers.{AreInPlace, HasCause}
 use Rattle.sc_exec.specs.declared.workers.Worker.{Worker}
-use Rattle.sc_exec.proofs.Crossing.{driver_sync, global_sync, six_sync, stores_sync}
-use Rattle.sc_exec.proofs.WorkerLemmas.{worked_at, worked_causes, worked_places}
+use Rattle.sc_exec.proofs.CrewLemmas.{fresh_members, length_map, worked_causes, worked_places}
 use Rattle.sc_rows.proofs.apart.work_apart.Goals as goal
 
-pub for_each_mut-requires-sync-F : goal.for_each_mut-requires-sync-F
-for_each_mut-requires-sync-F g c κs within =
-    param_sync 2 _ (arg_sync _ no _ (six_sync _ _ _ _ _ _ _
-    (shr_sync _ _ _ c.type_bounds.sync-R)
-    (shr_sync _ _ _ global_sync)
-    (shr_sync _ _ _ (driver_sync _ _ _ g.W.Naming g.J.Opening g.F.Files c.type_bounds.send-W
-    c.type_bounds.send-J c.type_bounds.send-F))
-    (shr_slice_sync _ _ _ (stores_sync _ g.W.Naming c.type_bounds.send-W))
-    (shr_sync _ _ _ c.type_bounds.sync-G)
-    (shr_sync _ _ _ (mutex.the_sync _ c.type_bounds.send-C))))
+pub employ_apart-requires-clause-fresh : goal.employ_apart-requires-clause-fresh
+employ_apart-requires-clause-fresh g c κs lives =
+    subst (λ ms. All (IsFreshMember g.W.Naming.work.limits.executors) ms)
+    (sym c.deref_mut.ensures.value)
+    (fresh_members g.W.Naming.work.limits.executors c.enlist-members.result.items
+    c.args.workers.items c.enlist-members.ensures.workers c.requires.fresh
+    c.enlist-members.ensures.marked)
 
-pub for_each_mut-requires-clause-accepts : goal.for_each_mut-requires-clause-accepts
-for_each_mut-requires-clause-accepts g c κs within = λ i p lt at.
-    subst (λ (w : Worker). IsFresh g.W.Naming.work.limits.executors w) (sym at)
-    (c.requires.fresh i p.now lt)
+pub dismiss-requires-clause-room : goal.dismiss-requires-clause-room
+dismiss-requires-clause-room g c =
+    let same = with_items_is c.enlist-members.result c.employ_apart.new.members
+    (c.employ_apart.auto.members ∙ c.deref_mut.ensures.len) in
+    let are = ap (map worker_of) c.deref_mut.ensures.value ∙ c.enlist-members.ensures.workers in
+    let room : length c.args.workers.items ≤ vec_capacity c.expect-room.result = search rules in
+    subst (λ (n : ℕ). n ≤ vec_capacity c.expect-room.result)
+    (sym (ap length same ∙ c.employ_apart.ensures.worked.many ∙ sym (length_map worker_of _)
+    ∙ ap length are))
+    room
 
 pub returns-clause-worked : goal.returns-clause-worked
 returns-clause-worked g c =
-    worked_causes g.W.Naming.work c.args.workers.now c.for_each_mut.new.s c.for_each_mut.auto.s
-    (λ i d lt. let at = (c.for_each_mut.ensures i d lt).1 in
-    worked_at g.W.Naming.work _ _ at.argument.now at.after_call.now at.argument_is at.left
-    at.call)
+    let same = with_items_is c.enlist-members.result c.employ_apart.new.members
+    (c.employ_apart.auto.members ∙ c.deref_mut.ensures.len) in
+    subst (λ (ws : List Worker). All (HasCause g.W.Naming.work) ws)
+    (sym (c.dismiss.ensures ∙ ap (map worker_of) same))
+    (worked_causes g.W.Naming.work _ c.employ_apart.new.members c.employ_apart.ensures.worked)
 
 pub returns-clause-places : goal.returns-clause-places
 returns-clause-places g c =
-    worked_places g.W.Naming.work c.args.workers.now c.for_each_mut.new.s c.for_each_mut.auto.s
-    (λ i d lt. let at = (c.for_each_mut.ensures i d lt).1 in
-    worked_at g.W.Naming.work _ _ at.argument.now at.after_call.now at.argument_is at.left
-    at.call)
-    g.W.Naming.work.limits.executors c.requires.places
+    let same = with_items_is c.enlist-members.result c.employ_apart.new.members
+    (c.employ_apart.auto.members ∙ c.deref_mut.ensures.len) in
+    subst (λ (ws : List Worker). AreInPlace g.W.Naming.work.limits.executors ws)
+    (sym (c.dismiss.ensures ∙ ap (map worker_of) same))
+    (worked_places g.W.Naming.work _ c.employ_apart.new.members c.employ_apart.ensures.worked
+    g.W.Naming.work.limits.executors
+    (subst (λ (ws : List Worker). AreInPlace g.W.Naming.work.limits.executors ws)
+    (sym (ap (map worker_of) c.deref_mut.ensures.value ∙ c.enlist-members.ensures.workers))
+    c.requires.places))
