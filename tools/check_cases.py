@@ -29,10 +29,10 @@ its column is called NAME.. it has lines: each ' | ' in it ends one, an empty ce
 other cells in it. Several tables make a case for each choice of their rows.
 
 A case runs in a folder of its own, for a minute at most; it has to want an output, an error, a
-status or what is left. Its files may be in folders, as '-- out/old' is. Prints what differs and the
-counts, and ends with 1 where a case differs or a file hasn't this form. With -k only cases run whose
-place and claim have TEXT. The program is that of crates/spark_run/out, or the file SPARK_RUN; where
-there is none this says so and ends with 0.
+status or what is left. Its files may be in folders, as '-- out/old' is. Prints what differs and
+the counts, and ends with 1 where a case differs or a file hasn't this form. With -k only cases run
+whose place and claim have TEXT. The program is that of crates/spark_run/out, or the file SPARK_RUN;
+where there is none this says so and ends with 0.
 """
 import argparse
 import concurrent.futures
