@@ -111,10 +111,11 @@ pub(crate) fn each_with_one<T: TextTest>(
     ensures { IfOk result (λ v. v.items
         ≡ zip_with (text_test (T.head head)) all.now (replicate n one.now)) }
 {
-    let count = all.len().min(n);
+    let (bytes, places) = all.parts();
+    let count = places.len().min(n);
     let mut out = Vec::with_capacity(alloc, count)?;
     for i in 0..count {
-        out.push(head.test(all.get(i), one))?;
+        out.push(head.test(places[i].text_in(bytes), one))?;
     }
     Ok(out)
 }
@@ -130,10 +131,11 @@ pub(crate) fn one_with_each<T: TextTest>(
     ensures { IfOk result (λ v. v.items
         ≡ zip_with (text_test (T.head head)) (replicate n one.now) all.now) }
 {
-    let count = n.min(all.len());
+    let (bytes, places) = all.parts();
+    let count = n.min(places.len());
     let mut out = Vec::with_capacity(alloc, count)?;
     for i in 0..count {
-        out.push(head.test(one, all.get(i)))?;
+        out.push(head.test(one, places[i].text_in(bytes)))?;
     }
     Ok(out)
 }

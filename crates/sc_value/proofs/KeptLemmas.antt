@@ -1,6 +1,6 @@
 -- Items that are kept.
-use Rattle.std.proofs.Common.{◌≡◌, ◌∙◌, ℕ, zero, suc, ◌+◌, ◌<◌, ◌≤◌, min, Bool, true, false, List, [], ◌∷◌, ◌++◌, length, map, take, drop, get_or, slice_set, refl, ap, sym, arith, add-one}
-use Rattle.std.proofs.lemmas.List.{drop_more, append_assoc, append-nil, length-drop, take-set, take_more_set}
+use Rattle.std.proofs.Common.{◌≡◌, ◌∙◌, ℕ, zero, suc, ◌+◌, ◌-◌, ◌<◌, ◌≤◌, min, Bool, true, false, List, [], ◌∷◌, ◌++◌, length, map, take, drop, get_or, slice_set, refl, ap, ap₂, sym, arith, add-one}
+use Rattle.std.proofs.lemmas.List.{drop-drop, drop_more, append_assoc, append-nil, length-drop, take-set, take_more_set}
 use Rattle.std.specs.Int.{from_bool}
 use Rattle.std.specs.List.{All}
 use Rattle.std.proofs.lemmas.List.Elements.{All-head, All-tail, All-cons, All-nil}
@@ -85,3 +85,35 @@ kept_next bs xs out all n m i false x p q r mark step at before =
 pub step_below : (b : Bool) (m : ℕ) → m ≡ from_bool b → m ≤ 1
 step_below true m step = omega (arith, step)
 step_below false m step = omega (arith, step)
+
+kept_none : {X : Type 0} (bs : List Bool) → let none : List X = [] in none ≡ kept bs none
+kept_none [] = refl
+kept_none (b ∷ bs) = refl
+
+-- what is kept of some first items, and what of the others
+kept-split : {X : Type 0} (k : ℕ) (bs : List Bool) (xs : List X)
+    → kept bs xs ≡ kept (take k bs) (take k xs) ++ kept (drop k bs) (drop k xs)
+kept-split zero bs xs = refl
+kept-split (suc k) [] xs = refl
+kept-split (suc k) (b ∷ bs) [] = kept_none (drop k bs)
+kept-split (suc k) (true ∷ bs) (x ∷ xs) = ap (λ ys. x ∷ ys) (kept-split k bs xs)
+kept-split (suc k) (false ∷ bs) (x ∷ xs) = kept-split k bs xs
+
+-- the items of one more block
+pub kept_more : {X : Type 0} (bs : List Bool) (xs out after all : List X) (from to : ℕ)
+    → from ≤ to
+    → after ≡ out ++ kept (take (to - from) (drop from bs)) (take (to - from) (drop from xs))
+    → out ++ kept (drop from bs) (drop from xs) ≡ all
+    → after ++ kept (drop to bs) (drop to xs) ≡ all
+kept_more bs xs out after all from to le is before =
+    let k = to - from in
+    let whole : from + k ≡ to = omega (arith, le) in
+    let here = kept (take k (drop from bs)) (take k (drop from xs)) in
+    let rest = kept (drop to bs) (drop to xs) in
+    let split : kept (drop from bs) (drop from xs) ≡ here ++ rest =
+    kept-split k (drop from bs) (drop from xs)
+    ∙ ap₂ (λ ms ys. here ++ kept ms ys)
+    (drop-drop k from bs ∙ ap (λ n. drop n bs) whole)
+    (drop-drop k from xs ∙ ap (λ n. drop n xs) whole) in
+    ap (λ ys. ys ++ rest) is ∙ append_assoc out here rest
+    ∙ ap (λ ys. out ++ ys) (sym split) ∙ before

@@ -1,7 +1,7 @@
 //! Items that are shared.
 #![tactic(auto)]
 
-ghost use Rattle.std.specs.Prelude.{◌≡◌, ◌≤◌, IfOk, length, slice_range};
+ghost use Rattle.std.specs.Prelude.{◌≡◌, ◌≤◌, IfOk, OnOk, length, slice_range};
 ghost use Rattle.sc_value.specs.Kept.{kept};
 ghost use Rattle.sc_value.specs.Picked.{ArePlaces, picked};
 
@@ -80,20 +80,51 @@ impl<T: Drop> Held<T> {
     }
 }
 
-/// The items whose place is marked. Each item is written where the next kept one belongs, and stays
-/// there if its place is marked: so marks in no order cost no more than others.
+/// How many items are kept at a time.
+const BLOCK: usize = 512;
+
+/// The items whose place is marked. They are kept block by block, so that no more memory is touched
+/// than those take that are kept.
 pub fn kept_items<T: Copy>(alloc: Global, items: &[T], marks: &[bool]) -> Result<Vec<T>, AllocError>
     ensures { IfOk result (λ v. v.items ≡ kept marks.now items.now) }
 {
     let end = items.len().min(marks.len());
-    let mut out = Vec::from_slice(alloc, &items[..end])?;
+    let mut out = Vec::with_capacity(alloc, marked(marks))?;
+    let mut block = Vec::with_capacity(alloc, BLOCK.min(end))?;
+    let mut from = 0;
+    while from < end {
+        let to = from + BLOCK.min(end - from);
+        keep_block(&items[from..to], &marks[from..to], &mut block)?;
+        out.extend_from_slice(&block)?;
+        from = to;
+    }
+    Ok(out)
+}
+
+/// About how many places are marked, for a reservation.
+fn marked(marks: &[bool]) -> usize {
+    let mut n: usize = 0;
+    for mark in marks {
+        n = n.wrapping_add(usize::from(*mark));
+    }
+    n
+}
+
+/// Leaves the items in a block whose place is marked. Each item is written where the next kept one
+/// belongs, and stays there if its place is marked: so marks in no order cost no more than others.
+fn keep_block<T: Copy>(items: &[T], marks: &[bool], block: &mut Vec<T>) -> Result<(), AllocError>
+    ensures { OnOk result (block.new.items ≡ kept marks.now items.now) }
+{
+    let end = items.len().min(marks.len());
+    block.clear();
+    block.extend_from_slice(&items[..end])?;
     let mut n = 0;
     for i in 0..end {
-        out[n] = items[i];
+        block[n] = items[i];
         n += usize::from(marks[i]);
     }
-    out.truncate(n);
-    Ok(out)
+    block.truncate(n);
+    Ok(())
 }
 
 /// The items at some places, of which each has one.

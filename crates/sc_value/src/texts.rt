@@ -27,6 +27,18 @@ pub struct Span {
     pub to: u32,
 }
 
+impl Span {
+    /// The text at this place of some bytes.
+    #[inline(always)]
+    pub fn text_in(self, bytes: &[u8]) -> &str
+        requires { IsPart bytes.now self }
+        ensures { result.now ≡ part_at bytes.now self }
+    {
+        let part = &bytes[self.from as usize..self.to as usize];
+        unsafe { str::from_utf8_unchecked(part) }
+    }
+}
+
 /// Texts that lie in shared bytes, seen by contracts as the list of their UTF-8 bytes.
 ///
 /// A text costs eight bytes beside its own. To share them, or a range of them, copies nothing.
@@ -84,9 +96,8 @@ impl Texts {
         requires { i < length self.now }
         ensures { slice_get self.now i ≡ Some result.now }
     {
-        let span = self.spans.as_slice()[i];
-        let part = &self.bytes.as_slice()[span.from as usize..span.to as usize];
-        unsafe { str::from_utf8_unchecked(part) }
+        let (bytes, place) = self.place(i);
+        place.text_in(bytes)
     }
 
     /// Writes the text at a place behind some bytes, or nothing where memory runs out.
@@ -109,6 +120,16 @@ impl Texts {
         ensures text { slice_get self.now i ≡ Some (part_at result.0.now result.1) }
     {
         (self.bytes.as_slice(), self.spans.as_slice()[i])
+    }
+
+    /// The bytes that all texts lie in, and where each lies, so that a loop over many looks these
+    /// up once ([`Span::text_in`]).
+    #[inline(always)]
+    pub fn parts(&self) -> (&[u8], &[Span])
+        ensures parts { All (IsPart result.0.now) result.1.now }
+        ensures texts { map (part_at result.0.now) result.1.now ≡ self.now }
+    {
+        (self.bytes.as_slice(), self.spans.as_slice())
     }
 
     /// About how many bytes the texts take, from where the first begins to where the last ends: a

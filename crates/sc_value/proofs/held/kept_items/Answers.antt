@@ -1,23 +1,20 @@
-use Rattle.std.proofs.Common.{◌∙◌, get_or, false, refl, arith}
-use Rattle.std.proofs.lemmas.List.{length-set}
-use Rattle.sc_value.proofs.KeptLemmas.{kept_next, kept_all, step_below}
+use Rattle.std.proofs.Common.{◌∙◌, ◌++◌, ap, arith}
+use Rattle.sc_value.proofs.KeptLemmas.{kept_all, kept_more}
 use Rattle.sc_value.proofs.held.kept_items.Goals as goal
 
-pub loop-i-preserved : goal.loop-i-preserved
-loop-i-preserved g c =
-    let out = c.loop-i.out.items in
-    let mark = get_or c.args.marks.now c.loop-i.i false in
-    let below = step_below mark c.from-n.result c.from-n.ensures in
+pub loop-from-preserved : goal.loop-from-preserved
+loop-from-preserved g c =
     record {
-      before = omega (arith, below, c.loop-i.invariant.before);
-      room = length-set out c.loop-i.n c.index-items-i.result ∙ c.loop-i.invariant.room;
-      kept = kept_next c.args.marks.now c.args.items.now out _ c.loop-i.n c.from-n.result
-          c.loop-i.i mark c.index-items-i.result (omega arith) (omega arith) (omega arith) refl
-          c.from-n.ensures c.index-items-i.is c.loop-i.invariant.kept;
+      within = omega (arith, c.loop-from.invariant.within, c.loop-from-test.true);
+      kept = kept_more c.args.marks.now c.args.items.now c.loop-from.out.items _ _ c.loop-from.from
+          _ (omega arith)
+          (c.in_ok-extend_from_slice.ensures.items
+          ∙ ap (λ xs. c.loop-from.out.items ++ xs)
+          (c.deref.ensures.value ∙ c.in_ok-keep_block.ensures))
+          c.loop-from.invariant.kept;
     }
 
 pub returns : goal.returns
 returns g c =
-    c.truncate.ensures.items
-    ∙ kept_all c.args.marks.now c.args.items.now _ _ c.loop-i.i (omega arith)
-    c.loop-i.invariant.kept
+    kept_all c.args.marks.now c.args.items.now _ _ c.loop-from.from (omega arith)
+    c.loop-from.invariant.kept

@@ -1,10 +1,12 @@
-use Rattle.std.proofs.Common.{◌≡◌, ◌++◌, ◌≤◌, drop, take, length, min}
+use Rattle.std.proofs.Common.{◌≡◌, ◌++◌, ◌-◌, ◌≤◌, drop}
 use Rattle.sc_value.specs.Kept.{kept}
 use Rattle.sc_value.proofs.held.kept_items.Given as goal
 
-abbrev pub invariant-loop-i : goal.invariant-loop-i
-invariant-loop-i g l = record {
-  before : l.n ≤ l.i;
-  room : length l.out.items ≡ min (length l.items) (length l.marks);
-  kept : take l.n l.out.items ++ kept (drop l.i l.marks) (drop l.i l.items) ≡ kept l.marks l.items;
+abbrev pub decreases-loop-from : goal.decreases-loop-from
+decreases-loop-from g l = l.end - l.from
+
+abbrev pub invariant-loop-from : goal.invariant-loop-from
+invariant-loop-from g l = record {
+  within : l.from ≤ l.end;
+  kept : l.out.items ++ kept (drop l.from l.marks) (drop l.from l.items) ≡ kept l.marks l.items;
 }
