@@ -1,0 +1,4 @@
+pub mod PutLemmas
+pub mod ReadLemmas
+pub mod IndexLemmas
+pub mod PartLemmas

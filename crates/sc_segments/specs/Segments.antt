@@ -1,0 +1,48 @@
+-- Rows whose spellings stand one behind the other.
+use Rattle.std.specs.Prelude.{◌≡◌, ◌++◌, ◌∷◌, [], ℕ, List, Option, Some, None, map}
+use Rattle.std.specs.List.{AllByRecursion, flat_map}
+use Rattle.sc_value.specs.Datum.{Datum}
+use Rattle.sc_value.specs.Types.{TypeData}
+use Rattle.sc_spelling.specs.Spelling.{IsHeld, IsValueOf, bytes_of}
+use Rattle.sc_spelling.specs.Reading.{read}
+
+-- the rows' spellings, one behind the other
+abbrev pub segment_of : List Datum → List ℕ
+segment_of rows = flat_map bytes_of rows
+
+-- a row's spelling stands behind what was written before, and it is a row that a program can hold
+pub record Puts (old new : List ℕ) (row : Datum) : Type 0 where
+  pub bytes : new ≡ old ++ bytes_of row
+  pub held : IsHeld row
+
+-- the rows' spellings stand behind what was written before
+pub record PutsAll (old new : List ℕ) (rows : List Datum) : Type 0 where
+  pub bytes : new ≡ old ++ segment_of rows
+  pub held : AllByRecursion IsHeld rows
+
+-- a row of the type was read from the front and added behind others, or none stands there
+abbrev pub Adds : TypeData → List ℕ → List Datum → List Datum → Option (List ℕ) → Type 0
+Adds t bytes old new None = read t bytes ≡ None
+Adds t bytes old new (Some rest) =
+    (row : Datum) × (read t bytes ≡ Some (row, rest)) × (new ≡ old ++ row ∷ [])
+
+-- each of the rows is of the type
+abbrev pub AreRowsOf : TypeData → List Datum → Type 0
+AreRowsOf t rows = AllByRecursion (IsValueOf t) rows
+
+-- the rows of some buckets together
+abbrev pub rows_together : List (List Datum) → List Datum
+rows_together buckets = flat_map (λ rows. rows) buckets
+
+-- where each of some parts is the spellings of rows of the type, what was read is all these rows
+abbrev pub IsReadBack : TypeData → List (List ℕ) → Option (List Datum) → Type 0
+IsReadBack t parts found =
+    (buckets : List (List Datum)) → AllByRecursion (AreRowsOf t) buckets
+    → parts ≡ map segment_of buckets → found ≡ Some (rows_together buckets)
+
+-- some of the rows were added, and the bytes that are left spell the others
+pub record IsLeft (t : TypeData) (rows old now : List Datum) (rest : List ℕ) : Type 0 where
+  pub more : List Datum
+  pub values : AreRowsOf t more
+  pub spelled : rest ≡ segment_of more
+  pub whole : now ++ more ≡ old ++ rows
