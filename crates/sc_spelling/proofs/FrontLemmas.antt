@@ -1,10 +1,10 @@
 -- What stands behind the tag of a value that can be read.
-use Rattle.std.proofs.Common.{◌≡◌, ◌==◌, ltb, cond, ℕ, List, [], ◌∷◌, Option, Some, None, length, take, drop, refl, sym, ap, subst, ◌∙◌}
+use Rattle.std.proofs.Common.{◌≡◌, ◌==◌, ltb, cond, ℕ, List, [], ◌∷◌, Some, None, length, take, drop, sym, ap, subst, ◌∙◌}
 use Rattle.std.specs.Str.{IsUtf8, is_utf8}
 use Rattle.std.proofs.lemmas.Str.{IsUtf8-from_is_utf8}
 use Rattle.sc_value.specs.Datum.{Datum, text}
 use Rattle.sc_value.specs.Types.{text_type}
-use Rattle.sc_spelling.specs.Reading.{◌>>=◌, CanRead, after_tag, chars_at, eight_at, read, text_at}
+use Rattle.sc_spelling.specs.Reading.{CanRead, after_tag, chars_at, eight_at, text_at}
 use Rattle.sc_spelling.proofs.BindLemmas.{bind_some, guard_some, need_some, some_is}
 
 -- a tag is one byte
