@@ -1,5 +1,5 @@
 -- Rows that are read one after another.
-use Rattle.std.proofs.Common.{◌≡◌, ◌<◌, ◌++◌, ◌∷◌, ℕ, List, [], length, drop, Option, Some, None, refl, sym, ap, subst, ◌∙◌, arith, append_assoc, append-nil, length-append}
+use Rattle.std.proofs.Common.{◌≡◌, ◌<◌, ◌++◌, ◌∷◌, ℕ, List, [], length, drop, Option, Some, None, refl, sym, ap, ◌∙◌, arith, append_assoc, append-nil, length-append}
 use Rattle.sc_value.specs.Datum.{Datum, number, truth, text, pair, group}
 use Rattle.sc_value.specs.Types.{TypeData, pair_type}
 use Rattle.sc_columns.specs.Columns.{zip_with}

@@ -10,7 +10,7 @@ use Rattle.sc_value.specs.Types.{TypeData, HasType}
 use Rattle.sc_spelling.specs.Spelling.{IsHeld, eight_bytes}
 use Rattle.sc_spelling.proofs.HeldLemmas.{value_of}
 use Rattle.sc_segments.specs.Indexes.{AreSegments, data_of, index_of, starts_of}
-use Rattle.sc_segments.specs.Segments.{AreRowsOf}
+use Rattle.sc_segments.specs.Segments.{AreRowsOf, segment_of}
 use Rattle.sc_shuffle.specs.Packed.{ArePacked, buckets_read}
 use Rattle.sc_shuffle.proofs.PackedLemmas.{packed_again}
 
@@ -82,7 +82,7 @@ length-eights (p ∷ ps) =
 length-starts : (at : ℕ) (buckets : List (List Datum))
     → length (starts_of at buckets) ≡ length buckets
 length-starts at [] = refl
-length-starts at (rows ∷ buckets) = ap suc (length-starts _ buckets)
+length-starts at (rows ∷ buckets) = ap suc (length-starts (at + length (segment_of rows)) buckets)
 
 pub length-index : (buckets : List (List Datum))
     → length (index_of buckets) ≡ 8 * (length buckets + 1)
