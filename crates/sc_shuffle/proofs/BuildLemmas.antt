@@ -1,9 +1,9 @@
 -- What is packed is of its type.
-use Rattle.std.proofs.Common.{◌≡◌, ◌<◌, ◌≤◌, ◌+◌, ◌*◌, ◌^◌, ◌++◌, ◌∷◌, ℕ, zero, suc, List, [], length, take, map, Option, Some, None, refl, sym, ap, subst, ◌∙◌, arith, length-append}
+use Rattle.std.proofs.Common.{◌≡◌, ◌<◌, ◌+◌, ◌*◌, ◌^◌, ◌++◌, ◌∷◌, ℕ, zero, suc, List, [], length, map, Option, Some, None, refl, sym, ap, subst, ◌∙◌, arith, length-append}
 use Rattle.std.specs.Prelude.{IfSome}
-use Rattle.std.specs.List.{AllByRecursion, cons_option, filter_map, flat_map, slice_get}
+use Rattle.std.specs.List.{AllByRecursion, cons_option, flat_map, slice_get}
 use Rattle.std.proofs.lemmas.List.{length-map}
-use Rattle.sc_base.specs.Lists.{at_or, numbers_below, numbers_from}
+use Rattle.sc_base.specs.Lists.{numbers_below, numbers_from}
 use Rattle.sc_value.specs.Datum.{Datum}
 use Rattle.sc_value.specs.Picked.{picked}
 use Rattle.sc_value.specs.Types.{TypeData, HasType}

@@ -1,8 +1,8 @@
 -- What was packed is read again.
-use Rattle.std.proofs.Common.{◌≡◌, ◌<◌, ◌≤◌, ◌+◌, ◌-◌, ◌*◌, ◌^◌, ◌++◌, ◌∷◌, ℕ, zero, suc, List, [], length, take, drop, map, Some, None, refl, sym, ap, ap₂, subst, ◌∙◌, arith, append_assoc, append-nil, length-append}
-use Rattle.std.specs.List.{AllByRecursion, flat_map, slice_get, slice_range}
+use Rattle.std.proofs.Common.{◌≡◌, ◌<◌, ◌≤◌, ◌+◌, ◌-◌, ◌^◌, ◌++◌, ◌∷◌, ℕ, zero, suc, List, [], length, take, map, refl, sym, ap, ap₂, subst, ◌∙◌, arith, append_assoc, append-nil, length-append}
+use Rattle.std.specs.List.{AllByRecursion, slice_range}
 use Rattle.std.proofs.lemmas.List.{drop_at, take_at}
-use Rattle.sc_base.specs.Lists.{at_or, numbers_below, numbers_from}
+use Rattle.sc_base.specs.Lists.{at_or, numbers_from}
 use Rattle.sc_value.specs.Datum.{Datum}
 use Rattle.sc_value.specs.Types.{TypeData}
 use Rattle.sc_segments.specs.Indexes.{data_of, index_of}

@@ -1,4 +1,4 @@
-use Rattle.std.proofs.Common.{◌≡◌, ◌<◌, ◌≤◌, ◌+◌, ◌*◌, ◌∙◌, [], length, ap, sym, arith}
+use Rattle.std.proofs.Common.{◌∙◌, [], length, ap, arith}
 use Rattle.sc_base.specs.Lists.{at_or}
 use Rattle.sc_segments.specs.Segments.{segment_of}
 use Rattle.sc_value.specs.Views.{type_data_of}
