@@ -3,3 +3,4 @@ pub mod ReadLemmas
 pub mod IndexLemmas
 pub mod PartLemmas
 pub mod TextLemmas
+pub mod ListLemmas

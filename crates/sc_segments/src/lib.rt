@@ -2,6 +2,7 @@
 #![tactic(auto)]
 
 mod cells;
+mod list_reads;
 mod lists;
 mod readers;
 mod reads;
