@@ -28,6 +28,6 @@ mod sides;
 mod sorting;
 
 pub use bounding::bounds_between;
-pub use dealing::{dealt_by_hash, dealt_by_range, dealt_in_turn};
+pub use dealing::{cut_by_hash, dealt_by_hash, dealt_by_range, dealt_in_turn};
 pub use meeting::meet;
 pub use shuffles::{map_side, reduce_side};

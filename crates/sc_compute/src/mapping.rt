@@ -2,12 +2,16 @@
 #![tactic(auto)]
 
 ghost use Rattle.std.specs.Prelude.{◌≡◌, ◌<◌, IfOk, OnOk, length};
+ghost use Rattle.std.specs.List.{AllByRecursion};
 ghost use Rattle.sc_combine.specs.Deals.{IsDealt};
 ghost use Rattle.sc_lineage.specs.Dependencies.{place};
 ghost use Rattle.sc_lineage.specs.Shuffles.{dealing_of, map_side as map_side_of, stream_of_side};
 ghost use Rattle.sc_lineage.specs.Targets.{map_target, own_value};
 ghost use Rattle.sc_lineage.specs.Views.{partitioner_data_of, shuffling_data_of};
 ghost use Rattle.sc_combine.specs.Outputs.{dealing_of_node};
+ghost use Rattle.sc_typed.specs.Typed.{IsSideOf as SideIsOf};
+ghost use Rattle.sc_value.specs.Types.{HasType};
+ghost use Rattle.sc_value.specs.Views.{type_data_of};
 ghost use Rattle.sc_compute.specs.Caching.{AreOwn};
 ghost use Rattle.sc_compute.specs.Needs.{Notes};
 ghost use Rattle.sc_compute.specs.Stages.{AreRight, HasBounds, HasMade, local_count, mapped_in, node_at};
@@ -25,6 +29,7 @@ use sc_combine::{dealt_by_hash, dealt_by_range, dealt_in_turn, map_side};
 use sc_lineage::{Node, NodeId, Partitioner, Place, Shuffling, Stream, Work};
 use sc_part::Bounds;
 use sc_shuffle::MapOutput;
+use sc_value::Ty;
 use std::alloc::{AllocError, Global};
 
 /// What the task of map partition `map` of a side leaves, where all was made for the side's parent.
@@ -63,7 +68,8 @@ pub fn map_output(
                 partition: map,
             };
             let stream = cached_stream(alloc, work, stages, caching, from)?;
-            output_of(alloc, kind, *partitions, &bounds, &stream, map)
+            let ty = work.script().row_type(from.node);
+            output_of(alloc, kind, *partitions, &bounds, &stream, ty, map)
         }
         Node::Meet {
             left,
@@ -78,7 +84,8 @@ pub fn map_output(
                 partition: map,
             };
             let stream = cached_stream(alloc, work, stages, caching, from)?;
-            output_of(alloc, &passed, *partitions, &bounds, &stream, map)
+            let ty = work.script().row_type(from.node);
+            output_of(alloc, &passed, *partitions, &bounds, &stream, ty, map)
         }
         _ => unreachable!(),
     }
@@ -91,15 +98,18 @@ fn output_of(
     n: u32,
     bounds: &Bounds,
     stream: &Stream,
+    ty: &Ty,
     m: u32,
 ) -> Result<TaskOutput, AllocError>
     requires some_partitions { 0 < n }
+    requires typed { SideIsOf (type_data_of ty.now)
+        (map_side_of (shuffling_data_of kind.now) stream.now) }
     ensures { IfOk result (LeavesSide (dealing_of (shuffling_data_of kind.now) n bounds.now) m
         (stream_of_side (map_side_of (shuffling_data_of kind.now) stream.now))) }
 {
     match map_side(alloc, kind, stream) {
         Ok(rows) => {
-            let dealt = deal_one(alloc, kind, n, bounds, &rows, m as usize)?;
+            let dealt = deal_one(alloc, kind, n, bounds, &rows, ty, m as usize)?;
             Ok(TaskOutput::Output(dealt))
         }
         Err(OrMemory::Fault(raise)) => Ok(TaskOutput::Raised(raise)),
@@ -114,17 +124,19 @@ fn deal_one(
     n: u32,
     bounds: &Bounds,
     rows: &Rows,
+    ty: &Ty,
     m: usize,
 ) -> Result<MapOutput, AllocError>
     requires some_partitions { 0 < n }
+    requires typed { AllByRecursion (λ d. HasType d (type_data_of ty.now)) rows.now }
     ensures { IfOk result
         (IsDealt (dealing_of (shuffling_data_of kind.now) n bounds.now) m rows.now) }
 {
     match kind.partitioner(n) {
-        Partitioner::Hash(_) => dealt_by_hash(alloc, rows, n),
-        Partitioner::Range => dealt_by_range(alloc, rows, bounds),
+        Partitioner::Hash(_) => dealt_by_hash(alloc, rows, ty, n),
+        Partitioner::Range => dealt_by_range(alloc, rows, ty, bounds),
         Partitioner::Unknown => match u32::try_from(m) {
-            Ok(m) => dealt_in_turn(alloc, rows, n, m),
+            Ok(m) => dealt_in_turn(alloc, rows, ty, n, m),
             Err(_) => Err(AllocError),
         },
     }

@@ -10,7 +10,7 @@ ghost use Rattle.sc_compute.specs.Reading.{GivesSide, IsReadFrom, ReadsBucket};
 
 use sc_base::OrMemory;
 use sc_columns::Rows;
-use sc_combine::{dealt_by_hash, map_side, meet, reduce_side};
+use sc_combine::{cut_by_hash, map_side, meet, reduce_side};
 use sc_expr::Raise;
 use sc_lineage::{Meeting, Shuffling, Stream};
 use sc_shuffle::{MapOutput, rows_of_bucket};
@@ -134,7 +134,7 @@ fn own_rows(
     ensures { ReadsBucket (shuffling_data_of kind.now) (by_hash n) p (own.now ∷ []) result }
 {
     let rows = map_side(alloc, kind, own)?;
-    let dealt = dealt_by_hash(alloc, &rows, n)?;
+    let dealt = cut_by_hash(alloc, &rows, n)?;
     Ok(dealt.rows(alloc, p as usize)?)
 }
 

@@ -11,8 +11,11 @@ use Rattle.sc_value.specs.contracts.values.Value as value
 use Rattle.sc_columns.proofs.columns.Column.TheLaws.TheKnot as column_knot
 use Rattle.sc_columns.specs.contracts.columns.Column as column
 use Rattle.sc_columns.specs.contracts.rows.Rows as rows
-use Rattle.sc_keys.specs.contracts.cuts.CutRows as cut
+use Rattle.bytes.proofs.shared.Bytes.TheSendSync as bytes
+use Rattle.sc_shuffle.specs.contracts.packed.Packed as packed
 use Rattle.sc_shuffle.specs.contracts.outputs.MapOutput as output
+use Rattle.sc_value.proofs.types.Ty.TheLaws.TheKnot as ty_knot
+use Rattle.sc_value.specs.contracts.types.Ty as ty
 use Rattle.sc_expr.proofs.exprs.Expr.TheLaws.TheKnot as expr_knot
 use Rattle.sc_lineage.specs.contracts.inputs.Input as input
 use Rattle.sc_lineage.specs.contracts.nodes.Action as action
@@ -60,14 +63,20 @@ rows_send = search (column_send, column_sync, known) depth 60 fits 20000
 pub rows_sync : IsSync rows.the_row
 rows_sync = search (column_send, column_sync, known) depth 60 fits 20000
 
-cut_send : IsSend cut.the_row
-cut_send = search (rows_send, known) depth 60 fits 20000
+ty_send : IsSend ty.the_row
+ty_send = search (ty_knot.crosses_both, known) depth 60 fits 20000
 
-cut_sync : IsSync cut.the_row
-cut_sync = search (rows_sync, known) depth 60 fits 20000
+ty_sync : IsSync ty.the_row
+ty_sync = search (ty_knot.crosses_both, known) depth 60 fits 20000
+
+packed_send : IsSend packed.the_row
+packed_send = search (ty_send, bytes.the_send, known) depth 60 fits 20000
+
+packed_sync : IsSync packed.the_row
+packed_sync = search (ty_sync, bytes.the_sync, known) depth 60 fits 20000
 
 pub output_send : IsSend output.the_row
-output_send = search (cut_send, cut_sync, known) depth 60 fits 20000
+output_send = search (packed_send, packed_sync, known) depth 60 fits 20000
 
 -- ---- works
 
@@ -107,10 +116,10 @@ pub action_field_sync : IsSync (action.the_field).row
 action_field_sync = search (expr_field_sync, name.the_sync, sendable) depth 60 fits 20000
 
 script_send : IsSend script.the_row
-script_send = search (node_send, action_send, crosses, sendable) depth 60 fits 20000
+script_send = search (node_send, action_send, ty_send, crosses, sendable) depth 60 fits 20000
 
 script_sync : IsSync script.the_row
-script_sync = search (node_sync, action_sync, crosses, sendable) depth 60 fits 20000
+script_sync = search (node_sync, action_sync, ty_sync, crosses, sendable) depth 60 fits 20000
 
 input_send : IsSend input.the_row
 input_send = search known depth 60 fits 20000

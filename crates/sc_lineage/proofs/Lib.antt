@@ -6,6 +6,7 @@ pub mod CountLemmas
 pub mod FoundLemmas
 pub mod NameLemmas
 pub mod SaveLemmas
+pub mod TypeLemmas
 pub mod SoundLemmas
 pub mod WholeLemmas
 pub mod ShuffleLemmas

@@ -4,14 +4,19 @@ use Rattle.std.proofs.lemmas.List.{map-append, take_more}
 use Rattle.std.proofs.lemmas.List.Elements.{All-push, All-weaker, All-same}
 use Rattle.std.specs.Str.{IsUtf8}
 use Rattle.sc_base.specs.Outside.{Files}
+use Rattle.sc_value.specs.Views.{type_data_of}
+use Rattle.sc_value.specs.declared.types.Ty.{Ty}
+use Rattle.sc_value.specs.Types.{TypeData}
 use Rattle.sc_lineage.specs.NodeData.{NodeData}
 use Rattle.sc_lineage.specs.ScriptData.{ActionData, ScriptData, count_step, declared_counts, ReadsBefore, AreWellPlaced, IsCount, node_of_action, partition_limit, IsSoundScript, AreTexts}
 use Rattle.sc_lineage.specs.ByNodes.{by_nodes}
+use Rattle.sc_lineage.specs.NodeTypes.{AreTypes, HasOneKind, HasTypeBehind}
 use Rattle.sc_lineage.specs.Partitioners.{partitioner_step, partitioners_of}
 use Rattle.sc_lineage.specs.Views.{node_data_of, partitioner_data_of}
 use Rattle.sc_lineage.specs.declared.partitioners.Partitioner.{Partitioner}
 use Rattle.sc_lineage.specs.declared.nodes.Node.{Node}
 use Rattle.sc_lineage.proofs.ByNodesLemmas.{by_nodes-push}
+use Rattle.sc_lineage.proofs.TypeLemmas.{types_push}
 
 AreWellPlaced-push : (first : ℕ) (nodes : List NodeData) (node : NodeData)
     → AreWellPlaced first nodes → ReadsBefore (first + length nodes) node
@@ -55,17 +60,20 @@ module _ (script : ScriptData) (node : NodeData) where
 abbrev script_of : List Node → List ActionData → ScriptData
 script_of nodes actions = record { nodes = map node_data_of nodes; actions = actions }
 
--- what a script keeps of its nodes, its actions, its numbers of partitions and its partitioners
-abbrev Keeps : List Node → List ActionData → List ℕ → List Partitioner → Type 0
-Keeps nodes actions counts partitioners =
+-- what a script keeps of its nodes, its actions, its numbers of partitions, its partitioners and
+-- the types of its rows
+abbrev Keeps : List Node → List ActionData → List ℕ → List Partitioner → List Ty → Type 0
+Keeps nodes actions counts partitioners types =
     IsSoundScript (script_of nodes actions) × (counts ≡ declared_counts (map node_data_of nodes))
     × (map partitioner_data_of partitioners ≡ partitioners_of (map node_data_of nodes))
+    × AreTypes (map node_data_of nodes) (map type_data_of types)
 
--- A node is added, with its number of partitions and its partitioner.
+-- A node is added, with its number of partitions, its partitioner and the type of its rows.
 module _ (script : ScriptData) (nodes more : List Node) (actions : List ActionData) (node : Node)
     (counts sums : List ℕ) (count : ℕ) (known others : List Partitioner)
-    (partitioner : Partitioner) (view : script_of nodes actions ≡ script)
-    (keeps : Keeps nodes actions counts known) (are : more ≡ nodes ++ node ∷ []) where
+    (partitioner : Partitioner) (types longer_types : List Ty) (ty : Ty)
+    (view : script_of nodes actions ≡ script)
+    (keeps : Keeps nodes actions counts known types) (are : more ≡ nodes ++ node ∷ []) where
   abbrev new : NodeData
   new = node_data_of node
 
@@ -87,13 +95,28 @@ module _ (script : ScriptData) (nodes more : List Node) (actions : List ActionDa
       ∙ sym (by_nodes-push step script.nodes new)
       ∙ ap (by_nodes step) (sym nodes_are)
 
+  -- the types of the nodes, one more behind
+  types_more : longer_types ≡ types ++ ty ∷ []
+      → HasTypeBehind script.nodes new (type_data_of ty) → HasOneKind new
+      → AreTypes (map node_data_of more) (map type_data_of longer_types)
+  types_more sum typed kind =
+      let before : AreTypes script.nodes (map type_data_of types) =
+      subst (λ (s : ScriptData). AreTypes s.nodes (map type_data_of types)) view keeps.3 in
+      let behind = types_push script.nodes (map type_data_of types) new (type_data_of ty) before
+      (typed (map type_data_of types) before) kind in
+      let sums : map type_data_of longer_types ≡ map type_data_of types ++ type_data_of ty ∷ [] =
+      ap (map type_data_of) sum ∙ map-append type_data_of types (ty ∷ []) in
+      subst (λ ns. AreTypes ns (map type_data_of longer_types)) (sym nodes_are)
+      (subst (λ ts. AreTypes (script.nodes ++ new ∷ []) ts) (sym sums) behind)
+
   pub defined : sums ≡ counts ++ count ∷ [] → others ≡ known ++ partitioner ∷ []
-      → ReadsBefore (length script.nodes) new
+      → longer_types ≡ types ++ ty ∷ [] → ReadsBefore (length script.nodes) new
       → IsCount (partition_limit script) (count_step (declared_counts script.nodes) new)
       → count ≡ count_step (declared_counts script.nodes) new
       → partitioner_data_of partitioner ≡ partitioner_step (partitioners_of script.nodes) new
-      → Keeps more actions sums others
-  defined sum sum_known before within counted rule =
+      → HasTypeBehind script.nodes new (type_data_of ty) → HasOneKind new
+      → Keeps more actions sums others longer_types
+  defined sum sum_known sum_types before within counted rule typed kind =
       let Sound : ScriptData → Type 0 = λ s. IsSoundScript s in
       let longer_is : script_of more actions ≡ longer script new =
       ap (λ (ns : List NodeData). record { nodes = ns; actions = actions }) nodes_are
@@ -106,6 +129,7 @@ module _ (script : ScriptData) (nodes more : List Node) (actions : List ActionDa
             (map partitioner_data_of others) (partitioner_data_of partitioner) keeps.2
             (ap (map partitioner_data_of) sum_known
             ∙ map-append partitioner_data_of known (partitioner ∷ [])) rule,
+        types_more sum_types typed kind,
       )
 
 pub AreTexts-append : (inputs : Files) (input : List ℕ × List ℕ) → AreTexts inputs → IsUtf8 input.1

@@ -13,5 +13,6 @@ pub mod Meaning
 pub mod Actions
 pub mod Targets
 pub mod RowTypes
+pub mod NodeTypes
 pub mod Saves
 pub mod Laws

@@ -2,6 +2,7 @@
 #![tactic(auto)]
 
 ghost use Rattle.sc_lineage.specs.Laws.{MeaningIsLawful};
+ghost use Rattle.sc_lineage.specs.NodeTypes.{TypesAreOne};
 
 /// The laws of the meaning: its folds are folds, a partition's stream is that of its node over what
 /// it reads, the partitions of a node together read each partition of its parents once, a node has
@@ -9,4 +10,9 @@ ghost use Rattle.sc_lineage.specs.Laws.{MeaningIsLawful};
 /// of first naming, and saves leave one behind another what each of them leaves.
 pub fn meaning_is_lawful()
     ensures { MeaningIsLawful }
+{}
+
+/// The nodes of a script have their types in one way.
+pub fn types_are_one()
+    ensures { TypesAreOne }
 {}

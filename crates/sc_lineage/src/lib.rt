@@ -30,7 +30,7 @@ mod works;
 
 pub use dependencies::{Place, count_at, reads};
 pub use inputs::Input;
-pub use laws::meaning_is_lawful;
+pub use laws::{meaning_is_lawful, types_are_one};
 pub use nodes::{Action, DriverFault, Elementwise, Meeting, Node, NodeId, Shuffling};
 pub use partitioners::{Partitioner, is_parted_by};
 pub use scripts::{PARTITION_LIMIT, Script};

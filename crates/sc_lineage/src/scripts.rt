@@ -3,32 +3,38 @@
 
 ghost use Rattle.std.specs.Prelude.{◌≡◌, ◌<◌, ◌++◌, [], ◌∷◌, if◌then◌else◌, is_ok, length, map};
 ghost use Rattle.sc_lineage.specs.ScriptData.{ReadsBefore, IsCount, IsSoundScript, count_step, declared_count, declared_counts, node_of_action, partition_limit};
+ghost use Rattle.sc_lineage.specs.NodeTypes.{AreTypes, HasOneKind, HasTypeBehind, IsTypeAt};
 ghost use Rattle.sc_lineage.specs.Partitioners.{partitioners_of};
+ghost use Rattle.sc_value.specs.Views.{type_data_of};
 ghost use Rattle.sc_lineage.specs.Views.{action_data_of, node_data_of, partitioner_data_of};
 
 use crate::dependencies::count_at;
-use crate::nodes::{Action, Node};
+use crate::nodes::{Action, Node, NodeId};
 use crate::partitioners::{Partitioner, partitioner_of};
+use sc_value::Ty;
 use std::alloc::{AllocError, Global};
 use std::marker::Model;
 
 /// The most partitions that a definition may have.
 pub const PARTITION_LIMIT: u32 = 1024;
 
-/// A checked script: each node reads only nodes before it and has as many partitions as a
-/// definition may have, and each action names a node.
+/// A checked script: each node reads only nodes before it, has as many partitions as a definition
+/// may have and rows of one type, and each action names a node.
 #[derive(Drop)]
 pub struct Script {
     nodes: Vec<Node>,
     counts: Vec<u32>,
     partitioners: Vec<Partitioner>,
+    types: Vec<Ty>,
     actions: Vec<Action>,
 }
 
 impl Model for Script {
     ghost use Rattle.std.specs.Prelude.{◌≡◌, map};
     ghost use Rattle.sc_lineage.specs.ScriptData.{ScriptData, IsSoundScript, declared_counts};
+    ghost use Rattle.sc_lineage.specs.NodeTypes.{AreTypes};
     ghost use Rattle.sc_lineage.specs.Partitioners.{partitioners_of};
+    ghost use Rattle.sc_value.specs.Views.{type_data_of};
     ghost use Rattle.sc_lineage.specs.ScriptCode.{script_code};
     ghost use Rattle.sc_lineage.specs.Views.{action_data_of, node_data_of, partitioner_data_of};
 
@@ -46,7 +52,8 @@ impl Model for Script {
       actions = map action_data_of s.actions.items;
     }) × (s.counts.items ≡ declared_counts (map node_data_of s.nodes.items))
         × (map partitioner_data_of s.partitioners.items
-        ≡ partitioners_of (map node_data_of s.nodes.items)) };
+        ≡ partitioners_of (map node_data_of s.nodes.items))
+        × AreTypes (map node_data_of s.nodes.items) (map type_data_of s.types.items) };
 }
 
 impl Script {
@@ -59,6 +66,7 @@ impl Script {
             nodes: Vec::new(alloc),
             counts: Vec::new(alloc),
             partitioners: Vec::new(alloc),
+            types: Vec::new(alloc),
             actions: Vec::new(alloc),
         }
     }
@@ -82,6 +90,22 @@ impl Script {
         ensures { map partitioner_data_of result.now ≡ partitioners_of self.now.nodes }
     {
         self.partitioners.as_slice()
+    }
+
+    /// The types of the rows of each node.
+    pub fn types(&self) -> &[Ty]
+        ensures { AreTypes self.now.nodes (map type_data_of result.now) }
+    {
+        self.types.as_slice()
+    }
+
+    /// The type of the rows of a node.
+    pub fn row_type(&self, node: NodeId) -> &Ty
+        requires { node < length self.now.nodes }
+        ensures { IsTypeAt self.now.nodes node (type_data_of result.now) }
+    {
+        let types = self.types();
+        &types[node as usize]
     }
 
     /// The actions, in order.
@@ -122,11 +146,14 @@ impl Script {
         }
     }
 
-    /// Adds a definition behind the others. A refused call changes nothing.
-    pub fn define(&mut self, node: Node) -> Result<(), AllocError>
+    /// Adds a definition, whose rows are of a type, behind the others. A refused call changes
+    /// nothing.
+    pub fn define(&mut self, node: Node, ty: Ty) -> Result<(), AllocError>
         requires before { ReadsBefore (length self.old.nodes) (node_data_of node) }
         requires count { IsCount (partition_limit self.old)
             (count_step (declared_counts self.old.nodes) (node_data_of node)) }
+        requires typed { HasTypeBehind self.old.nodes (node_data_of node) (type_data_of ty) }
+        requires kind { HasOneKind (node_data_of node) }
         ensures nodes { self.new.nodes
             ≡ (if is_ok result then self.old.nodes ++ node_data_of node ∷ [] else self.old.nodes) }
         ensures actions { self.new.actions ≡ self.old.actions }
@@ -135,9 +162,11 @@ impl Script {
         let partitioner = partitioner_of(self.partitioners(), &node);
         self.counts.reserve(1)?;
         self.partitioners.reserve(1)?;
+        self.types.reserve(1)?;
         self.nodes.push(node)?;
         self.counts.push_reserved(count);
         self.partitioners.push_reserved(partitioner);
+        self.types.push_reserved(ty);
         Ok(())
     }
 

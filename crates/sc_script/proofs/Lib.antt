@@ -21,3 +21,4 @@ pub mod TokenTests
 pub mod TokenTexts
 pub mod TokenTools
 pub mod TreeLemmas
+pub mod KindLemmas

@@ -1,8 +1,10 @@
 //! What the lines so far have defined, and what it leaves room for.
 #![tactic(auto)]
 
-ghost use Rattle.std.specs.Prelude.{◌≡◌, ◌≤◌, length};
+ghost use Rattle.std.specs.Prelude.{◌≡◌, ◌≤◌, length, map};
+ghost use Rattle.sc_lineage.specs.NodeTypes.{AreTypes};
 ghost use Rattle.sc_script.specs.Limits.{node_limit};
+ghost use Rattle.sc_value.specs.Views.{type_data_of};
 
 use crate::counts::counts_fit;
 use crate::faults::{FaultKind, LineError, or_fault};
@@ -22,12 +24,15 @@ pub(crate) struct Defined {
     pub(crate) script: Script,
     ghost named: { length script.nodes ≡ length names.items },
     ghost few: { length names.items ≤ node_limit },
+    ghost typed: { AreTypes script.nodes (map type_data_of types.items) },
 }
 
 impl Defined {
     ghost use Rattle.std.specs.Prelude.{◌≡◌, ◌<◌, ◌≤◌, IfOk, IfSome, Some, length, map};
     ghost use Rattle.sc_base.specs.Answers.{Answers};
     ghost use Rattle.sc_base.specs.Lists.{at_or};
+    ghost use Rattle.sc_lineage.specs.NodeTypes.{HasOneKind};
+    ghost use Rattle.sc_lineage.specs.RowTypes.{row_type as type_of_rows};
     ghost use Rattle.sc_lineage.specs.ScriptData.{IsCount, ReadsBefore, count_step, declared_count, declared_counts, node_of_action, partition_limit};
     ghost use Rattle.sc_lineage.specs.Views.{action_data_of, node_data_of};
     ghost use Rattle.sc_script.specs.Defining.{defined_data_of};
@@ -146,6 +151,7 @@ impl Defined {
         requires count { IsCount (partition_limit self.script)
             (count_step (declared_counts self.script.nodes) (node_data_of node)) }
         requires room { length self.script.nodes < node_limit }
+        requires kind { HasOneKind (node_data_of node) }
         ensures { Answers defined_data_of (λ kind. kind) result
             (known_node (defined_data_of self) name (Some (node_data_of node))) }
     {
@@ -154,18 +160,27 @@ impl Defined {
                 if rows.is_larger_than(TYPE_LIMIT) {
                     return Err(LineError::Fault(FaultKind::Limit));
                 }
-                Ok(self.with_typed_node(name, node, rows)?)
+                Ok(self.with_typed_node(alloc, name, node, rows)?)
             }
             Err(error) => Err(or_fault(FaultKind::IllTyped, error)),
         }
     }
 
     /// The same with one more node, under a name, with rows of a type.
-    fn with_typed_node(self, name: Text, node: Node, rows: Ty) -> Result<Defined, AllocError>
+    fn with_typed_node(
+        self,
+        alloc: Global,
+        name: Text,
+        node: Node,
+        rows: Ty,
+    ) -> Result<Defined, AllocError>
         requires before { ReadsBefore (length self.script.nodes) (node_data_of node) }
         requires count { IsCount (partition_limit self.script)
             (count_step (declared_counts self.script.nodes) (node_data_of node)) }
         requires room { length self.script.nodes < node_limit }
+        requires typed { type_of_rows (map type_data_of self.types.items) (node_data_of node)
+            ≡ Some (type_data_of rows) }
+        requires kind { HasOneKind (node_data_of node) }
         ensures { IfOk result (λ d. defined_data_of d ≡
             with_node (defined_data_of self) name (node_data_of node) (type_data_of rows)) }
     {
@@ -175,8 +190,8 @@ impl Defined {
             mut script,
         } = self;
         names.push(name)?;
-        types.push(rows)?;
-        script.define(node)?;
+        types.push(rows.copy(alloc)?)?;
+        script.define(node, rows)?;
         Ok(Defined {
             names,
             types,

@@ -1,8 +1,9 @@
-use Rattle.std.proofs.Common.{◌≡◌, [], take}
-use Rattle.std.specs.List.{flat_map}
-use Rattle.sc_base.specs.Lists.{at_or}
+use Rattle.std.proofs.Common.{◌≡◌, map, take}
+use Rattle.sc_segments.specs.Segments.{segment_of}
+use Rattle.sc_shuffle.proofs.OutputLemmas.{each_bucket}
 use Rattle.sc_shuffle.proofs.outputs.rows_of_bucket.Given as goal
 
 abbrev pub invariant-loop-output : goal.invariant-loop-output
 invariant-loop-output l =
-    l.out ≡ flat_map (λ m. at_or m l.bucket []) (take l.output-index l.outputs)
+    map (λ p. p.now) l.parts.items
+    ≡ map segment_of (each_bucket l.bucket (take l.output-index l.outputs))

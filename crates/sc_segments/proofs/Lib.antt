@@ -1,0 +1,6 @@
+pub mod PutLemmas
+pub mod ReadLemmas
+pub mod IndexLemmas
+pub mod PartLemmas
+pub mod TextLemmas
+pub mod ListLemmas

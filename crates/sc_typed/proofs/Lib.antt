@@ -1,0 +1,10 @@
+pub mod ValueLemmas
+pub mod HeadLemmas
+pub mod LazyLemmas
+pub mod ExprLemmas
+pub mod ListLemmas
+pub mod EachLemmas
+pub mod KeyedLemmas
+pub mod ShuffleLemmas
+pub mod NodeLemmas
+pub mod SideLemmas
