@@ -2,3 +2,4 @@ pub mod PutLemmas
 pub mod ReadLemmas
 pub mod IndexLemmas
 pub mod PartLemmas
+pub mod TextLemmas

@@ -1,12 +1,14 @@
 -- Rows that are read part by part.
-use Rattle.std.proofs.Common.{◌≡◌, ◌≤◌, ◌+◌, ◌++◌, ℕ, zero, suc, List, [], ◌∷◌, length, take, Some, map, refl, sym, ap, ◌∙◌, arith}
+use Rattle.std.proofs.Common.{◌≡◌, ◌<◌, ◌≤◌, ◌+◌, get_or, ◌++◌, ℕ, zero, suc, List, [], ◌∷◌, length, take, Some, map, refl, sym, ap, subst, ◌∙◌, arith}
 use Rattle.std.specs.List.{AllByRecursion, slice_get}
+use Rattle.std.specs.Option.{option_map}
 use Rattle.std.proofs.lemmas.List.{flat_map_more, length-map}
+use Rattle.std.proofs.lemmas.Option.{slice_get-get_or, slice_get-map}
 use Rattle.sc_value.specs.Datum.{Datum}
 use Rattle.sc_value.specs.Types.{TypeData}
 use Rattle.sc_columns.proofs.ListLemmas.{take_next}
 use Rattle.sc_spelling.proofs.BindLemmas.{some_is}
-use Rattle.sc_segments.specs.Segments.{AreRowsOf, rows_together, segment_of}
+use Rattle.sc_segments.specs.Segments.{AreRowsOf, IsSegment, rows_together, segment_of}
 
 -- the rows of a part
 pub record IsPartOf (t : TypeData) (buckets : List (List Datum)) (i : ℕ) (part : List ℕ)
@@ -35,6 +37,14 @@ pub part_rows : (t : TypeData) (buckets : List (List Datum)) (parts : List (List
     → slice_get parts i ≡ Some part → IsPartOf t buckets i part
 part_rows t buckets parts i part typed are is =
     part_at t buckets i part typed (ap (λ ps. slice_get ps i) (sym are) ∙ is)
+
+-- each part is a segment of the type
+pub part_segment : (s t : TypeData) (buckets : List (List Datum)) (parts : List (List ℕ)) (i : ℕ)
+    (part : List ℕ) → s ≡ t → AllByRecursion (AreRowsOf t) buckets → parts ≡ map segment_of buckets
+    → slice_get parts i ≡ Some part → IsSegment s part
+part_segment s t buckets parts i part same typed are is =
+    let p = part_rows t buckets parts i part typed are is in
+    subst (λ k. IsSegment k part) (sym same) (p.rows, p.typed, p.spelled)
 
 -- one part more
 pub part_more : (t : TypeData) (buckets : List (List Datum)) (i : ℕ) (part : List ℕ)
@@ -66,3 +76,9 @@ all_parts buckets parts n now are past so_far =
     let same : length parts ≡ length buckets =
     ap length are ∙ length-map buckets segment_of in
     so_far ∙ ap rows_together (take_whole buckets n (omega (arith, same, past)))
+
+-- what a function gives at a place
+pub given_at : {X : Type 0} (f : X → List ℕ) (xs : List X) (i : ℕ) (other : X) → i < length xs
+    → slice_get (map f xs) i ≡ Some (f (get_or xs i other))
+given_at f xs i other within =
+    slice_get-map f xs i ∙ ap (option_map f) (slice_get-get_or xs i other within)

@@ -6,6 +6,7 @@ mod lists;
 mod readers;
 mod reads;
 mod segments;
+mod text_reads;
 
 pub use reads::rows_of;
 pub use segments::{Segments, spell_rows};

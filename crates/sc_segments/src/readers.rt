@@ -1,17 +1,17 @@
 //! Columns that grow by the rows that bytes spell.
 #![tactic(auto)]
 
-ghost use Rattle.std.specs.Prelude.{◌≡◌, ⊤, [], IfOk, IfSome, List, length, map};
-ghost use Rattle.std.specs.Option.{option_map};
-ghost use Rattle.sc_value.specs.Datum.{Datum, number, pair, text, truth};
-ghost use Rattle.sc_value.specs.Types.{TypeData, bool_type, int_type, pair_type, text_type};
+ghost use Rattle.std.specs.Prelude.{◌≡◌, ⊤, IfOk, List, OnOk, length, map};
+ghost use Rattle.sc_value.specs.Datum.{Datum, number, pair, truth};
+ghost use Rattle.sc_value.specs.Types.{TypeData, bool_type, int_type, pair_type};
 ghost use Rattle.sc_value.specs.Views.{type_data_of};
 ghost use Rattle.sc_columns.specs.Columns.{zip_with};
+ghost use Rattle.sc_spelling.specs.Reading.{CanRead};
 ghost use Rattle.sc_segments.specs.Segments.{Adds};
 
 use sc_columns::{Rows, RowsBuilder};
-use sc_spelling::{after_tag, decode, int_at, text_at, truth_at};
-use sc_value::{TextsBuilder, Ty};
+use sc_spelling::{decode, int_in, truth_in};
+use sc_value::Ty;
 use std::alloc::{AllocError, Global};
 
 /// A column that grows by the rows read.
@@ -25,13 +25,14 @@ pub(crate) trait Reads: Drop {
     /// No row is read in part.
     ghost level: { Self → Type 0 };
 
-    /// Reads a row from the front of bytes, and answers what stands behind it.
-    fn read<'a>(&mut self, bytes: &'a [u8]) -> Result<Option<&'a [u8]>, AllocError>
-        requires { level self.old }
+    /// Reads the row at the front of bytes, where one stands, and answers what is behind it.
+    fn read<'a>(&mut self, bytes: &'a [u8]) -> Result<&'a [u8], AllocError>
+        requires level { level self.old }
+        requires row { CanRead (kind self.old) bytes.now }
         ensures kind { kind self.new ≡ kind self.old }
-        ensures level { IfOk result (λ o. IfSome o (λ r. level self.new)) }
-        ensures adds { IfOk result (λ o. Adds (kind self.old) bytes.now (rows self.old)
-            (rows self.new) (option_map (λ r. r.now) o)) };
+        ensures level { OnOk result (level self.new) }
+        ensures adds { IfOk result
+            (λ rest. Adds (kind self.old) bytes.now rest.now (rows self.old) (rows self.new)) };
 
     /// The rows.
     fn finish(self, alloc: Global) -> Result<Rows, AllocError>
@@ -53,12 +54,10 @@ impl Reads for IntReads {
     ghost level = { λ c. ⊤ };
 
     #[inline(always)]
-    fn read<'a>(&mut self, bytes: &'a [u8]) -> Result<Option<&'a [u8]>, AllocError> {
-        let Some((number, rest)) = int_at(bytes) else {
-            return Ok(None);
-        };
+    fn read<'a>(&mut self, bytes: &'a [u8]) -> Result<&'a [u8], AllocError> {
+        let (number, rest) = int_in(bytes);
         self.items.push(number)?;
-        Ok(Some(rest))
+        Ok(rest)
     }
 
     fn finish(self, alloc: Global) -> Result<Rows, AllocError> {
@@ -80,43 +79,14 @@ impl Reads for BoolReads {
     ghost level = { λ c. ⊤ };
 
     #[inline(always)]
-    fn read<'a>(&mut self, bytes: &'a [u8]) -> Result<Option<&'a [u8]>, AllocError> {
-        let Some((truth, rest)) = truth_at(bytes) else {
-            return Ok(None);
-        };
+    fn read<'a>(&mut self, bytes: &'a [u8]) -> Result<&'a [u8], AllocError> {
+        let (truth, rest) = truth_in(bytes);
         self.items.push(truth)?;
-        Ok(Some(rest))
+        Ok(rest)
     }
 
     fn finish(self, alloc: Global) -> Result<Rows, AllocError> {
         Rows::of_bools(alloc, self.items)
-    }
-}
-
-/// Texts.
-#[derive(Drop)]
-pub(crate) struct TextReads {
-    pub texts: TextsBuilder,
-}
-
-impl Reads for TextReads {
-    ghost kind = { λ c. text_type };
-
-    ghost rows = { λ c. map text c.texts.texts };
-
-    ghost level = { λ c. c.texts.open_text ≡ [] };
-
-    #[inline(always)]
-    fn read<'a>(&mut self, bytes: &'a [u8]) -> Result<Option<&'a [u8]>, AllocError> {
-        let Some((text, rest)) = text_at(bytes) else {
-            return Ok(None);
-        };
-        self.texts.push(text)?;
-        Ok(Some(rest))
-    }
-
-    fn finish(self, alloc: Global) -> Result<Rows, AllocError> {
-        Rows::of_texts(alloc, self.texts.finish(alloc)?)
     }
 }
 
@@ -136,12 +106,15 @@ impl<'t> Reads for AnyReads<'t> {
     ghost level = { λ c. ⊤ };
 
     #[inline(always)]
-    fn read<'a>(&mut self, bytes: &'a [u8]) -> Result<Option<&'a [u8]>, AllocError> {
-        let Some((value, rest)) = decode(self.alloc, self.ty, bytes)? else {
-            return Ok(None);
-        };
-        self.rows.push(self.alloc, &value)?;
-        Ok(Some(rest))
+    fn read<'a>(&mut self, bytes: &'a [u8]) -> Result<&'a [u8], AllocError> {
+        let found = decode(self.alloc, self.ty, bytes)?;
+        match found {
+            Some((value, rest)) => {
+                self.rows.push(self.alloc, &value)?;
+                Ok(rest)
+            }
+            None => unreachable!(),
+        }
     }
 
     fn finish(self, alloc: Global) -> Result<Rows, AllocError> {
@@ -165,13 +138,8 @@ impl<A: Reads, B: Reads> Reads for PairReads<A, B> {
         × (length (A.rows c.first) ≡ length (B.rows c.second)) };
 
     #[inline(always)]
-    fn read<'a>(&mut self, bytes: &'a [u8]) -> Result<Option<&'a [u8]>, AllocError> {
-        let Some(rest) = after_tag(4, bytes) else {
-            return Ok(None);
-        };
-        let Some(rest) = self.first.read(rest)? else {
-            return Ok(None);
-        };
+    fn read<'a>(&mut self, bytes: &'a [u8]) -> Result<&'a [u8], AllocError> {
+        let rest = self.first.read(&bytes[1..])?;
         self.second.read(rest)
     }
 

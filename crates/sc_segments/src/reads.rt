@@ -1,22 +1,24 @@
 //! The rows that a segment spells.
 #![tactic(auto)]
 
-ghost use Rattle.std.specs.Prelude.{◌≡◌, ◌<◌, ◌++◌, [], IfOk, List, map, true};
+ghost use Rattle.std.specs.Prelude.{◌≡◌, ◌<◌, ◌++◌, [], IfOk, List, OnOk, map};
 ghost use Rattle.sc_value.specs.Datum.{Datum};
 ghost use Rattle.sc_value.specs.Types.{pair_type};
 ghost use Rattle.sc_value.specs.Views.{type_data_of};
-ghost use Rattle.sc_segments.specs.Segments.{AreRowsOf, IsReadBack, segment_of};
+ghost use Rattle.sc_segments.specs.Segments.{AreParts, AreRead, AreRowsOf, IsSegment, segment_of};
 
-use crate::readers::{AnyReads, BoolReads, IntReads, PairReads, Reads, TextReads};
+use crate::readers::{AnyReads, BoolReads, IntReads, PairReads, Reads};
+use crate::text_reads::TextReads;
 use sc_columns::{Rows, RowsBuilder};
-use sc_value::{TextsBuilder, Ty};
+use sc_value::Ty;
 use std::alloc::{AllocError, Global};
 
 /// The rows of a type whose spellings each of some parts has, one behind the other, those of all
-/// parts together. Of other bytes nothing is promised; None tells that they are no such rows. The
-/// type is looked at once, before the first row.
-pub fn rows_of(alloc: Global, ty: &Ty, parts: &[&[u8]]) -> Result<Option<Rows>, AllocError>
-    ensures { IfOk result (IsReadBack (type_data_of ty.now) (map (λ p. p.now) parts.now)) }
+/// parts together. That the parts are spellings is known and not tested. The type is looked at
+/// once, before the first row.
+pub fn rows_of(alloc: Global, ty: &Ty, parts: &[&[u8]]) -> Result<Rows, AllocError>
+    requires { AreParts (type_data_of ty.now) (map (λ p. p.now) parts.now) }
+    ensures { IfOk result (AreRead (type_data_of ty.now) (map (λ p. p.now) parts.now)) }
 {
     let room = room_of(ty, parts);
     match ty {
@@ -35,9 +37,10 @@ fn pairs_of(
     first: &Ty,
     second: &Ty,
     parts: &[&[u8]],
-) -> Result<Option<Rows>, AllocError>
-    ensures { IfOk result
-        (IsReadBack (pair_type (type_data_of first.now) (type_data_of second.now))
+) -> Result<Rows, AllocError>
+    requires { AreParts (pair_type (type_data_of first.now) (type_data_of second.now))
+        (map (λ p. p.now) parts.now) }
+    ensures { IfOk result (AreRead (pair_type (type_data_of first.now) (type_data_of second.now))
         (map (λ p. p.now) parts.now)) }
 {
     match first {
@@ -54,11 +57,12 @@ fn pairs_with<A: Reads>(
     first: A,
     second: &Ty,
     parts: &[&[u8]],
-) -> Result<Option<Rows>, AllocError>
+) -> Result<Rows, AllocError>
     requires level { A.level first }
     requires empty { A.rows first ≡ [] }
-    ensures { IfOk result
-        (IsReadBack (pair_type (A.kind first) (type_data_of second.now))
+    requires parts { AreParts (pair_type (A.kind first) (type_data_of second.now))
+        (map (λ p. p.now) parts.now) }
+    ensures { IfOk result (AreRead (pair_type (A.kind first) (type_data_of second.now))
         (map (λ p. p.now) parts.now)) }
 {
     match second {
@@ -78,43 +82,33 @@ fn pairs_with<A: Reads>(
 }
 
 // The rows, where their kind is known.
-fn rows_by<C: Reads>(alloc: Global, reads: C, parts: &[&[u8]]) -> Result<Option<Rows>, AllocError>
+fn rows_by<C: Reads>(alloc: Global, reads: C, parts: &[&[u8]]) -> Result<Rows, AllocError>
     requires level { C.level reads }
     requires empty { C.rows reads ≡ [] }
-    ensures { IfOk result (IsReadBack (C.kind reads) (map (λ p. p.now) parts.now)) }
+    requires parts { AreParts (C.kind reads) (map (λ p. p.now) parts.now) }
+    ensures { IfOk result (AreRead (C.kind reads) (map (λ p. p.now) parts.now)) }
 {
     let mut reads = reads;
     for i in 0..parts.len() {
-        let is_whole = read_all(&mut reads, parts[i])?;
-        if !is_whole {
-            return Ok(None);
-        }
+        read_all(&mut reads, parts[i])?;
     }
-    let rows = reads.finish(alloc)?;
-    Ok(Some(rows))
+    reads.finish(alloc)
 }
 
-/// Adds the rows that the bytes spell behind one another to a column, and answers whether there
-/// was nothing else.
-pub(crate) fn read_all<C: Reads>(reads: &mut C, bytes: &[u8]) -> Result<bool, AllocError>
-    requires { C.level reads.old }
+/// Adds the rows that the bytes spell behind one another to a column.
+pub(crate) fn read_all<C: Reads>(reads: &mut C, bytes: &[u8]) -> Result<(), AllocError>
+    requires level { C.level reads.old }
+    requires rows { IsSegment (C.kind reads.old) bytes.now }
     ensures kind { C.kind reads.new ≡ C.kind reads.old }
-    ensures level { IfOk result (λ done. done ≡ true → C.level reads.new) }
-    ensures spelled { (rows : List Datum) → AreRowsOf (C.kind reads.old) rows
-        → bytes.now ≡ segment_of rows
-        → IfOk result (λ done. (done ≡ true) × (C.rows reads.new ≡ C.rows reads.old ++ rows)) }
+    ensures level { OnOk result (C.level reads.new) }
+    ensures spelled { OnOk result ((rows : List Datum) → AreRowsOf (C.kind reads.old) rows
+        → bytes.now ≡ segment_of rows → C.rows reads.new ≡ C.rows reads.old ++ rows) }
 {
     let mut rest = bytes;
-    for _ in 0..bytes.len() {
-        if rest.is_empty() {
-            return Ok(true);
-        }
-        match reads.read(rest)? {
-            Some(after) => rest = after,
-            None => return Ok(false),
-        }
+    while !rest.is_empty() {
+        rest = reads.read(rest)?;
     }
-    Ok(rest.is_empty())
+    Ok(())
 }
 
 /// For how many rows room is taken, of so many bytes in all: a guess.
@@ -161,11 +155,12 @@ fn bools(alloc: Global, room: Room) -> Result<BoolReads, AllocError>
 }
 
 fn texts(alloc: Global, room: Room) -> Result<TextReads, AllocError>
-    ensures texts { IfOk result (λ c. c.texts.texts ≡ []) }
-    ensures open_text { IfOk result (λ c. c.texts.open_text ≡ []) }
+    ensures bytes { IfOk result (λ c. c.bytes.items ≡ []) }
+    ensures spans { IfOk result (λ c. c.spans.items ≡ []) }
 {
     Ok(TextReads {
-        texts: TextsBuilder::with_capacity(alloc, room.rows, room.bytes / 2)?,
+        bytes: Vec::with_capacity(alloc, room.bytes / 2)?,
+        spans: Vec::with_capacity(alloc, room.rows)?,
     })
 }
 

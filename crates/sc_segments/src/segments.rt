@@ -138,7 +138,8 @@ fn segments_by<C: Cells>(alloc: Global, cells: C, split: &Split) -> Result<Segme
     let mut bytes = Vec::with_capacity(alloc, cells.room())?;
     let mut index = Vec::with_capacity(alloc, split.len().saturating_add(1).saturating_mul(8))?;
     for j in 0..split.len() {
-        put_place(bytes.len(), &mut index)?;
+        let from = bytes.len();
+        put_place(from, &mut index)?;
         put_rows(cells, split.places(j), &mut bytes)?;
     }
     let end = bytes.len();

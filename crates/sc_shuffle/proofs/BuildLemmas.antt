@@ -1,16 +1,16 @@
 -- What is packed is of its type.
-use Rattle.std.proofs.Common.{◌≡◌, ◌<◌, ◌≤◌, ◌+◌, ◌*◌, ◌^◌, ◌++◌, ◌∷◌, ℕ, zero, suc, List, [], length, take, map, Option, Some, None, refl, sym, ap, subst, ◌∙◌, arith, length-append}
+use Rattle.std.proofs.Common.{◌≡◌, ◌<◌, ◌+◌, ◌*◌, ◌^◌, ◌++◌, ◌∷◌, ℕ, zero, suc, List, [], length, map, Option, Some, None, refl, sym, ap, subst, ◌∙◌, arith, length-append}
 use Rattle.std.specs.Prelude.{IfSome}
-use Rattle.std.specs.List.{AllByRecursion, cons_option, filter_map, flat_map, slice_get}
+use Rattle.std.specs.List.{AllByRecursion, cons_option, flat_map, slice_get}
 use Rattle.std.proofs.lemmas.List.{length-map}
-use Rattle.sc_base.specs.Lists.{at_or, numbers_below, numbers_from}
+use Rattle.sc_base.specs.Lists.{numbers_below, numbers_from}
 use Rattle.sc_value.specs.Datum.{Datum}
 use Rattle.sc_value.specs.Picked.{picked}
 use Rattle.sc_value.specs.Types.{TypeData, HasType}
 use Rattle.sc_spelling.specs.Spelling.{IsHeld, eight_bytes}
 use Rattle.sc_spelling.proofs.HeldLemmas.{value_of}
 use Rattle.sc_segments.specs.Indexes.{AreSegments, data_of, index_of, starts_of}
-use Rattle.sc_segments.specs.Segments.{AreRowsOf}
+use Rattle.sc_segments.specs.Segments.{AreRowsOf, segment_of}
 use Rattle.sc_shuffle.specs.Packed.{ArePacked, buckets_read}
 use Rattle.sc_shuffle.proofs.PackedLemmas.{packed_again}
 
@@ -82,7 +82,7 @@ length-eights (p ∷ ps) =
 length-starts : (at : ℕ) (buckets : List (List Datum))
     → length (starts_of at buckets) ≡ length buckets
 length-starts at [] = refl
-length-starts at (rows ∷ buckets) = ap suc (length-starts _ buckets)
+length-starts at (rows ∷ buckets) = ap suc (length-starts (at + length (segment_of rows)) buckets)
 
 pub length-index : (buckets : List (List Datum))
     → length (index_of buckets) ≡ 8 * (length buckets + 1)

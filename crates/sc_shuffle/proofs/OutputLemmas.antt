@@ -1,12 +1,12 @@
 -- One bucket of many outputs.
-use Rattle.std.proofs.Common.{◌≡◌, ◌∙◌, ◌+◌, ◌++◌, ℕ, List, [], ◌∷◌, None, Some, map, take, refl, sym, ap, subst}
+use Rattle.std.proofs.Common.{◌≡◌, ◌∙◌, ◌+◌, ◌++◌, ℕ, List, [], ◌∷◌, Some, map, take, refl, sym, ap, subst, append-nil}
 use Rattle.std.specs.List.{AllByRecursion, flat_map, slice_get}
 use Rattle.std.proofs.lemmas.List.{map_push}
 use Rattle.sc_base.specs.Lists.{at_or}
 use Rattle.sc_columns.proofs.ListLemmas.{take_next}
 use Rattle.sc_value.specs.Datum.{Datum}
 use Rattle.sc_value.specs.Types.{TypeData}
-use Rattle.sc_segments.specs.Segments.{AreRowsOf, IsReadBack, rows_together, segment_of}
+use Rattle.sc_segments.specs.Segments.{AreParts, AreRead, AreRowsOf, rows_together, segment_of}
 use Rattle.sc_shuffle.proofs.PackedLemmas.{typed_at}
 
 -- the rows of a bucket of each output
@@ -55,26 +55,38 @@ typed_more t outputs i m at before one =
     last [] all = (one, tt)
     last (n ∷ ms) all = (all.0, last ms all.1)
 
+-- the parts are spellings of rows of the type
+pub are_parts : (t : TypeData) (j : ℕ) (outputs : List (List (List Datum))) (parts : List (List ℕ))
+    → AllByRecursion (AllByRecursion (AreRowsOf t)) outputs
+    → parts ≡ map segment_of (each_bucket j outputs) → AreParts t parts
+are_parts t j outputs parts typed are = record {
+  buckets = each_bucket j outputs;
+  typed = each_typed t j outputs typed;
+  spelled = are;
+}
+
 -- what is read of the bucket of all outputs
 pub read_is : (t : TypeData) (j : ℕ) (outputs : List (List (List Datum))) (parts : List (List ℕ))
     (rows : List Datum) → AllByRecursion (AllByRecursion (AreRowsOf t)) outputs
-    → parts ≡ map segment_of (each_bucket j outputs) → IsReadBack t parts (Some rows)
+    → parts ≡ map segment_of (each_bucket j outputs) → AreRead t parts rows
     → rows ≡ flat_map (λ m. at_or m j []) outputs
 read_is t j outputs parts rows typed are read =
-    inside rows (rows_together (each_bucket j outputs))
-    (read (each_bucket j outputs) (each_typed t j outputs typed) are)
-    ∙ together j outputs
-  where
-    inside : (xs ys : List Datum) → Some xs ≡ Some ys → xs ≡ ys
-    inside xs ys e = cc
+    read (each_bucket j outputs) (each_typed t j outputs typed) are ∙ together j outputs
 
--- and it is never nothing
-pub read_some : (t : TypeData) (j : ℕ) (outputs : List (List (List Datum))) (parts : List (List ℕ))
-    → AllByRecursion (AllByRecursion (AreRowsOf t)) outputs
-    → parts ≡ map segment_of (each_bucket j outputs) → IsReadBack t parts None → ⊥
-read_some t j outputs parts typed are read =
-    clash (rows_together (each_bucket j outputs))
-    (read (each_bucket j outputs) (each_typed t j outputs typed) are)
-  where
-    clash : (xs : List Datum) → None ≡ Some xs → ⊥
-    clash xs e = cc
+-- one bucket alone
+pub one_part : (t : TypeData) (j : ℕ) (buckets : List (List Datum)) (part : List ℕ)
+    → AllByRecursion (AreRowsOf t) buckets → part ≡ segment_of (at_or buckets j [])
+    → AreParts t (part ∷ [])
+one_part t j buckets part typed is = record {
+  buckets = at_or buckets j [] ∷ [];
+  typed = (typed_at t buckets j typed, tt);
+  spelled = ap (λ p. p ∷ []) is;
+}
+
+pub one_read : (t : TypeData) (j : ℕ) (buckets : List (List Datum)) (part : List ℕ)
+    (rows : List Datum) → AllByRecursion (AreRowsOf t) buckets
+    → part ≡ segment_of (at_or buckets j []) → AreRead t (part ∷ []) rows
+    → rows ≡ at_or buckets j []
+one_read t j buckets part rows typed is read =
+    read (at_or buckets j [] ∷ []) (typed_at t buckets j typed, tt) (ap (λ p. p ∷ []) is)
+    ∙ append-nil (at_or buckets j [])

@@ -1,8 +1,8 @@
 -- What was packed is read again.
-use Rattle.std.proofs.Common.{◌≡◌, ◌<◌, ◌≤◌, ◌+◌, ◌-◌, ◌*◌, ◌^◌, ◌++◌, ◌∷◌, ℕ, zero, suc, List, [], length, take, drop, map, Some, None, refl, sym, ap, ap₂, subst, ◌∙◌, arith, append_assoc, append-nil, length-append}
-use Rattle.std.specs.List.{AllByRecursion, flat_map, slice_get, slice_range}
+use Rattle.std.proofs.Common.{◌≡◌, ◌<◌, ◌≤◌, ◌+◌, ◌-◌, ◌^◌, ◌++◌, ◌∷◌, ℕ, zero, suc, List, [], length, take, map, refl, sym, ap, ap₂, subst, ◌∙◌, arith, append_assoc, append-nil, length-append}
+use Rattle.std.specs.List.{AllByRecursion, slice_range}
 use Rattle.std.proofs.lemmas.List.{drop_at, take_at}
-use Rattle.sc_base.specs.Lists.{at_or, numbers_below, numbers_from}
+use Rattle.sc_base.specs.Lists.{at_or, numbers_from}
 use Rattle.sc_value.specs.Datum.{Datum}
 use Rattle.sc_value.specs.Types.{TypeData}
 use Rattle.sc_segments.specs.Indexes.{data_of, index_of}
@@ -136,12 +136,18 @@ front_grows [] zero = omega arith
 front_grows [] (suc j) = omega arith
 front_grows (rows ∷ buckets) zero = omega arith
 front_grows (rows ∷ buckets) (suc j) =
+    let next : suc j + 1 ≡ suc (j + 1) = omega arith in
     let others = front_grows buckets j in
+    let grown : length (segment_of rows ++ data_of (take j buckets))
+    ≤ length (segment_of rows ++ data_of (take (j + 1) buckets)) =
     omega (
       arith,
+      others,
       length-append (segment_of rows) (data_of (take j buckets)),
       length-append (segment_of rows) (data_of (take (j + 1) buckets)),
-    )
+    ) in
+    subst (λ n. length (segment_of rows ++ data_of (take j buckets))
+    ≤ length (data_of (take n (rows ∷ buckets)))) (sym next) grown
 
 -- a bucket's bytes are a range of the segment
 pub record IsRange (segment index : List ℕ) (j : ℕ) : Type 0 where
@@ -160,3 +166,36 @@ range_of t buckets segment index j are lt =
     let short = front_short buckets (j + 1) in
     let len : length segment ≡ length (data_of buckets) = ap length are.bytes in
     record { ordered = omega arith; within = omega arith }
+
+-- the places that were found in the index are a range of the bytes
+pub record IsFound (segment : List ℕ) (from to : ℕ) : Type 0 where
+  pub ordered : from ≤ to
+  pub within : to ≤ length segment
+
+pub found_range : (t : TypeData) (buckets : List (List Datum))
+    (segment index segment_lent index_lent : List ℕ) (j from to : ℕ)
+    → ArePacked t buckets segment index → j < length buckets → segment_lent ≡ segment
+    → index_lent ≡ index → from ≡ place_in index_lent j → to ≡ place_in index_lent (j + 1)
+    → IsFound segment_lent from to
+found_range t buckets segment index segment_lent index_lent j from to are lt same same_index
+    from_is to_is =
+    let range = range_of t buckets segment index j are lt in
+    let first : from ≡ place_in index j = from_is ∙ ap (λ i. place_in i j) same_index in
+    let last : to ≡ place_in index (j + 1) = to_is ∙ ap (λ i. place_in i (j + 1)) same_index in
+    let len : length segment_lent ≡ length segment = ap length same in
+    record {
+      ordered = omega (arith, range.ordered, first, last);
+      within = omega (arith, range.within, last, len);
+    }
+
+pub found_bytes : (t : TypeData) (buckets : List (List Datum))
+    (segment index segment_lent index_lent : List ℕ) (j from to : ℕ)
+    → ArePacked t buckets segment index → j < length buckets → segment_lent ≡ segment
+    → index_lent ≡ index → from ≡ place_in index_lent j → to ≡ place_in index_lent (j + 1)
+    → slice_range segment_lent from to ≡ segment_of (at_or buckets j [])
+found_bytes t buckets segment index segment_lent index_lent j from to are lt same same_index
+    from_is to_is =
+    let first : from ≡ place_in index j = from_is ∙ ap (λ i. place_in i j) same_index in
+    let last : to ≡ place_in index (j + 1) = to_is ∙ ap (λ i. place_in i (j + 1)) same_index in
+    ap (λ s. slice_range s from to) same ∙ ap₂ (λ a b. slice_range segment a b) first last
+    ∙ bytes_at t buckets segment index j are lt

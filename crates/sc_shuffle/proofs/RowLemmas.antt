@@ -1,5 +1,5 @@
 -- Rows that are spelled one behind the other are read again.
-use Rattle.std.proofs.Common.{◌≡◌, ◌<◌, ◌≤◌, ◌+◌, ◌++◌, ◌∷◌, ℕ, zero, suc, List, [], length, Some, None, refl, sym, ap, ◌∙◌, arith, length-append}
+use Rattle.std.proofs.Common.{◌≡◌, ◌<◌, ◌≤◌, ◌∷◌, ℕ, zero, suc, List, [], length, None, refl, ap, ◌∙◌, arith, length-append}
 use Rattle.sc_value.specs.Datum.{Datum, number, truth, text, pair, group}
 use Rattle.sc_value.specs.Types.{TypeData, int_type, bool_type, text_type, pair_type, list_type}
 use Rattle.sc_spelling.specs.Spelling.{bytes_of}

@@ -85,11 +85,7 @@ impl MapOutput {
         ensures { IfOk result (λ r. r ≡ at_or self.now bucket []) }
     {
         let parts = [self.packed.bucket(bucket)];
-        let found = rows_of(alloc, self.packed.ty(), &parts)?;
-        match found {
-            Some(rows) => Ok(rows),
-            None => unreachable!(),
-        }
+        rows_of(alloc, self.packed.ty(), &parts)
     }
 
     /// The same output again, which copies nothing of it.
@@ -118,11 +114,7 @@ pub fn rows_of_bucket(
     let Some(ty) = common_type(outputs) else {
         return one_by_one(alloc, outputs, bucket);
     };
-    let found = rows_of(alloc, ty, parts.as_slice())?;
-    match found {
-        Some(rows) => Ok(rows),
-        None => unreachable!(),
-    }
+    rows_of(alloc, ty, parts.as_slice())
 }
 
 /// The type of the rows of all outputs, where it is the same.

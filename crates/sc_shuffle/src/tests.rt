@@ -33,7 +33,10 @@ fn row<R: Abort + AllocGlobal>(rt: &R, word: &str, n: i64) -> Value
 {
     let word = Value::Text(Text::new(rt.alloc(), word).expect(rt, "memory"));
     let first = Box::new(rt.alloc(), word).expect(rt, "memory");
-    Value::Pair(first, Box::new(rt.alloc(), Value::Int(n)).expect(rt, "memory"))
+    Value::Pair(
+        first,
+        Box::new(rt.alloc(), Value::Int(n)).expect(rt, "memory"),
+    )
 }
 
 fn two_rows<R: Abort + AllocGlobal>(rt: &R, first: &str, second: &str) -> Rows
@@ -43,7 +46,9 @@ fn two_rows<R: Abort + AllocGlobal>(rt: &R, first: &str, second: &str) -> Rows
     let alloc = rt.alloc();
     let mut builder = RowsBuilder::new(alloc);
     builder.push(alloc, &row(rt, first, 1)).expect(rt, "memory");
-    builder.push(alloc, &row(rt, second, 1)).expect(rt, "memory");
+    builder
+        .push(alloc, &row(rt, second, 1))
+        .expect(rt, "memory");
     builder.finish(alloc).expect(rt, "memory")
 }
 

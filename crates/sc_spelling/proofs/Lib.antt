@@ -6,3 +6,4 @@ pub mod DecodeLemmas
 pub mod HeldLemmas
 pub mod ItemLemmas
 pub mod LoopLemmas
+pub mod FrontLemmas

@@ -60,6 +60,10 @@ read (list_type t) bytes =
     after_tag 5 bytes >>= λ rest. eight_at rest >>= λ n. items_at (read t) n.0 n.1 >>= λ ds.
     Some (group ds.0, ds.1)
 
+-- a value of the type is read from the front of the bytes
+abbrev pub CanRead : TypeData → List ℕ → Type 0
+CanRead t bytes = (found : Datum × List ℕ) × (read t bytes ≡ Some found)
+
 -- what a function returned, seen by view, is what reading gives
 abbrev pub Gives : {X Y : Type 0} → (X → Y) → Option X → Option Y → Type 0
 Gives view (Some x) r = r ≡ Some (view x)

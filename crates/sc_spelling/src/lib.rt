@@ -14,6 +14,7 @@
 mod decoding;
 mod encoding;
 mod fields;
+mod fronts;
 mod laws;
 #[cfg(test)]
 mod tests;
@@ -21,4 +22,5 @@ mod tests;
 pub use decoding::decode;
 pub use encoding::{encode, put, put_int, put_len, put_text, put_truth};
 pub use fields::{after_tag, eight_at, int_at, text_at, truth_at};
+pub use fronts::{eight_in, int_in, text_in, truth_in};
 pub use laws::no_spelling_begins_another;

@@ -10,7 +10,7 @@ put_rows-requires g c =
 
 pub loop-j-preserved : goal.loop-j-preserved
 loop-j-preserved g c =
-    let same : c.len.result ≡ length c.loop-j.bytes.items = search rules in
+    let same : c.len-from.result ≡ length c.loop-j.bytes.items = search rules in
     let put = subst (λ n. c.put_place.new.index.items ≡ c.loop-j.index.items ++ eight_bytes n) same
     c.in_ok-put_place.ensures in
     begun_more (g.C.Cells.rows c.args.cells) c.args.split.now c.loop-j.j _ c.loop-j.bytes.items

@@ -6,5 +6,5 @@ use Rattle.sc_shuffle.proofs.outputs.common_type.Given as goal
 
 abbrev pub invariant-loop-output : goal.invariant-loop-output
 invariant-loop-output l =
-    AllByRecursion (AllByRecursion (AreRowsOf (type_data_of l.first.now)))
+    AllByRecursion (AllByRecursion (AreRowsOf (type_data_of l.first)))
     (take l.output-index l.outputs)
