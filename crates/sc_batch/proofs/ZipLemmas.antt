@@ -3,6 +3,8 @@ use Rattle.std.proofs.Common.{◌≡◌, ◌∙◌, ℕ, zero, suc, ◌+◌, ◌
 use Rattle.std.specs.Prelude.{replicate}
 use Rattle.std.specs.List.{slice_get, slice_range}
 use Rattle.std.specs.Option.{IfSome, option_map}
+use Rattle.sc_value.specs.Spans.{part_at}
+use Rattle.sc_value.specs.declared.texts.Span.{Span}
 use Rattle.sc_columns.specs.Columns.{zip_with}
 use Rattle.std.proofs.lemmas.List.{map_more}
 use Rattle.std.proofs.lemmas.Option.{slice_get-map, slice_get_within, get_or_from_slice_get}
@@ -11,6 +13,14 @@ use Rattle.std.proofs.lemmas.Option.{slice_get-map, slice_get_within, get_or_fro
 pub at-map : {X Y : Type 0} (f : X → Y) (xs : List X) (i : ℕ) (x : X) → slice_get xs i ≡ Some x
     → slice_get (map f xs) i ≡ Some (f x)
 at-map f xs i x is = slice_get-map f xs i ∙ ap (option_map f) is
+
+-- the text at a place, where the texts are parts of some bytes
+pub part_there : (bytes : List ℕ) (places : List Span) (texts : List (List ℕ)) (i : ℕ)
+    (place : Span) (text : List ℕ) → map (part_at bytes) places ≡ texts
+    → slice_get places i ≡ Some place → text ≡ part_at bytes place → slice_get texts i ≡ Some text
+part_there bytes places texts i place text are at is =
+    ap (λ ts. slice_get ts i) (sym are) ∙ at-map (part_at bytes) places i place at
+    ∙ ap Some (sym is)
 
 -- a fact of the item at a place, as one of what may be there, and back
 pub some_fact : {X : Type 0} (P : X → Type 0) (o : Option X) (x : X) → o ≡ Some x → P x → IfSome o P

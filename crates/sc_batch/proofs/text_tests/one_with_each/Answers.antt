@@ -1,8 +1,10 @@
 use Rattle.std.proofs.Common.{◌∙◌, ◌<◌, ap, arith, ◌++◌, ◌∷◌, [], length, replicate}
-use Rattle.std.proofs.lemmas.List.{length-replicate}
+use Rattle.std.proofs.lemmas.List.{length-map, length-replicate}
+use Rattle.std.proofs.lemmas.Option.{slice_get-get_or}
 use Rattle.sc_columns.proofs.ListLemmas.{slice_get-replicate}
 use Rattle.sc_batch.specs.Texts.{text_test}
-use Rattle.sc_batch.proofs.TextLemmas.{length_texts, text_at}
+use Rattle.sc_batch.proofs.ZipLemmas.{part_there}
+use Rattle.sc_value.specs.Spans.{part_at}
 use Rattle.sc_batch.proofs.ValueLemmas.{zipped_more, zipped_all}
 use Rattle.sc_batch.proofs.text_tests.one_with_each.Goals as goal
 
@@ -11,9 +13,10 @@ loop-i-preserved g c =
     let out = c.loop-i.out.items in
     let one = c.args.one.now in
     let within : c.loop-i.i < c.args.n = omega arith in
-    let there : c.loop-i.i < length c.parts.result.1.now = omega arith in
-    let at = text_at c.parts.result.0.now c.parts.result.1.now c.args.all.now c.loop-i.i _
-    c.text_in.result.now there c.parts.ensures.texts c.text_in.ensures in
+    let at = part_there c.parts.result.0.now c.parts.result.1.now c.args.all.now c.loop-i.i
+    _ c.text_in.result.now c.parts.ensures.texts
+    (slice_get-get_or c.parts.result.1.now c.loop-i.i _ (omega arith))
+    c.text_in.ensures in
     zipped_more (text_test (g.T.TextTest.head c.args.head)) (replicate c.args.n one) c.args.all.now
     out c.push.new.self.items c.loop-i.i one c.text_in.result.now
     (slice_get-replicate c.args.n c.loop-i.i one within) at c.loop-i.invariant
@@ -26,5 +29,6 @@ returns g c =
     c.loop-i.i c.loop-i.invariant (omega (
       arith,
       length-replicate c.args.n c.args.one.now,
-      length_texts c.parts.result.0.now c.parts.result.1.now c.args.all.now c.parts.ensures.texts,
+      ap length c.parts.ensures.texts,
+      length-map c.parts.result.1.now (part_at c.parts.result.0.now),
     ))
