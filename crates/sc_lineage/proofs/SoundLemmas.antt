@@ -6,7 +6,6 @@ use Rattle.std.specs.Str.{IsUtf8}
 use Rattle.sc_base.specs.Outside.{Files}
 use Rattle.sc_value.specs.Views.{type_data_of}
 use Rattle.sc_value.specs.declared.types.Ty.{Ty}
-use Rattle.sc_value.specs.Types.{TypeData}
 use Rattle.sc_lineage.specs.NodeData.{NodeData}
 use Rattle.sc_lineage.specs.ScriptData.{ActionData, ScriptData, count_step, declared_counts, ReadsBefore, AreWellPlaced, IsCount, node_of_action, partition_limit, IsSoundScript, AreTexts}
 use Rattle.sc_lineage.specs.ByNodes.{by_nodes}

@@ -18,7 +18,7 @@ use Rattle.sc_script.specs.declared.tables.ArgKind.TheVariants as kinds
 use Rattle.sc_script.specs.declared.tables.Operation.{Operation}
 use Rattle.sc_script.specs.declared.tables.Operation.TheVariants as by
 
-some_is : {A : Type 0} (x y : A) → Some x ≡ Some y → x ≡ y
+pub some_is : {A : Type 0} (x y : A) → Some x ≡ Some y → x ≡ y
 some_is x y e = cc
 
 and_second : (a b : Bool) → a && b ≡ true → b ≡ true

@@ -22,3 +22,4 @@ pub mod TokenTexts
 pub mod TokenTools
 pub mod TreeLemmas
 pub mod KindLemmas
+pub mod TypedLemmas

@@ -24,7 +24,7 @@ pub(crate) struct Defined {
     pub(crate) script: Script,
     ghost named: { length script.nodes ≡ length names.items },
     ghost few: { length names.items ≤ node_limit },
-    ghost typed: { AreTypes script.nodes (map type_data_of types.items) },
+    ghost typed: { ∥ AreTypes script.nodes (map type_data_of types.items) ∥₁ },
 }
 
 impl Defined {

@@ -1,5 +1,5 @@
 -- What goes into a shuffle is of the type of what it is made of.
-use Rattle.std.proofs.Common.{◌≡◌, ◌∙◌, ◌++◌, ℕ, zero, suc, List, [], ◌∷◌, None, Some, refl, sym, ap, subst, append_assoc, append-nil}
+use Rattle.std.proofs.Common.{◌≡◌, ◌∙◌, ◌++◌, ℕ, zero, suc, List, [], ◌∷◌, None, Some, sym, ap, subst, append_assoc, append-nil}
 use Rattle.std.specs.List.{slice_get}
 use Rattle.sc_base.specs.Lists.{at_or}
 use Rattle.sc_value.specs.Types.{TypeData}
