@@ -48,8 +48,8 @@ impl Model for Packed {
 }
 
 impl Packed {
-    /// The rows, which are of a type, by the bucket of each, among `n` buckets. More than 2^32 - 1
-    /// rows are answered as want of memory.
+    /// The rows, which are of a type, by the bucket of each, among `n` buckets. Rows in several runs
+    /// are joined first. More than 2^32 - 1 rows are answered as want of memory.
     pub(crate) fn of(
         alloc: Global,
         rows: &Rows,
@@ -64,7 +64,8 @@ impl Packed {
     {
         let places = Split::of(alloc, buckets, n)?;
         let count = places.len();
-        let spelled = spell_rows(alloc, rows, &places)?;
+        let joined = rows.joined(alloc)?;
+        let spelled = spell_rows(alloc, &joined, &places)?;
         let Segments { bytes, index } = spelled;
         let ty = ty.copy(alloc)?;
         let segment = Bytes::from_vec(bytes)?;
