@@ -29,7 +29,7 @@ output_of-requires c =
     record {
       some_partitions = some_parts at;
       typed =
-          subst (λ s. IsSideOf ty (map_side kind s)) (sym c.in_ok-stream.ensures.stream)
+          subst (λ s. IsSideOf ty (map_side kind s)) (sym c.in_ok-stream-in-Shuffle.ensures.stream)
           (side_typed_by (known_of work) work is.types c.args.at.node c.args.map kind arm.parent
           arm.partitions ty is.are at.is is.at);
     }
@@ -39,20 +39,20 @@ pub output_of-requires-in-Meet :
 output_of-requires-in-Meet c =
     let arm = c.in-Meet in
     let work = c.args.work.now in
-    let from = c.if.result in
-    let ty = type_data_of c.row_type-ty-2.result.now in
+    let from = c.if-at-eq0.from in
+    let ty = type_data_of c.row_type-ty-in-Meet.result.now in
     let at : IsNode c.args.work.now c.args.at.node
     (meet_node arm.kind arm.left arm.right arm.partitions) = record {
       sound = c.is_sound.ensures.script;
       known = c.requires.known;
       is = c.node_in.ensures.found ∙ ap (λ n. Some (node_data_of n)) arm.is;
     } in
-    let is : IsTypeAt c.args.work.now.script.nodes from (type_data_of c.row_type-ty-2.result.now) =
-    subst (λ s. IsTypeAt s.nodes from ty) c.script-2.ensures c.row_type-ty-2.ensures in
+    let is : IsTypeAt c.args.work.now.script.nodes from (type_data_of c.row_type-ty-in-Meet.result.now) =
+    subst (λ s. IsTypeAt s.nodes from ty) c.script-in-Meet.ensures c.row_type-ty-in-Meet.ensures in
     record {
       some_partitions = some_parts at;
       typed =
-          subst (λ s. IsSideOf ty (map_side group_by_key s)) (sym c.in_ok-stream-2.ensures.stream)
+          subst (λ s. IsSideOf ty (map_side group_by_key s)) (sym c.in_ok-stream-in-Meet.ensures.stream)
           (side_typed ty _
           (stream_typed (known_of work) work is.types from c.args.map ty is.are is.at));
     }
