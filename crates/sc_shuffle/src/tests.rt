@@ -39,15 +39,15 @@ fn row<R: Abort + AllocGlobal>(rt: &R, word: &str, n: i64) -> Value
     )
 }
 
-fn two_rows<R: Abort + AllocGlobal>(rt: &R, first: &str, second: &str) -> Rows
+fn two_rows<R: Abort + AllocGlobal>(rt: &R, first: &str, second: &str, n: i64) -> Rows
     ensures { result
-        ≡ pair (text first.now) (number 1) ∷ pair (text second.now) (number 1) ∷ [] }
+        ≡ pair (text first.now) (number n) ∷ pair (text second.now) (number n) ∷ [] }
 {
     let alloc = rt.alloc();
     let mut builder = RowsBuilder::new(alloc);
-    builder.push(alloc, &row(rt, first, 1)).expect(rt, "memory");
+    builder.push(alloc, &row(rt, first, n)).expect(rt, "memory");
     builder
-        .push(alloc, &row(rt, second, 1))
+        .push(alloc, &row(rt, second, n))
         .expect(rt, "memory");
     builder.finish(alloc).expect(rt, "memory")
 }
@@ -62,7 +62,7 @@ fn is_row<R: Abort + AllocGlobal>(rt: &R, rows: &Rows, i: usize, word: &str) -> 
 
 #[test]
 fn a_map_output_is_a_segment_with_an_index(rt: HostRuntime) {
-    let rows = two_rows(&rt, "a", "b");
+    let rows = two_rows(&rt, "a", "b", 1);
     let ty = row_type(&rt);
     let output = MapOutput::build(rt.alloc(), &rows, &ty, &[1, 0], 2).expect(&rt, "memory");
     assert_eq!(rt; output.segment(), SEGMENT.as_slice());
@@ -79,7 +79,7 @@ fn a_bucket_is_read_from_each_output(rt: HostRuntime) {
     let ty = row_type(&rt);
     let mut outputs = Vec::new(rt.alloc());
     for words in [["a", "b"], ["c", "d"]] {
-        let rows = two_rows(&rt, words[0], words[1]);
+        let rows = two_rows(&rt, words[0], words[1], 1);
         let output = MapOutput::build(rt.alloc(), &rows, &ty, &[1, 0], 2).expect(&rt, "memory");
         outputs.push(output).expect(&rt, "memory");
     }
