@@ -1,10 +1,10 @@
 -- Lists that are read as ranges of items.
 use Rattle.std.proofs.Common.{◌≡◌, ◌<◌, ◌≤◌, ◌+◌, ◌-◌, ◌++◌, ◌∷◌, ℕ, suc, ltb, List, [], length, take, drop, map, Option, Some, None, refl, sym, ap, ap₂, subst, ◌∙◌, arith, append_assoc, append-nil, length-append}
-use Rattle.std.specs.List.{AllByRecursion, slice_range}
+use Rattle.std.specs.List.{AllByRecursion}
 use Rattle.std.proofs.lemmas.Bool.{ltb-false}
 use Rattle.std.proofs.lemmas.List.{drop-append-le, drop_at, length-drop, map-append, take-append-le, take_all}
 use Rattle.sc_base.specs.Limits.{count_limit}
-use Rattle.sc_value.specs.Datum.{Datum, Items, group, item, items_of, no_items}
+use Rattle.sc_value.specs.Datum.{Datum, Items, group, item, items_of}
 use Rattle.sc_value.specs.Types.{TypeData, list_type}
 use Rattle.sc_value.specs.declared.texts.Span.{Span}
 use Rattle.sc_columns.specs.Columns.{group_at}
@@ -20,10 +20,10 @@ use Rattle.sc_segments.specs.Segments.{Adds}
 -- some items were added, and the bytes that are left have the others
 pub record IsReadTo (t : TypeData) (n i : ℕ) (bytes rest : List ℕ) (old now : List Datum) : Type 0
   where
-  pub items : List Datum
-  pub count : length items ≡ i
-  pub added : now ≡ old ++ items
-  pub left : with_front items (items_at (read t) (n - i) rest) ≡ items_at (read t) n bytes
+    pub items : List Datum
+    pub count : length items ≡ i
+    pub added : now ≡ old ++ items
+    pub left : with_front items (items_at (read t) (n - i) rest) ≡ items_at (read t) n bytes
 
 pub read_none : (t : TypeData) (n : ℕ) (bytes : List ℕ) (old : List Datum)
     → IsReadTo t n 0 bytes bytes old old

@@ -14,10 +14,10 @@ CanReadItems t n bytes = (found : Items × List ℕ) × (items_at (read t) n byt
 -- so many items of the type were added behind others, and these bytes are left
 pub record AddsItems (t : TypeData) (n : ℕ) (bytes rest : List ℕ) (old new : List Datum) : Type 0
   where
-  pub items : List Datum
-  pub read_so : items_at (read t) n bytes ≡ Some (items_of items, rest)
-  pub count : length items ≡ n
-  pub added : new ≡ old ++ items
+    pub items : List Datum
+    pub read_so : items_at (read t) n bytes ≡ Some (items_of items, rest)
+    pub count : length items ≡ n
+    pub added : new ≡ old ++ items
 
 -- a range ends within so many items
 abbrev pub IsWithin : ℕ → Span → Type 0

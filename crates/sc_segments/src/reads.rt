@@ -3,10 +3,12 @@
 
 ghost use Rattle.std.specs.Prelude.{◌≡◌, ◌<◌, ◌++◌, [], IfOk, List, OnOk, map};
 ghost use Rattle.sc_value.specs.Datum.{Datum};
-ghost use Rattle.sc_value.specs.Types.{pair_type};
+ghost use Rattle.sc_value.specs.Types.{list_type, pair_type};
 ghost use Rattle.sc_value.specs.Views.{type_data_of};
+ghost use Rattle.sc_segments.specs.Lists.{AreLists};
 ghost use Rattle.sc_segments.specs.Segments.{AreParts, AreRead, AreRowsOf, IsSegment, segment_of};
 
+use crate::list_reads::ListReads;
 use crate::readers::{AnyReads, BoolReads, IntReads, PairReads, Reads};
 use crate::text_reads::TextReads;
 use sc_columns::{Rows, RowsBuilder};
@@ -26,7 +28,20 @@ pub fn rows_of(alloc: Global, ty: &Ty, parts: &[&[u8]]) -> Result<Rows, AllocErr
         Ty::Bool => rows_by(alloc, bools(alloc, room)?, parts),
         Ty::Text => rows_by(alloc, texts(alloc, room)?, parts),
         Ty::Pair(first, second) => pairs_of(alloc, room, first, second, parts),
-        Ty::List(_) => rows_by(alloc, any(alloc, ty), parts),
+        Ty::List(item) => lists_of(alloc, room, item, parts),
+    }
+}
+
+// Lists.
+fn lists_of(alloc: Global, room: Room, item: &Ty, parts: &[&[u8]]) -> Result<Rows, AllocError>
+    requires { AreParts (list_type (type_data_of item.now)) (map (λ p. p.now) parts.now) }
+    ensures { IfOk result
+        (AreRead (list_type (type_data_of item.now)) (map (λ p. p.now) parts.now)) }
+{
+    match item {
+        Ty::Int => rows_by(alloc, lists(alloc, ints(alloc, room)?), parts),
+        Ty::Text => rows_by(alloc, lists(alloc, texts(alloc, room)?), parts),
+        _ => rows_by(alloc, lists(alloc, any(alloc, item)), parts),
     }
 }
 
@@ -74,8 +89,40 @@ fn pairs_with<A: Reads>(
             let second = texts(alloc, room)?;
             rows_by(alloc, PairReads { first, second }, parts)
         }
+        Ty::List(item) => pairs_with_lists(alloc, room, first, item, parts),
         _ => {
             let second = any(alloc, second);
+            rows_by(alloc, PairReads { first, second }, parts)
+        }
+    }
+}
+
+// Pairs whose second parts are lists, as a grouping gives them.
+fn pairs_with_lists<A: Reads>(
+    alloc: Global,
+    room: Room,
+    first: A,
+    item: &Ty,
+    parts: &[&[u8]],
+) -> Result<Rows, AllocError>
+    requires level { A.level first }
+    requires empty { A.rows first ≡ [] }
+    requires parts { AreParts (pair_type (A.kind first) (list_type (type_data_of item.now)))
+        (map (λ p. p.now) parts.now) }
+    ensures { IfOk result (AreRead (pair_type (A.kind first) (list_type (type_data_of item.now)))
+        (map (λ p. p.now) parts.now)) }
+{
+    match item {
+        Ty::Int => {
+            let second = lists(alloc, ints(alloc, room)?);
+            rows_by(alloc, PairReads { first, second }, parts)
+        }
+        Ty::Text => {
+            let second = lists(alloc, texts(alloc, room)?);
+            rows_by(alloc, PairReads { first, second }, parts)
+        }
+        _ => {
+            let second = lists(alloc, any(alloc, item));
             rows_by(alloc, PairReads { first, second }, parts)
         }
     }
@@ -162,6 +209,19 @@ fn texts(alloc: Global, room: Room) -> Result<TextReads, AllocError>
         bytes: Vec::with_capacity(alloc, room.bytes / 2)?,
         spans: Vec::with_capacity(alloc, room.rows)?,
     })
+}
+
+fn lists<C: Reads>(alloc: Global, items: C) -> ListReads<C>
+    requires { C.rows items ≡ [] }
+    ensures items { result.items ≡ items }
+    ensures spans { result.spans.items ≡ [] }
+    ensures lists { AreLists (C.rows result.items) result.spans.items result.count }
+{
+    ListReads {
+        spans: Vec::new(alloc),
+        items,
+        count: 0,
+    }
 }
 
 fn any(alloc: Global, ty: &Ty) -> AnyReads<'_>

@@ -2,8 +2,8 @@
 #![tactic(auto)]
 
 ghost use Rattle.std.specs.Prelude.{◌≡◌, [], ◌∷◌};
-ghost use Rattle.sc_value.specs.Datum.{number, pair, text};
-ghost use Rattle.sc_value.specs.Types.{int_type, pair_type, text_type};
+ghost use Rattle.sc_value.specs.Datum.{group, item, no_items, number, pair, text};
+ghost use Rattle.sc_value.specs.Types.{HasType, bool_type, int_type, list_type, pair_type, text_type};
 ghost use Rattle.sc_value.specs.Views.{datum_of, type_data_of};
 
 use crate::outputs::{MapOutput, rows_of_bucket};
@@ -39,15 +39,15 @@ fn row<R: Abort + AllocGlobal>(rt: &R, word: &str, n: i64) -> Value
     )
 }
 
-fn two_rows<R: Abort + AllocGlobal>(rt: &R, first: &str, second: &str) -> Rows
+fn two_rows<R: Abort + AllocGlobal>(rt: &R, first: &str, second: &str, n: i64) -> Rows
     ensures { result
-        ≡ pair (text first.now) (number 1) ∷ pair (text second.now) (number 1) ∷ [] }
+        ≡ pair (text first.now) (number n) ∷ pair (text second.now) (number n) ∷ [] }
 {
     let alloc = rt.alloc();
     let mut builder = RowsBuilder::new(alloc);
-    builder.push(alloc, &row(rt, first, 1)).expect(rt, "memory");
+    builder.push(alloc, &row(rt, first, n)).expect(rt, "memory");
     builder
-        .push(alloc, &row(rt, second, 1))
+        .push(alloc, &row(rt, second, n))
         .expect(rt, "memory");
     builder.finish(alloc).expect(rt, "memory")
 }
@@ -62,7 +62,7 @@ fn is_row<R: Abort + AllocGlobal>(rt: &R, rows: &Rows, i: usize, word: &str) -> 
 
 #[test]
 fn a_map_output_is_a_segment_with_an_index(rt: HostRuntime) {
-    let rows = two_rows(&rt, "a", "b");
+    let rows = two_rows(&rt, "a", "b", 1);
     let ty = row_type(&rt);
     let output = MapOutput::build(rt.alloc(), &rows, &ty, &[1, 0], 2).expect(&rt, "memory");
     assert_eq!(rt; output.segment(), SEGMENT.as_slice());
@@ -79,7 +79,7 @@ fn a_bucket_is_read_from_each_output(rt: HostRuntime) {
     let ty = row_type(&rt);
     let mut outputs = Vec::new(rt.alloc());
     for words in [["a", "b"], ["c", "d"]] {
-        let rows = two_rows(&rt, words[0], words[1]);
+        let rows = two_rows(&rt, words[0], words[1], 1);
         let output = MapOutput::build(rt.alloc(), &rows, &ty, &[1, 0], 2).expect(&rt, "memory");
         outputs.push(output).expect(&rt, "memory");
     }
@@ -87,4 +87,60 @@ fn a_bucket_is_read_from_each_output(rt: HostRuntime) {
     assert_eq!(rt; read.len(), 2);
     assert!(rt; is_row(&rt, &read, 0, "a"));
     assert!(rt; is_row(&rt, &read, 1, "c"));
+}
+
+fn text_value<R: Abort + AllocGlobal>(rt: &R, word: &str) -> Value
+    ensures { datum_of result ≡ text word.now }
+{
+    Value::Text(Text::new(rt.alloc(), word).expect(rt, "memory"))
+}
+
+fn list_of_two<R: Abort + AllocGlobal>(rt: &R, first: Value, second: Value) -> Value
+    ensures { datum_of result ≡ group (item (datum_of first) (item (datum_of second) no_items)) }
+{
+    let mut items = Vec::new(rt.alloc());
+    items.push(first).expect(rt, "memory");
+    items.push(second).expect(rt, "memory");
+    Value::List(items)
+}
+
+fn list_ty<R: Abort + AllocGlobal>(rt: &R, item: Ty) -> Ty
+    ensures { type_data_of result ≡ list_type (type_data_of item) }
+{
+    Ty::List(Box::new(rt.alloc(), item).expect(rt, "memory"))
+}
+
+// A row, twice in one bucket, is read again as it was.
+fn comes_back<R: Abort + AllocGlobal>(rt: &R, ty: &Ty, value: &Value)
+    requires { HasType (datum_of value.now) (type_data_of ty.now) }
+{
+    let alloc = rt.alloc();
+    let mut builder = RowsBuilder::new(alloc);
+    builder.push(alloc, value).expect(rt, "memory");
+    builder.push(alloc, value).expect(rt, "memory");
+    let rows = builder.finish(alloc).expect(rt, "memory");
+    let output = MapOutput::build(alloc, &rows, ty, &[0, 0], 1).expect(rt, "memory");
+    let read = output.rows(alloc, 0).expect(rt, "memory");
+    assert_eq!(rt; read.len(), 2);
+    for i in 0..read.len() {
+        assert!(rt; is_same(&read.row(alloc, i).expect(rt, "memory"), value));
+    }
+}
+
+#[test]
+fn rows_of_each_type_come_back(rt: HostRuntime) {
+    comes_back(&rt, &Ty::Int, &Value::Int(-2));
+    comes_back(&rt, &Ty::Bool, &Value::Bool(true));
+    comes_back(
+        &rt,
+        &Ty::Text,
+        &text_value(&rt, "a text of more than sixteen bytes"),
+    );
+    comes_back(&rt, &row_type(&rt), &row(&rt, "b", 1));
+    let numbers = list_of_two(&rt, Value::Int(1), Value::Int(2));
+    comes_back(&rt, &list_ty(&rt, Ty::Int), &numbers);
+    let words = list_of_two(&rt, text_value(&rt, "b"), text_value(&rt, ""));
+    comes_back(&rt, &list_ty(&rt, Ty::Text), &words);
+    let truths = list_of_two(&rt, Value::Bool(false), Value::Bool(true));
+    comes_back(&rt, &list_ty(&rt, Ty::Bool), &truths);
 }
