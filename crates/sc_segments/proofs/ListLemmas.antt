@@ -152,7 +152,8 @@ group_kept xs ys span within =
     let from : span.from ≤ length xs = omega (arith, within.0, within.1) in
     let count : span.to - span.from ≤ length (drop span.from xs) =
     omega (arith, within.0, within.1, length-drop span.from xs) in
-    ap (λ l. group (items_of l)) (ap (take (span.to - span.from)) (drop-append-le span.from xs ys from)
+    ap (λ l. group (items_of l))
+    (ap (take (span.to - span.from)) (drop-append-le span.from xs ys from)
     ∙ take-append-le (span.to - span.from) (drop span.from xs) ys count)
 
 groups_kept : (xs ys : List Datum) (spans : List Span)
@@ -173,7 +174,8 @@ group_last xs ys span from to =
 -- a list was added behind others
 pub record IsListAdded (t : TypeData) (bytes after : List ℕ) (xs xs_new : List Datum)
     (spans spans_new : List Span) (count : ℕ) : Type 0 where
-  pub adds : Adds (list_type t) bytes after (map (group_at xs) spans) (map (group_at xs_new) spans_new)
+  pub adds : Adds (list_type t) bytes after (map (group_at xs) spans)
+      (map (group_at xs_new) spans_new)
   pub lists : AreLists xs_new spans_new count
 
 pub list_added : (t : TypeData) (bytes behind rest after : List ℕ) (n : ℕ) (xs xs_new : List Datum)

@@ -48,8 +48,8 @@ impl Model for Packed {
 }
 
 impl Packed {
-    /// The rows, which are of a type, by the bucket of each, among `n` buckets. Rows in several runs
-    /// are joined first. More than 2^32 - 1 rows are answered as want of memory.
+    /// The rows, which are of a type, by the bucket of each, among `n` buckets. Rows in several
+    /// runs are joined first. More than 2^32 - 1 rows are answered as want of memory.
     pub(crate) fn of(
         alloc: Global,
         rows: &Rows,

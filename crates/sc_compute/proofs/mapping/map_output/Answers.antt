@@ -47,12 +47,14 @@ output_of-requires-in-Meet c =
       known = c.requires.known;
       is = c.node_in.ensures.found ∙ ap (λ n. Some (node_data_of n)) arm.is;
     } in
-    let is : IsTypeAt c.args.work.now.script.nodes from (type_data_of c.row_type-ty-in-Meet.result.now) =
+    let is : IsTypeAt c.args.work.now.script.nodes from
+    (type_data_of c.row_type-ty-in-Meet.result.now) =
     subst (λ s. IsTypeAt s.nodes from ty) c.script-in-Meet.ensures c.row_type-ty-in-Meet.ensures in
     record {
       some_partitions = some_parts at;
       typed =
-          subst (λ s. IsSideOf ty (map_side group_by_key s)) (sym c.in_ok-stream-in-Meet.ensures.stream)
+          subst (λ s. IsSideOf ty (map_side group_by_key s))
+          (sym c.in_ok-stream-in-Meet.ensures.stream)
           (side_typed ty _
           (stream_typed (known_of work) work is.types from c.args.map ty is.are is.at));
     }

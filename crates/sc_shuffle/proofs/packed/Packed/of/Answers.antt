@@ -16,7 +16,7 @@ invariant_of-result c =
     let bytes = c.in_ok-spelled.spelled.bytes.items in
     let places = c.in_ok-spelled.spelled.index.items in
     let are = subst (λ rows. AreSegments (map (picked rows) split) bytes places)
-        c.in_ok-joined.ensures c.in_ok-spelled.ensures in
+    c.in_ok-joined.ensures c.in_ok-spelled.ensures in
     built_invariant t c.args.rows.now split segment index n
     (built (type_data_of c.args.ty.now) t c.args.rows.now split bytes places segment index n
     c.requires.typed c.in_ok-ty.ensures are c.in_ok-segment.ensures.ok c.in_ok-index.ensures.ok
@@ -32,7 +32,7 @@ returns c =
     let bytes = c.in_ok-spelled.spelled.bytes.items in
     let places = c.in_ok-spelled.spelled.index.items in
     let are = subst (λ rows. AreSegments (map (picked rows) split) bytes places)
-        c.in_ok-joined.ensures c.in_ok-spelled.ensures in
+    c.in_ok-joined.ensures c.in_ok-spelled.ensures in
     built_view t c.args.rows.now split segment index n
     (built (type_data_of c.args.ty.now) t c.args.rows.now split bytes places segment index n
     c.requires.typed c.in_ok-ty.ensures are c.in_ok-segment.ensures.ok c.in_ok-index.ensures.ok
