@@ -1,6 +1,8 @@
 -- Rows, works and what is computed may cross threads.
 use denote.Param.Send.{IsSend, IsSync, sendable}
-use Rattle.std.proofs.Crossing.{crosses}
+use Rattle.std.proofs.Crossing.{crosses, frees, send, sync}
+use Rattle.std.specs.contracts.alloc.Global as heap
+use Rattle.std.specs.contracts.impls.GlobalAllocator.TheImpl.{ghosts}
 use Rattle.sc_value.proofs.held.Held.TheSendSync as held
 use Rattle.sc_value.proofs.name.Name.TheSendSync as name
 use Rattle.sc_value.proofs.octets.Octets.TheSendSync as octets
@@ -11,7 +13,8 @@ use Rattle.sc_value.specs.contracts.values.Value as value
 use Rattle.sc_columns.proofs.columns.Column.TheLaws.TheKnot as column_knot
 use Rattle.sc_columns.specs.contracts.columns.Column as column
 use Rattle.sc_columns.specs.contracts.rows.Rows as rows
-use Rattle.bytes.proofs.shared.Bytes.TheSendSync as bytes
+use Rattle.bytes.proofs.shared.Bytes.TheSendSync as any_bytes
+use Rattle.bytes.specs.contracts.shared.Bytes as bytes
 use Rattle.sc_shuffle.specs.contracts.packed.Packed as packed
 use Rattle.sc_shuffle.specs.contracts.outputs.MapOutput as output
 use Rattle.sc_value.proofs.types.Ty.TheLaws.TheKnot as ty_knot
@@ -69,11 +72,24 @@ ty_send = search (ty_knot.crosses_both, known) depth 60 fits 20000
 ty_sync : IsSync ty.the_row
 ty_sync = search (ty_knot.crosses_both, known) depth 60 fits 20000
 
+-- a type stands in other types as its field
+ty_field_send : IsSend (ty.the_field).row
+ty_field_send = search (ty_knot.crosses, known) depth 60 fits 20000
+
+ty_field_sync : IsSync (ty.the_field).row
+ty_field_sync = search (ty_knot.crosses, known) depth 60 fits 20000
+
+bytes_send : IsSend (bytes.the_row heap.the_row ghosts)
+bytes_send = any_bytes.the_send heap.the_row ghosts send sync frees
+
+bytes_sync : IsSync (bytes.the_row heap.the_row ghosts)
+bytes_sync = any_bytes.the_sync heap.the_row ghosts send sync frees
+
 packed_send : IsSend packed.the_row
-packed_send = search (ty_send, bytes.the_send, known) depth 60 fits 20000
+packed_send = search (ty_field_send, bytes_send, known) depth 60 fits 20000
 
 packed_sync : IsSync packed.the_row
-packed_sync = search (ty_sync, bytes.the_sync, known) depth 60 fits 20000
+packed_sync = search (ty_field_sync, bytes_sync, known) depth 60 fits 20000
 
 pub output_send : IsSend output.the_row
 output_send = search (packed_send, packed_sync, known) depth 60 fits 20000
