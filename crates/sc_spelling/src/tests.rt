@@ -125,31 +125,47 @@ fn len_at(bytes: &[u8]) -> Option<usize> {
     Some(len)
 }
 
+// A list of two rows, spelled.
+fn two_rows<R: Abort + AllocGlobal>(rt: &R) -> Vec<u8> {
+    let first = pair(rt, text(rt, "ab"), Value::Bool(true));
+    let rows = list(rt, first, pair(rt, text(rt, "é"), Value::Bool(false)));
+    encode(rt.alloc(), &rows).expect(rt, "memory")
+}
+
+// The same bytes, one of them spoiled.
+fn spoiled<R: Abort + AllocGlobal>(rt: &R, spelled: &[u8], seed: u32) -> Vec<u8> {
+    let at = (seed >> 16) as usize % spelled.len().max(1);
+    let mut bytes = Vec::from_slice(rt.alloc(), spelled).expect(rt, "memory");
+    if let Some(byte) = bytes.get_mut(at) {
+        *byte = ((seed >> 8) & 7) as u8;
+    }
+    bytes
+}
+
+// Whether the bytes begin with a spelling, which `decode` has to find just then.
+fn is_read<R: Abort + AllocGlobal>(rt: &R, ty: &Ty, bytes: &[u8]) -> bool {
+    let Some((value, rest)) = decode(rt.alloc(), ty, bytes).expect(rt, "memory") else {
+        assert_eq!(rt; front_len(ty, bytes), None);
+        return false;
+    };
+    let mut again = encode(rt.alloc(), &value).expect(rt, "memory");
+    assert_eq!(rt; front_len(ty, bytes), Some(again.len()));
+    again.extend_from_slice(rest).expect(rt, "memory");
+    assert_eq!(rt; again.as_slice(), bytes);
+    true
+}
+
 #[test]
 fn spoiled_bytes_are_read_where_they_spell_a_value(rt: HostRuntime) {
     let ty = list_type(&rt, pair_type(&rt, Ty::Text, Ty::Bool));
-    let first = pair(&rt, text(&rt, "ab"), Value::Bool(true));
-    let rows = list(&rt, first, pair(&rt, text(&rt, "é"), Value::Bool(false)));
-    let spelled = encode(rt.alloc(), &rows).expect(&rt, "memory");
+    let spelled = two_rows(&rt);
     let mut found = 0u32;
     let mut seed = 1u32;
     for _ in 0..4_000 {
         seed = seed.wrapping_mul(1_664_525).wrapping_add(1_013_904_223);
-        let at = (seed >> 16) as usize % spelled.len().max(1);
-        let mut bytes = Vec::from_slice(rt.alloc(), &spelled).expect(&rt, "memory");
-        if let Some(byte) = bytes.get_mut(at) {
-            *byte = ((seed >> 8) & 7) as u8;
-        }
-        match decode(rt.alloc(), &ty, &bytes) {
-            Ok(Some((value, rest))) => {
-                let mut again = encode(rt.alloc(), &value).expect(&rt, "memory");
-                assert_eq!(rt; front_len(&ty, &bytes), Some(again.len()));
-                again.extend_from_slice(rest).expect(&rt, "memory");
-                assert_eq!(rt; again.as_slice(), bytes.as_slice());
-                found = found.saturating_add(1);
-            }
-            Ok(None) => assert_eq!(rt; front_len(&ty, &bytes), None),
-            Err(_) => panic!(rt; "memory"),
+        let bytes = spoiled(&rt, &spelled, seed);
+        if is_read(&rt, &ty, &bytes) {
+            found = found.saturating_add(1);
         }
     }
     assert!(rt; 0 < found && found < 4_000, "{found}");
