@@ -3,21 +3,23 @@ use Rattle.std.proofs.Common.{◌≡◌, ◌∙◌, ℕ, zero, suc, ◌<◌, ◌
 use Rattle.std.specs.List.{slice_get}
 use Rattle.sc_base.specs.Lists.{numbers_from}
 use Rattle.sc_ids.specs.declared.blocks.BlockId.{BlockId}
+use Rattle.sc_ids.specs.declared.blocks.Loc.{Loc}
 use Rattle.sc_tracker.specs.declared.outputs.Location.{Location}
 use Rattle.sc_tracker.specs.declared.outputs.Location.TheVariants as locations
-use Rattle.std.proofs.lemmas.Option.{slice_get_read}
+use Rattle.std.proofs.lemmas.Option.{get_or_from_slice_get, slice_get_read, slice_get_within}
 use Rattle.std.specs.Option.{IfSome}
 use Rattle.sc_value.specs.Datum.{Datum}
 use Rattle.sc_dag.specs.Outputs.{block_of}
 use Rattle.sc_lineage.specs.ScriptData.{WorkData}
 use Rattle.sc_store.specs.OwnBlocks.{IsOwnBlock}
+use Rattle.sc_net.specs.Reports.{WasGiven, loc_at}
 use Rattle.sc_net.specs.Tasks.{IsTaskOf, TaskData, blocks_of_task}
 use Rattle.sc_task.specs.Cursors.{IsPlace, blocks_behind, blocks_from}
 use Rattle.sc_task.specs.Nexts.{next_at, next_of}
 use Rattle.sc_task.specs.States.{AssignedData, HasRead, HasReadAll, assigned_data}
 use Rattle.sc_task.specs.declared.cursors.Cursor.{Cursor}
 use Rattle.sc_task.proofs.ReadLemmas.{all_before, next_block, no_block, none_beside, one_more_read}
-use Rattle.sc_task.specs.declared.next.Next.TheVariants.{Complete}
+use Rattle.sc_task.specs.declared.next.Next.TheVariants.{Complete, Fetch}
 
 -- where nothing is left to do, there is no block, or no place of one
 pub completed : (block : Option BlockId) (location : Option Location)
@@ -26,6 +28,24 @@ completed (Some a) (Some (locations.Here at)) is = absurd (cc)
 completed (Some a) (Some (locations.Missing lay)) is = absurd (cc)
 completed (Some a) None is = inr refl
 completed None location is = inl refl
+
+-- a block that is to be fetched has a location that was given
+given_at : (b : Option BlockId) (o : Option Location) (block : BlockId) (loc : Loc)
+    → Fetch block loc ≡ next_at b o → o ≡ Some (locations.Here loc)
+given_at (Some a) (Some (locations.Here at)) block loc is = cc
+given_at (Some a) (Some (locations.Missing lay)) block loc is = absurd (cc)
+given_at (Some a) None block loc is = absurd (cc)
+given_at None o block loc is = absurd (cc)
+
+pub given_here : (t : TaskData) (got asked : ℕ) (block : BlockId) (loc : Loc)
+    → Fetch block loc ≡ next_of t got → asked ≡ loc.generation
+    → WasGiven t (locations.Here (loc_at loc.exec asked))
+given_here t got asked block loc is same =
+    let inputs = t.hand_out.inputs in
+    let here : slice_get inputs got ≡ Some (locations.Here (loc_at loc.exec asked)) =
+    given_at (slice_get (blocks_of_task t) got) (slice_get inputs got) block loc is
+    ∙ ap (λ n. Some (locations.Here (loc_at loc.exec n))) (sym same) in
+    (got, slice_get_within inputs got _ here, get_or_from_slice_get inputs got _ _ here)
 
 -- a cursor's block is the first from it on
 pub starts : (t : TaskData) (c : Cursor) → 0 < c.left
