@@ -7,5 +7,5 @@ pub returns-clause-parts : goal.returns-clause-parts
 returns-clause-parts c =
     let spans = c.as_slice-2.result.now in
     subst (λ bytes. All (IsPart bytes) spans) (sym c.as_slice.ensures)
-        (subst (λ ss. All (IsPart c.self.inside.bytes) ss) (sym c.as_slice-2.ensures)
-        c.self.invariant)
+    (subst (λ ss. All (IsPart c.self.inside.bytes) ss) (sym c.as_slice-2.ensures)
+    c.self.invariant)
